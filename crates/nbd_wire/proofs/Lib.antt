@@ -1,0 +1,7 @@
+pub mod FieldLemmas
+pub mod HeadLemmas
+pub mod ReplyPlaces
+pub mod OneSpelling
+pub mod Places
+pub mod OptionPlaces
+pub mod PieceLemmas

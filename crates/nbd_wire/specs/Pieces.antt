@@ -1,0 +1,56 @@
+-- A stream of requests that comes in pieces.
+use Rattle.std.specs.Prelude.{◌≡◌, ◌⊎◌, ℕ, Bool, true, false, List, [], ◌++◌, Option, Some, None, Result, Ok, Err}
+use Rattle.std.specs.List.{flat_map, AllByRecursion}
+use Rattle.nbd_wire.specs.declared.fault.FeedFault.{FeedFault}
+use Rattle.nbd_wire.specs.declared.fault.FeedFault.TheVariants as faults
+use Rattle.nbd_wire.specs.Grammar.{request_text, RequestMessage, IsRequest, IsUnfinished, BeginsOther, BeginsTooLong}
+
+abbrev pub texts : List RequestMessage → List ℕ
+texts requests = flat_map request_text requests
+
+-- the bytes of no whole request so far, and whether a call failed
+pub record Decoding : Type 0 where
+  pub held : List ℕ
+  pub failed : Bool
+
+-- what stands at the front of some bytes
+abbrev pub IsFirst : List ℕ → Result (Option RequestMessage) FeedFault → Type 0
+IsFirst bytes (Ok (Some q)) = (more : List ℕ) × (bytes ≡ request_text (q) ++ more) × IsRequest (q)
+IsFirst bytes (Ok None) = IsUnfinished bytes
+IsFirst bytes (Err faults.BadMagic) = BeginsOther bytes
+IsFirst bytes (Err faults.TooLong) = BeginsTooLong bytes
+IsFirst bytes (Err faults.NoMemory) = Unit {0}
+IsFirst bytes (Err faults.Failed) = ⊥
+
+-- what stands behind the requests that were taken
+abbrev pub IsBehind : {T : Type 0} → List ℕ → Result T FeedFault → Type 0
+IsBehind left (Ok r) = IsUnfinished left
+IsBehind left (Err faults.BadMagic) = BeginsOther left
+IsBehind left (Err faults.TooLong) = BeginsTooLong left
+IsBehind left (Err faults.NoMemory) = Unit {0}
+IsBehind left (Err faults.Failed) = ⊥
+
+-- Some requests came to a list, and the bytes are their texts and then what is left.
+pub record Takes (bytes left : List ℕ) (before after : List RequestMessage) : Type 0 where
+  pub given : List RequestMessage
+  pub spelled : bytes ≡ texts given ++ left
+  pub added : after ≡ before ++ given
+  pub each : AllByRecursion IsRequest given
+
+-- What a call that is fed a piece leaves and answers, where none failed before.
+abbrev pub Gathers : {T : Type 0} → List ℕ → List ℕ → List ℕ → List RequestMessage → List RequestMessage → Result T FeedFault → Type 0
+Gathers held piece left before after (Ok r) = Takes (held ++ piece) left before after × IsUnfinished left
+Gathers held piece left before after (Err faults.BadMagic) = Takes (held ++ piece) left before after × BeginsOther left
+Gathers held piece left before after (Err faults.TooLong) = Takes (held ++ piece) left before after × BeginsTooLong left
+Gathers held piece left before after (Err faults.NoMemory) = Takes (held ++ piece) left before after ⊎ (after ≡ before)
+Gathers held piece left before after (Err faults.Failed) = ⊥
+
+abbrev pub is_err : {T E : Type 0} → Result T E → Bool
+is_err (Ok r) = false
+is_err (Err e) = true
+
+-- What a decoder is after a piece: one that failed before only tells so.
+abbrev pub Feeds : {T : Type 0} → Decoding → List ℕ → Decoding → List RequestMessage → List RequestMessage → Result T FeedFault → Type 0
+Feeds old piece new before after result =
+    ((old.failed ≡ false) × (new.failed ≡ is_err result) × Gathers old.held piece new.held before after result)
+    ⊎ ((old.failed ≡ true) × (result ≡ Err faults.Failed) × (new ≡ old) × (after ≡ before))

@@ -1,0 +1,98 @@
+ghost use Rattle.std.specs.Prelude.{◌≡◌, ◌≢◌, ◌+◌, ◌^◌, ◌<◌, ◌≤◌, ℕ, List, [], ◌++◌, length, take, drop, true, false, Err, cond, vec_len};
+ghost use Rattle.nbd_wire.specs.Grammar.{head_text, IsHead, IsTooLong, IsUnfinished};
+ghost use Rattle.nbd_wire.specs.Pieces.{IsFirst, IsBehind, Takes, Gathers};
+
+use crate::fault::{FeedFault, WireFault};
+use crate::protocol::WRITE;
+use crate::requests::{Request, RequestHead, read_head};
+use bytes::Bytes;
+use std::alloc::Allocator;
+
+const HEAD: usize = 28;
+
+/// Adds a piece to the bytes that are held, and takes each request that is whole then.
+pub fn gather<A: Allocator + Copy, B: Allocator>(
+    alloc: A,
+    held: &mut Vec<u8, A>,
+    piece: &[u8],
+    out: &mut Vec<Request<A>, B>,
+) -> Result<(), FeedFault>
+    ensures { Gathers held.old.items piece.now held.new.items out.old.items out.new.items result }
+{
+    if held.extend_from_slice(piece).is_err() {
+        return Err(FeedFault::NoMemory);
+    }
+    let (at, outcome) = split(alloc, held.as_slice(), out);
+    drop_front(held, at);
+    outcome
+}
+
+/// Takes the requests at the front of some bytes, and tells where they end.
+fn split<A: Allocator + Copy, B: Allocator>(alloc: A, bytes: &[u8], out: &mut Vec<Request<A>, B>) -> (usize, Result<(), FeedFault>)
+    ensures within { result.0 ≤ length bytes.now }
+    ensures taken { Takes bytes.now (drop result.0 bytes.now) out.old.items out.new.items }
+    ensures behind { IsBehind (drop result.0 bytes.now) result.1 }
+{
+    let mut at = 0;
+    loop {
+        let request = match first(alloc, &bytes[at..]) {
+            Ok(Some(request)) => request,
+            Ok(None) => return (at, Ok(())),
+            Err(fault) => return (at, Err(fault)),
+        };
+        let count = HEAD + request.payload().len();
+        if out.push(request).is_err() {
+            return (at, Err(FeedFault::NoMemory));
+        }
+        at += count;
+    }
+}
+
+/// Forgets the first bytes.
+fn drop_front<A: Allocator>(held: &mut Vec<u8, A>, at: usize)
+    requires { at ≤ vec_len held.old }
+    ensures { held.new.items ≡ drop at held.old.items }
+{
+    let rest = held.len() - at;
+    held.rotate_left(at);
+    held.truncate(rest);
+}
+
+/// The request at the front of some bytes, where it is whole.
+fn first<A: Allocator + Copy>(alloc: A, bytes: &[u8]) -> Result<Option<Request<A>>, FeedFault>
+    ensures { IsFirst bytes.now result }
+{
+    if bytes.len() < HEAD {
+        return Ok(None);
+    }
+    let mut head = [0; 28];
+    head.copy_from_slice(&bytes[..28]);
+    match read_head(&head) {
+        Err(WireFault::BadMagic) => Err(FeedFault::BadMagic),
+        Err(WireFault::TooLong) => Err(FeedFault::TooLong),
+        Ok(head) => behind_head(alloc, head, &bytes[28..]),
+    }
+}
+
+/// The request of a head, where what follows it is whole.
+fn behind_head<A: Allocator + Copy>(
+    alloc: A,
+    head: RequestHead,
+    rest: &[u8],
+) -> Result<Option<Request<A>>, FeedFault>
+    requires fits { IsHead head }
+    requires short { IsTooLong head → ⊥ }
+    ensures { IsFirst (head_text head ++ rest.now) result }
+{
+    if head.kind != WRITE {
+        return Ok(Some(Request::new(head, Bytes::new())));
+    }
+    let count = head.length as usize;
+    if rest.len() < count {
+        return Ok(None);
+    }
+    match Bytes::copy_from_slice(alloc, &rest[..count]) {
+        Ok(payload) => Ok(Some(Request::new(head, payload))),
+        Err(_) => Err(FeedFault::NoMemory),
+    }
+}

@@ -1,0 +1,25 @@
+//! Numbers of the protocol (NBD protocol, "Values"). A head carries them as they came, known or not.
+
+/// Command types.
+pub const READ: u16 = 0;
+pub const WRITE: u16 = 1;
+pub const DISC: u16 = 2;
+pub const FLUSH: u16 = 3;
+pub const TRIM: u16 = 4;
+pub const WRITE_ZEROES: u16 = 6;
+
+/// Command flag: the change is to be on stable storage before the reply.
+pub const FUA: u16 = 1;
+/// Command flag of WRITE_ZEROES: the range is to keep its memory.
+pub const NO_HOLE: u16 = 2;
+
+/// Error of a reply: not permitted.
+pub const EPERM: u32 = 1;
+/// Error of a reply: input or output error.
+pub const EIO: u32 = 5;
+/// Error of a reply: no memory.
+pub const ENOMEM: u32 = 12;
+/// Error of a reply: invalid argument.
+pub const EINVAL: u32 = 22;
+/// Error of a reply: no space left.
+pub const ENOSPC: u32 = 28;
