@@ -23,3 +23,17 @@ impl<T: Drop> From<AllocFailed<T>> for NoMemory {
         NoMemory
     }
 }
+
+#[cfg(test)]
+mod tests {
+    use super::*;
+    use std::test::Fail;
+
+    #[test]
+    fn refused_growths_are_no_memory(rt: HostRuntime) -> Result<(), Fail> {
+        assert_eq!(rt; NoMemory::from(AllocError), NoMemory);
+        assert_eq!(rt; NoMemory::from(AllocFailed { value: 7u8 }), NoMemory);
+        assert_eq!(rt; format!(in rt.alloc(); "{NoMemory}")?.as_str(), "no memory");
+        Ok(())
+    }
+}

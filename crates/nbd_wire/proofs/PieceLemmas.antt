@@ -1,14 +1,12 @@
 -- One request after another at the front of some bytes.
-use Rattle.std.proofs.Common.{◌≡◌, ◌≢◌, ℕ, ◌+◌, ◌-◌, ◌^◌, ◌<◌, ◌≤◌, ◌⊎◌, List, [], ◌∷◌, ◌++◌, Option, Some, None, Result, Ok, Err, map, length, take, drop, refl, sym, ap, subst, ◌∙◌, arith, inl, inr, append_assoc}
-use Rattle.std.specs.List.{flat_map, AllByRecursion}
+use Rattle.std.proofs.Common.{◌≡◌, ◌≢◌, ℕ, ◌+◌, ◌-◌, ◌<◌, ◌≤◌, List, [], ◌∷◌, ◌++◌, Option, Result, length, take, drop, refl, sym, ap, subst, ◌∙◌, arith, append_assoc}
+use Rattle.std.specs.List.{AllByRecursion}
 use Rattle.std.proofs.lemmas.List.{append-nil, take-append-drop, drop-drop, drop_at, length-take, length-drop, length-append, take_all}
 use Rattle.std.proofs.lemmas.List.Concat.{flat_map-append}
-use Rattle.std.proofs.lemmas.Bool.{cases_lt}
 use Rattle.nbd_wire.specs.declared.requests.RequestHead.{RequestHead}
 use Rattle.nbd_wire.specs.declared.fault.FeedFault.{FeedFault}
-use Rattle.nbd_wire.specs.declared.fault.FeedFault.TheVariants as faults
-use Rattle.nbd_wire.specs.Grammar.{head_text, request_text, RequestMessage, IsHead, IsTooLong, IsRequest, IsUnfinished, BeginsOther, BeginsTooLong}
-use Rattle.nbd_wire.specs.Pieces.{texts, IsFirst, IsBehind, Takes, Gathers}
+use Rattle.nbd_wire.specs.Grammar.{head_text, request_text, RequestMessage, IsHead, IsTooLong, IsRequest, BeginsTooLong}
+use Rattle.nbd_wire.specs.Pieces.{texts, IsFirst, Takes}
 use Rattle.nbd_wire.proofs.HeadLemmas.{length-head_text}
 
 abbrev made : RequestHead → List ℕ → RequestMessage
@@ -18,15 +16,18 @@ abbrev IsAt : List ℕ → RequestMessage → Type 0
 IsAt bytes m = (more : List ℕ) × (bytes ≡ request_text m ++ more) × IsRequest m
 
 pub plain_first : (h : RequestHead) (rest payload : List ℕ) → IsHead h → (IsTooLong h → ⊥) → h.kind ≢ 1 → payload ≡ [] → IsAt (head_text h ++ rest) (made h payload)
-plain_first h rest payload fits short ne is =
-    (rest, ap (λ (t : List ℕ). t ++ rest) (sym (append-nil (head_text h)) ∙ ap (λ (t : List ℕ). head_text h ++ t) (sym is)),
-      record { fits = fits; write = λ w. absurd (ne w); short = short; other = λ _. is })
+plain_first h rest payload fits short ne is = (
+  rest,
+  ap (λ (t : List ℕ). t ++ rest) (sym (append-nil (head_text h)) ∙ ap (λ (t : List ℕ). head_text h ++ t) (sym is)),
+  record { fits = fits; write = λ w. absurd (ne w); short = short; other = λ _. is },
+)
 
 pub write_first : (h : RequestHead) (rest payload : List ℕ) → IsHead h → (IsTooLong h → ⊥) → h.kind ≡ 1 → h.length ≤ length rest → payload ≡ take h.length rest → IsAt (head_text h ++ rest) (made h payload)
-write_first h rest payload fits short write le is =
-    (drop h.length rest,
-      ap (λ (t : List ℕ). head_text h ++ t) (sym (take-append-drop h.length rest) ∙ ap (λ (t : List ℕ). t ++ drop h.length rest) (sym is)) ∙ sym (append_assoc (head_text h) payload (drop h.length rest)),
-      record { fits = fits; write = λ _. omega (arith, ap length is, length-take h.length rest, le); short = short; other = λ ne. absurd (ne write) })
+write_first h rest payload fits short write le is = (
+  drop h.length rest,
+  ap (λ (t : List ℕ). head_text h ++ t) (sym (take-append-drop h.length rest) ∙ ap (λ (t : List ℕ). t ++ drop h.length rest) (sym is)) ∙ sym (append_assoc (head_text h) payload (drop h.length rest)),
+  record { fits = fits; write = λ _. omega (arith, ap length is, length-take h.length rest, le); short = short; other = λ ne. absurd (ne write) },
+)
 
 -- bytes whose first 28 are a head's
 pub at_head : (bytes front : List ℕ) (h : RequestHead) → front ≡ take 28 bytes → front ≡ head_text h → bytes ≡ head_text h ++ drop 28 bytes

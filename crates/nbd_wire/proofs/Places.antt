@@ -1,9 +1,9 @@
 -- What stands at a request's place is one of four: less than a request, another magic, a head that is too long, or a whole request.
-use Rattle.std.proofs.Common.{◌≡◌, ◌≢◌, ℕ, ◌+◌, ◌^◌, ◌<◌, ◌≤◌, ◌⊎◌, Bool, true, false, cond, ltb, eqb, List, [], ◌∷◌, ◌++◌, length, get_or, take, drop, refl, sym, ap, subst, ◌∙◌, arith, inl, inr}
-use Rattle.std.specs.Int.{w16, w32, w64, from_be_bytes, to_be_bytes}
+use Rattle.std.proofs.Common.{◌≡◌, ℕ, ◌^◌, ◌<◌, ◌≤◌, ◌⊎◌, cond, ltb, eqb, List, [], ◌++◌, length, take, drop, refl, sym, ap, ◌∙◌, arith, inl, inr}
+use Rattle.std.specs.Int.{w16, w32, w64, from_be_bytes}
 use Rattle.std.specs.Str.{bytes_eq}
 use Rattle.std.proofs.lemmas.Bool.{cases_lt, cases_eq, cases_Bool, cond-true, cond-false, lt-ltb, le-ltb, eq-eqb, ne_eqb, false_from_ne_true, false≢true}
-use Rattle.std.proofs.lemmas.List.{take_at, drop_at, take-append-drop, take-take, length-take, length-drop, length-append, append_assoc}
+use Rattle.std.proofs.lemmas.List.{take_at, drop_at, take-append-drop, take-take, length-take, length-append, append_assoc}
 use Rattle.std.proofs.lemmas.Slice.Eq.{bytes_eq-Decides}
 use Rattle.nbd_wire.specs.declared.requests.RequestHead.{RequestHead}
 use Rattle.nbd_wire.specs.Grammar.{head_text, request_text, request_magic, RequestMessage, IsHead, IsTooLong, IsRequest, IsPartOfWrite, IsUnfinished, BeginsOther, BeginsTooLong, BeginsWhole}
@@ -121,10 +121,10 @@ pub one_request : (a b : RequestMessage) (x y : List ℕ) → IsRequest a → Is
 one_request a b x y p q e =
     let heads = one_head a.head b.head (a.payload ++ x) (b.payload ++ y) p.fits q.fits (sym (append_assoc (head_text a.head) a.payload x) ∙ (e ∙ append_assoc (head_text b.head) b.payload y)) in
     let len : length a.payload ≡ length b.payload =
-        elim (cases_eq a.head.kind 1) [
-          | inl write ↦ p.write write ∙ (ap (λ (h : RequestHead). h.length) heads.0 ∙ sym (q.write (sym (ap (λ (h : RequestHead). h.kind) heads.0) ∙ write)))
-          | inr ne ↦ ap length (p.other ne ∙ sym (q.other (λ w. ne (ap (λ (h : RequestHead). h.kind) heads.0 ∙ w))))
-        ] in
+    elim (cases_eq a.head.kind 1) [
+      | inl write ↦ p.write write ∙ (ap (λ (h : RequestHead). h.length) heads.0 ∙ sym (q.write (sym (ap (λ (h : RequestHead). h.kind) heads.0) ∙ write)))
+      | inr ne ↦ ap length (p.other ne ∙ sym (q.other (λ w. ne (ap (λ (h : RequestHead). h.kind) heads.0 ∙ w))))
+    ] in
     let front : a.payload ≡ b.payload = sym (take_at a.payload x (length a.payload) refl) ∙ (ap (λ (t : List ℕ). take (length a.payload) t) heads.1 ∙ take_at b.payload y (length a.payload) (sym len)) in
     let back : x ≡ y = sym (drop_at a.payload x (length a.payload) refl) ∙ (ap (λ (t : List ℕ). drop (length a.payload) t) heads.1 ∙ drop_at b.payload y (length a.payload) (sym len)) in
     (same_message a b heads.0 front, back)
@@ -168,17 +168,23 @@ behind : (h : RequestHead) (more bytes : List ℕ) → IsHead h → bytes ≡ he
 behind h more bytes fits spelled =
     elim (cases_eq h.kind 1) [
       | inl write ↦ elim (cases_lt 33554432 h.length) [
-          | inl lt ↦ inr (inl (h, more, spelled, fits, record { write = write; long = lt }))
-          | inr le ↦ elim (cases_lt (length more) h.length) [
-              | inl lt ↦ inl (inl (inr (h, more, spelled, fits, (λ t. absurd (omega (arith, t.long, le))), write, lt)))
-              | inr ge ↦ inr (inr (record { head = h; payload = take h.length more }, drop h.length more,
-                  spelled ∙ (ap (λ (t : List ℕ). head_text h ++ t) (sym (take-append-drop h.length more)) ∙ sym (append_assoc (head_text h) (take h.length more) (drop h.length more))),
-                  record { fits = fits; write = λ _. omega (arith, length-take h.length more, ge); short = λ t. absurd (omega (arith, t.long, le)); other = λ ne. absurd (ne write) }))
-            ]
+        | inl lt ↦ inr (inl (h, more, spelled, fits, record { write = write; long = lt }))
+        | inr le ↦ elim (cases_lt (length more) h.length) [
+          | inl lt ↦ inl (inl (inr (h, more, spelled, fits, (λ t. absurd (omega (arith, t.long, le))), write, lt)))
+          | inr ge ↦ inr (inr (
+            record { head = h; payload = take h.length more },
+            drop h.length more,
+            spelled ∙ (ap (λ (t : List ℕ). head_text h ++ t) (sym (take-append-drop h.length more)) ∙ sym (append_assoc (head_text h) (take h.length more) (drop h.length more))),
+            record { fits = fits; write = λ _. omega (arith, length-take h.length more, ge); short = λ t. absurd (omega (arith, t.long, le)); other = λ ne. absurd (ne write) },
+          ))
         ]
-      | inr ne ↦ inr (inr (record { head = h; payload = [] }, more,
-          spelled ∙ sym (append_assoc (head_text h) [] more),
-          record { fits = fits; write = λ w. absurd (ne w); short = λ t. ne t.write; other = λ _. refl }))
+      ]
+      | inr ne ↦ inr (inr (
+        record { head = h; payload = [] },
+        more,
+        spelled ∙ sym (append_assoc (head_text h) [] more),
+        record { fits = fits; write = λ w. absurd (ne w); short = λ t. ne t.write; other = λ _. refl },
+      ))
     ]
 
 pub look : (bytes : List ℕ) → IsBytes bytes → Sees bytes
@@ -186,7 +192,7 @@ look bytes f =
     elim (cases_lt (length bytes) 28) [
       | inl lt ↦ inl (inl (inl lt))
       | inr ge ↦ elim (cases_Bool (bytes_eq (take 4 bytes) request_magic)) [
-          | inl t ↦ let s = spelled_at bytes f ge ((bytes_eq-Decides _ _).0 t) in behind s.0 (drop 28 bytes) bytes s.1 s.2
-          | inr t ↦ inl (inr (ge, λ e. absurd (false≢true (sym t ∙ (bytes_eq-Decides _ _).1 e))))
-        ]
+        | inl t ↦ let s = spelled_at bytes f ge ((bytes_eq-Decides _ _).0 t) in behind s.0 (drop 28 bytes) bytes s.1 s.2
+        | inr t ↦ inl (inr (ge, λ e. absurd (false≢true (sym t ∙ (bytes_eq-Decides _ _).1 e))))
+      ]
     ]

@@ -34,6 +34,7 @@ one_reply a b x y p q len e =
     let error : a.error ≡ b.error = sym (error_of a x p) ∙ (ap (λ (t : List ℕ). from_be_bytes w32 (take 4 (drop 4 t))) e ∙ error_of b y q) in
     let cookie : a.cookie ≡ b.cookie = sym (cookie_of a x p) ∙ (ap (λ (t : List ℕ). from_be_bytes w64 (take 8 (drop 8 t))) e ∙ cookie_of b y q) in
     let behind : a.content ++ x ≡ b.content ++ y = sym (behind_of a x) ∙ (ap (λ (t : List ℕ). drop 16 t) e ∙ behind_of b y) in
-    let content : a.content ≡ b.content = sym (take_at a.content x (length a.content) refl) ∙ (ap (λ (t : List ℕ). take (length a.content) t) behind ∙ take_at b.content y (length a.content) (sym len)) in
-    (same_reply a b error cookie content,
-     sym (drop_at a.content x (length a.content) refl) ∙ (ap (λ (t : List ℕ). drop (length a.content) t) behind ∙ drop_at b.content y (length a.content) (sym len)))
+    let content : a.content ≡ b.content = sym (take_at a.content x (length a.content) refl) ∙ (ap (λ (t : List ℕ). take (length a.content) t) behind ∙ take_at b.content y (length a.content) (sym len)) in (
+      same_reply a b error cookie content,
+      sym (drop_at a.content x (length a.content) refl) ∙ (ap (λ (t : List ℕ). drop (length a.content) t) behind ∙ drop_at b.content y (length a.content) (sym len)),
+    )

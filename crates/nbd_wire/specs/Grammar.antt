@@ -1,6 +1,6 @@
 -- How heads, requests, replies and options are spelled (NBD protocol, "Values" and "Message format"). Numbers are
 -- big-endian. A value has one spelling, and no spelling begins another of its kind.
-use Rattle.std.specs.Prelude.{◌≡◌, ◌≢◌, ℕ, ◌<◌, ◌≤◌, ◌^◌, ◌⊎◌, List, [], ◌∷◌, ◌++◌, length, take}
+use Rattle.std.specs.Prelude.{◌≡◌, ◌≢◌, ℕ, ◌<◌, ◌≤◌, ◌^◌, ◌⊎◌, List, [], ◌++◌, length, take}
 use Rattle.std.specs.Int.{w16, w32, w64, to_be_bytes}
 use Rattle.nbd_wire.specs.declared.requests.RequestHead.{RequestHead}
 

@@ -1,5 +1,5 @@
 -- A stream of requests that comes in pieces.
-use Rattle.std.specs.Prelude.{◌≡◌, ◌⊎◌, ℕ, Bool, true, false, List, [], ◌++◌, Option, Some, None, Result, Ok, Err}
+use Rattle.std.specs.Prelude.{◌≡◌, ◌⊎◌, ℕ, Bool, true, false, List, ◌++◌, Option, Some, None, Result, Ok, Err, is_err}
 use Rattle.std.specs.List.{flat_map, AllByRecursion}
 use Rattle.nbd_wire.specs.declared.fault.FeedFault.{FeedFault}
 use Rattle.nbd_wire.specs.declared.fault.FeedFault.TheVariants as faults
@@ -15,7 +15,7 @@ pub record Decoding : Type 0 where
 
 -- what stands at the front of some bytes
 abbrev pub IsFirst : List ℕ → Result (Option RequestMessage) FeedFault → Type 0
-IsFirst bytes (Ok (Some q)) = (more : List ℕ) × (bytes ≡ request_text (q) ++ more) × IsRequest (q)
+IsFirst bytes (Ok (Some q)) = (more : List ℕ) × (bytes ≡ request_text q ++ more) × IsRequest q
 IsFirst bytes (Ok None) = IsUnfinished bytes
 IsFirst bytes (Err faults.BadMagic) = BeginsOther bytes
 IsFirst bytes (Err faults.TooLong) = BeginsTooLong bytes
@@ -42,12 +42,8 @@ abbrev pub Gathers : {T : Type 0} → List ℕ → List ℕ → List ℕ → Lis
 Gathers held piece left before after (Ok r) = Takes (held ++ piece) left before after × IsUnfinished left
 Gathers held piece left before after (Err faults.BadMagic) = Takes (held ++ piece) left before after × BeginsOther left
 Gathers held piece left before after (Err faults.TooLong) = Takes (held ++ piece) left before after × BeginsTooLong left
-Gathers held piece left before after (Err faults.NoMemory) = Takes (held ++ piece) left before after ⊎ (after ≡ before)
+Gathers held piece left before after (Err faults.NoMemory) = Takes (held ++ piece) left before after ⊎ ((after ≡ before) × (left ≡ held))
 Gathers held piece left before after (Err faults.Failed) = ⊥
-
-abbrev pub is_err : {T E : Type 0} → Result T E → Bool
-is_err (Ok r) = false
-is_err (Err e) = true
 
 -- What a decoder is after a piece: one that failed before only tells so.
 abbrev pub Feeds : {T : Type 0} → Decoding → List ℕ → Decoding → List RequestMessage → List RequestMessage → Result T FeedFault → Type 0

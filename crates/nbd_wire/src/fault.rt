@@ -1,18 +1,18 @@
 use nbd_base::NoMemory;
 use thiserror::Error;
 
-/// Why a head is refused. The session ends by it, without a reply.
+/// Why the head of a request or of an option is refused. The session ends by it, without a reply.
 #[derive(Clone, Copy, Debug, PartialEq, Eq, Error)]
 pub enum WireFault {
-    /// The bytes don't begin with the magic of their kind.
+    /// The bytes don't begin with the magic of their kind (NBD protocol, "Request message" and "Option haggling").
     #[error("wrong magic")]
     BadMagic,
-    /// A WRITE of more than 32 MiB.
+    /// A WRITE of more than 32 MiB, the maximum block size that is announced.
     #[error("too long")]
     TooLong,
 }
 
-/// Why a decoder refuses a piece.
+/// Why a decoder refuses a piece. The session ends by it, without a reply.
 #[derive(Clone, Copy, Debug, PartialEq, Eq, Error)]
 pub enum FeedFault {
     /// A head doesn't begin with the magic of requests.
@@ -21,7 +21,7 @@ pub enum FeedFault {
     /// A WRITE of more than 32 MiB.
     #[error("too long")]
     TooLong,
-    /// Memory was refused.
+    /// Memory was refused. What the piece held is lost but for the requests that were appended.
     #[error("no memory")]
     NoMemory,
     /// An earlier piece was refused.

@@ -4,7 +4,9 @@ use crate::requests::Request;
 use std::alloc::Allocator;
 use std::marker::Model;
 
-/// Requests out of bytes that come in pieces.
+/// The requests of a stream that comes in pieces of any size (NBD protocol, "Request message").
+///
+/// It holds the bytes of a request that isn't whole yet. No piece brings it back once a call failed.
 #[derive(Drop)]
 pub struct Decoder<A: Allocator + Copy> {
     held: Vec<u8, A>,
@@ -25,13 +27,13 @@ impl<A: Allocator + Copy> Model for Decoder<A> {
 }
 
 impl<A: Allocator + Copy> Decoder<A> {
-    ghost use Rattle.std.specs.Prelude.{◌≡◌, ℕ, List, [], length, true, false, cond};
+    ghost use Rattle.std.specs.Prelude.{◌≡◌, [], length, false, if◌then◌else◌};
     ghost use Rattle.nbd_wire.specs.Grammar.{IsUnfinished};
     ghost use Rattle.nbd_wire.specs.Pieces.{Feeds};
 
     /// A decoder that was fed nothing.
     pub fn new(alloc: A) -> Decoder<A>
-        ensures { (result.held ≡ []) × (result.failed ≡ false) }
+        ensures { result ≡ record { held = []; failed = false } }
     {
         Decoder {
             held: Vec::new(alloc),
@@ -42,19 +44,14 @@ impl<A: Allocator + Copy> Decoder<A> {
 
     /// How many bytes of an unfinished request there are; none once a call failed.
     pub fn rest(&self) -> usize
-        ensures { result ≡ cond self.now.failed 0 (length self.now.held) }
+        ensures count { result ≡ (if self.now.failed then 0 else length self.now.held) }
+        ensures unfinished { self.now.failed ≡ false → IsUnfinished self.now.held }
     {
         if self.failed { 0 } else { self.held.len() }
     }
 
-    /// That no whole request is held, and no refused head.
-    pub fn unfinished(&self)
-        ensures { self.now.failed ≡ false → IsUnfinished self.now.held }
-    {
-        let _ = &self.failed;
-    }
-
-    /// Takes the next piece, and adds each request that is whole then. Once a call failed each later one fails.
+    /// Takes the next piece, and appends each request that is whole then, those before a fault included.
+    /// Once a call failed, each later one answers `Failed`.
     pub fn feed<B: Allocator>(
         &mut self,
         piece: &[u8],

@@ -12,6 +12,8 @@ mod pieces;
 pub mod protocol;
 mod replies;
 mod requests;
+#[cfg(test)]
+mod tests;
 
 pub use fault::{FeedFault, WireFault};
 pub use feeding::Decoder;

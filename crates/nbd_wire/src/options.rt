@@ -1,4 +1,4 @@
-ghost use Rattle.std.specs.Prelude.{◌≡◌, ◌≢◌, ◌++◌, ◌^◌, ◌<◌, ◌≤◌, length, take, IfOk, OnOk, OnErr, IsErr};
+ghost use Rattle.std.specs.Prelude.{◌≡◌, ◌≢◌, ◌++◌, ◌^◌, ◌<◌, length, take, Err, IfOk, OnOk, OnErr, IsErr};
 ghost use Rattle.nbd_wire.specs.Grammar.{option_head_text, option_magic, option_reply_head_text, option_reply_text};
 
 use crate::appending::append_both;
@@ -8,9 +8,10 @@ use nbd_base::NoMemory;
 use std::alloc::Allocator;
 
 const OPTION_MAGIC: u64 = 0x4948_4156_454f_5054;
+
 const OPTION_REPLY_MAGIC: u64 = 0x0003_e889_0455_65a9;
 
-/// Reads the head of an option: its number, and the length of its data in bytes.
+/// Reads the head of an option: its number, and the length of its data in bytes (NBD protocol, "Option haggling").
 pub fn read_option_head(bytes: &[u8; 16]) -> Result<(u32, u32), WireFault>
     ensures spelled { IfOk result (λ h. (bytes.now ≡ option_head_text h.0 h.1) × (h.0 < 2 ^ 32) × (h.1 < 2 ^ 32)) }
     ensures bad_magic { IsErr result → (take 8 bytes.now ≢ option_magic) × (result ≡ Err WireFault.BadMagic) }
@@ -21,7 +22,7 @@ pub fn read_option_head(bytes: &[u8; 16]) -> Result<(u32, u32), WireFault>
     Ok((u32_at(bytes, 8), u32_at(bytes, 12)))
 }
 
-/// The 16 bytes of an option's head.
+/// The 16 bytes before an option's data: its number, and how many bytes its data has.
 #[tactic(auto, unfolding(crate::specs::Grammar::option_head_text))]
 pub fn write_option_head(number: u32, count: u32) -> [u8; 16]
     ensures { result ≡ option_head_text number count }
@@ -46,7 +47,8 @@ fn write_option_reply_head(option: u32, kind: u32, count: u32) -> [u8; 20]
     bytes
 }
 
-/// Appends the reply to an option, or nothing where memory is refused.
+/// Appends the reply to an option, of a kind of the NBD protocol's "Option reply types", or nothing where memory is
+/// refused.
 pub fn write_option_reply<A: Allocator>(
     option: u32,
     kind: u32,

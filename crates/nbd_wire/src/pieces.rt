@@ -1,5 +1,5 @@
-ghost use Rattle.std.specs.Prelude.{◌≡◌, ◌≢◌, ◌+◌, ◌^◌, ◌<◌, ◌≤◌, ℕ, List, [], ◌++◌, length, take, drop, true, false, Err, cond, vec_len};
-ghost use Rattle.nbd_wire.specs.Grammar.{head_text, IsHead, IsTooLong, IsUnfinished};
+ghost use Rattle.std.specs.Prelude.{◌≡◌, ◌≤◌, ◌++◌, length, drop, vec_len};
+ghost use Rattle.nbd_wire.specs.Grammar.{head_text, IsHead, IsTooLong};
 ghost use Rattle.nbd_wire.specs.Pieces.{IsFirst, IsBehind, Takes, Gathers};
 
 use crate::fault::{FeedFault, WireFault};
@@ -28,7 +28,11 @@ pub fn gather<A: Allocator + Copy, B: Allocator>(
 }
 
 /// Takes the requests at the front of some bytes, and tells where they end.
-fn split<A: Allocator + Copy, B: Allocator>(alloc: A, bytes: &[u8], out: &mut Vec<Request<A>, B>) -> (usize, Result<(), FeedFault>)
+fn split<A: Allocator + Copy, B: Allocator>(
+    alloc: A,
+    bytes: &[u8],
+    out: &mut Vec<Request<A>, B>,
+) -> (usize, Result<(), FeedFault>)
     ensures within { result.0 ≤ length bytes.now }
     ensures taken { Takes bytes.now (drop result.0 bytes.now) out.old.items out.new.items }
     ensures behind { IsBehind (drop result.0 bytes.now) result.1 }

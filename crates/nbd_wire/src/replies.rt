@@ -1,4 +1,4 @@
-ghost use Rattle.std.specs.Prelude.{◌≡◌, ◌≢◌, [], ◌++◌, OnOk, OnErr};
+ghost use Rattle.std.specs.Prelude.{◌≡◌, ◌≢◌, ◌++◌, [], OnOk, OnErr};
 ghost use Rattle.nbd_wire.specs.Grammar.{reply_head_text, reply_text};
 
 use crate::appending::append_both;
@@ -41,7 +41,7 @@ impl<A: Allocator> Reply<A> {
         }
     }
 
-    /// A reply without content: an error, or 0.
+    /// A reply without content: an error of the NBD protocol's "Error values", or 0.
     pub fn bare(error: u32, cookie: u64) -> Reply<A>
         ensures { result ≡ record { error = error; cookie = cookie; content = [] } }
     {
@@ -60,12 +60,14 @@ impl<A: Allocator> Reply<A> {
         self.error
     }
 
+    /// The cookie of the request that it answers.
     pub fn cookie(&self) -> u64
         ensures { result ≡ self.now.cookie }
     {
         self.cookie
     }
 
+    /// What a READ brings; empty beside an error.
     pub fn content(&self) -> &Bytes<A>
         ensures { result.now ≡ self.now.content }
     {
@@ -73,7 +75,7 @@ impl<A: Allocator> Reply<A> {
     }
 }
 
-/// The 16 bytes before a reply's content.
+/// The 16 bytes before a reply's content (NBD protocol, "Simple reply message").
 #[tactic(auto, unfolding(crate::specs::Grammar::reply_head_text))]
 pub fn write_reply_head(error: u32, cookie: u64) -> [u8; 16]
     ensures { result ≡ reply_head_text error cookie }
@@ -86,7 +88,10 @@ pub fn write_reply_head(error: u32, cookie: u64) -> [u8; 16]
 }
 
 /// Appends a reply as it is sent, or nothing where memory is refused.
-pub fn write_reply<A: Allocator, B: Allocator>(reply: &Reply<A>, out: &mut Vec<u8, B>) -> Result<(), NoMemory>
+pub fn write_reply<A: Allocator, B: Allocator>(
+    reply: &Reply<A>,
+    out: &mut Vec<u8, B>,
+) -> Result<(), NoMemory>
     ensures ok { OnOk result (out.new.items ≡ out.old.items ++ reply_text reply.now) }
     ensures err { OnErr result (out.new.items ≡ out.old.items) }
 {

@@ -1,4 +1,4 @@
-ghost use Rattle.std.specs.Prelude.{◌≡◌, ◌≢◌, ◌++◌, ◌<◌, ◌≤◌, ℕ, List, [], length, take, IfOk, IsErrOf};
+ghost use Rattle.std.specs.Prelude.{◌≡◌, ◌≢◌, take, IfOk, IsErrOf};
 ghost use Rattle.nbd_wire.specs.declared.requests.RequestHead.{RequestHead};
 ghost use Rattle.nbd_wire.specs.Grammar.{head_text, IsHead, IsTooLong, IsRequest, RequestMessage, request_magic};
 
@@ -14,13 +14,18 @@ const REQUEST_MAGIC: u32 = 0x2560_9513;
 /// The longest payload of a WRITE, in bytes: 32 MiB, the maximum block size that is announced.
 pub const MAX_PAYLOAD: u32 = 33_554_432;
 
-/// A request without its payload (NBD protocol, "Request message"). Any types and flags, known or not.
+/// A request without its payload (NBD protocol, "Request message"). Its flags and its kind may be unknown ones.
 #[derive(Clone, Copy, Debug, PartialEq, Eq)]
 pub struct RequestHead {
+    /// Command flags.
     pub flags: u16,
+    /// The command's type, as READ.
     pub kind: u16,
+    /// What the client tells the reply by. It needn't be unique.
     pub cookie: u64,
+    /// Where the range begins, in bytes from the export's beginning.
     pub offset: u64,
+    /// How long the range is, in bytes.
     pub length: u32,
 }
 
@@ -50,6 +55,7 @@ impl<A: Allocator> Request<A> {
         Request { head, payload }
     }
 
+    /// All of the request but its payload.
     pub fn head(&self) -> RequestHead
         ensures value { result ≡ self.now.head }
         ensures fits { IsRequest self.now }
@@ -57,6 +63,7 @@ impl<A: Allocator> Request<A> {
         self.head
     }
 
+    /// What a WRITE writes; empty for any other request.
     pub fn payload(&self) -> &Bytes<A>
         ensures value { result.now ≡ self.now.payload }
         ensures fits { IsRequest self.now }

@@ -1,4 +1,4 @@
-use Rattle.std.proofs.Common.{List, ℕ, ◌++◌, subst, sym, Option, Some, Ok}
+use Rattle.std.proofs.Common.{◌++◌, subst, sym, Some, Ok}
 use Rattle.nbd_wire.specs.Grammar.{head_text, RequestMessage}
 use Rattle.nbd_wire.specs.Pieces.{IsFirst}
 use Rattle.nbd_wire.proofs.PieceLemmas.{plain_first, write_first}

@@ -1,4 +1,4 @@
-use Rattle.std.proofs.Common.{rules, ◌≡◌, ◌+◌, ◌≤◌, ◌++◌, ◌∷◌, [], List, ℕ, length, drop, take, ◌-◌, subst, ap, arith, Option, Ok, Some}
+use Rattle.std.proofs.Common.{rules, ◌≡◌, ◌+◌, ◌++◌, ◌∷◌, [], List, ℕ, length, drop, take, ◌-◌, subst, ap, arith, Option, Ok, Some}
 use Rattle.nbd_wire.specs.Grammar.{RequestMessage}
 use Rattle.std.proofs.lemmas.List.{length-drop}
 use Rattle.nbd_wire.specs.Pieces.{IsFirst}

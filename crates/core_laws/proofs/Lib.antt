@@ -1,0 +1,14 @@
+pub mod Lists
+pub mod Parts
+pub mod Named
+pub mod Order
+pub mod Tidy
+pub mod Kept
+pub mod Chosen
+pub mod Runs
+pub mod Limits
+pub mod There
+pub mod Heads
+pub mod Pace
+pub mod Counts
+pub mod Made

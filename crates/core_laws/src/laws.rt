@@ -1,0 +1,72 @@
+//! The laws.
+ghost use Rattle.std.specs.Prelude.{ℕ, Bool, List};
+ghost use Rattle.nbd_commands.specs.Terms.{Terms};
+ghost use Rattle.lone_export.specs.declared.step.Step.{Step};
+ghost use Rattle.server_table.specs.declared.event.Event.{Event};
+ghost use Rattle.server_table.specs.Table.{Table, Setup};
+ghost use Rattle.core_laws.specs.Runs.{Run};
+ghost use Rattle.core_laws.specs.Laws.{IsToldAsAlone, EndsAsAlone, IsToldTheSame, EndsTheSame, LeavesOthers, LeavesUnchosen, LeavesAll, QueueCountsItsOwn, WeightWaitsForItsLimit, GivesUnrolledTags, HasUnrolledTags, HeadsSuffice, ChoosesNoneBefore, ChoosesByLimit, ChoosesByReservation, KeepsOtherAnswers, KeepsLastTable};
+
+use std::alloc::Allocator;
+
+/// In every run each export is told what it would be told alone under its own steps, and is in the end what it would be
+/// alone: whatever order the events take, and whatever the others do.
+pub fn projection<A: Allocator>()
+    ensures told { (run : Run A) → IsToldAsAlone run }
+    ensures last { (run : Run A) → EndsAsAlone run }
+{}
+
+/// Two runs that agree on an export's terms and own steps tell it the same and leave it the same.
+pub fn two_worlds<A: Allocator>()
+    ensures told { (one two : Run A) → IsToldTheSame one two }
+    ensures last { (one two : Run A) → EndsTheSame one two }
+{}
+
+/// A step leaves the parts of the exports that it neither names nor chooses, at any table.
+pub fn locality<A: Allocator>()
+    ensures others { (setup : Setup) (table : Table) (event : Event A) (memory : Bool)
+        → LeavesOthers setup table event memory }
+    ensures chosen { (setup : Setup) (table : Table) (t : ℕ) (memory : Bool)
+        → LeavesUnchosen A setup table t memory }
+    ensures nothing { (setup : Setup) (table : Table) (t : ℕ) (memory : Bool)
+        → LeavesAll A setup table t memory }
+{}
+
+/// A queue refusal counts the waiting requests of its own export alone, at any table.
+pub fn queue_refusal<A: Allocator>()
+    ensures { (setup : Setup) (table : Table) → QueueCountsItsOwn A setup table }
+{}
+
+/// No choice by weight precedes its request's limit tag, at any table.
+pub fn weight_waits_for_its_limit<A: Allocator>()
+    ensures { (setup : Setup) (table : Table) (t : ℕ) (memory : Bool)
+        → WeightWaitsForItsLimit A setup table t memory }
+{}
+
+/// An export's limit tags follow from the moments of its own accepted arrivals: that of the k-th is the greatest, over the
+/// arrivals j up to it, of its moment and k - j intervals. So it is alone, and so it is in every run.
+pub fn limit_tags_unrolled<A: Allocator>()
+    ensures alone { (terms : Terms) (steps : List (Step A)) → GivesUnrolledTags terms steps }
+    ensures run { (run : Run A) → HasUnrolledTags run }
+{}
+
+/// The choice over all rows of a run's table is the choice over the first waiting row of each export.
+pub fn heads_suffice<A: Allocator>()
+    ensures { (run : Run A) → HeadsSuffice run }
+{}
+
+/// How many of an export's requests are chosen while the greatest moment of a dispatch isn't above `b`, `t` being the
+/// moment of its first accepted arrival: none before `t`; by weight at most one, and one more for each interval of its
+/// limit from `t` to `b`; by reservation at most one, and one more for each interval of its reservation.
+pub fn choice_count<A: Allocator>()
+    ensures none { (run : Run A) → ChoosesNoneBefore run }
+    ensures limit { (run : Run A) → ChoosesByLimit run }
+    ensures reservation { (run : Run A) → ChoosesByReservation run }
+{}
+
+/// Where the events that found no memory are taken out of a run with their marks, every other answer stays, and the last
+/// table.
+pub fn left_out<A: Allocator>()
+    ensures answers { (run : Run A) → KeepsOtherAnswers run }
+    ensures table { (run : Run A) → KeepsLastTable run }
+{}

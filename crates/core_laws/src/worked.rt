@@ -1,0 +1,30 @@
+//! Runs that were worked out by hand.
+ghost use Rattle.core_laws.specs.Worked.{GreaterWeightGoesSooner, LimitHoldsBack, TagsComeFromTheArrival, MomentsComeInAnyOrder, WeightIsCredited, CreditMovesTheLastTag, CreditMovesTheWaiting, ShiftMovesTheWaiting, ShiftLeavesTheNewcomer, EqualsGoByExport, IdleExportKeepsItsLastP, ReservationGoesFirst, DepthRefuses, DepthCountsItsOwn, InflightHoldsBack, WindowHolds, SixtyFourAreFull, RefusalsComeInOrder, LeftSessionGetsItsReplies, WantOfMemoryIsTold, GoneIsStillServed, StepsAreCounted};
+
+use std::alloc::Allocator;
+
+/// What the definitions give for these runs is what was worked out by hand.
+pub fn worked_runs<A: Allocator>()
+    ensures weights { GreaterWeightGoesSooner A }
+    ensures limit { LimitHoldsBack A }
+    ensures own_moment { TagsComeFromTheArrival A }
+    ensures any_order { MomentsComeInAnyOrder A }
+    ensures credit { WeightIsCredited A }
+    ensures credit_last { CreditMovesTheLastTag A }
+    ensures credit_waiting { CreditMovesTheWaiting A }
+    ensures shift { ShiftMovesTheWaiting A }
+    ensures shift_newcomer { ShiftLeavesTheNewcomer A }
+    ensures equals { EqualsGoByExport A }
+    ensures idle { IdleExportKeepsItsLastP A }
+    ensures reservation { ReservationGoesFirst A }
+    ensures depth { DepthRefuses A }
+    ensures own_depth { DepthCountsItsOwn A }
+    ensures inflight { InflightHoldsBack A }
+    ensures window { WindowHolds A }
+    ensures order { RefusalsComeInOrder A }
+    ensures left { LeftSessionGetsItsReplies A }
+    ensures memory { WantOfMemoryIsTold A }
+    ensures sessions { SixtyFourAreFull A }
+    ensures gone { GoneIsStillServed A }
+    ensures steps { StepsAreCounted A }
+{}

@@ -1,0 +1,51 @@
+ghost use Rattle.std.specs.Prelude.{◌≡◌, ℕ, ◌+◌, ◌≤◌, List, ◌++◌, length, replicate, IfOk, IsOk, OnOk, OnErr};
+ghost use Rattle.std.specs.Bool.{OnFalse};
+ghost use Rattle.export_store.specs.Bytes.{range_of, overwritten};
+
+use nbd_base::NoMemory;
+use std::alloc::Allocator;
+
+/// The bytes of an export, however they are kept. What a contract sees of an image is the list of its bytes.
+///
+/// A call that answers `NoMemory` changed no byte: whatever memory it wants, it has before the first byte changes.
+pub trait Image: Sized + Drop {
+    /// Where the image's memory comes from.
+    type Alloc: Allocator + Copy;
+
+    ghost bytes: { Self → List ℕ };
+
+    /// An image of so many zeros.
+    fn zeros(alloc: Self::Alloc, size: usize) -> Result<Self, NoMemory>
+        ensures { IfOk result (λ image. bytes image ≡ replicate size 0) };
+
+    /// How many bytes there are. No call changes it.
+    fn size(&self) -> usize
+        ensures { result ≡ length (bytes self.now) };
+
+    /// Appends a range of the bytes to `out`.
+    fn read(
+        &self,
+        offset: usize,
+        count: usize,
+        out: &mut Vec<u8, Self::Alloc>,
+    ) -> Result<(), NoMemory>
+        requires { offset + count ≤ length (bytes self.now) }
+        ensures read { OnOk result (out.new.items ≡ out.old.items ++ range_of (bytes self.now) offset count) }
+        ensures no_memory { OnErr result (out.new.items ≡ out.old.items) };
+
+    /// Puts the bytes in place of those from the offset on.
+    fn write(&mut self, offset: usize, piece: &[u8]) -> Result<(), NoMemory>
+        requires { offset + length piece.now ≤ length (bytes self.old) }
+        ensures written { OnOk result (bytes self.new
+            ≡ overwritten (bytes self.old) offset (length piece.now) piece.now) }
+        ensures no_memory { OnErr result (bytes self.new ≡ bytes self.old) };
+
+    /// Makes a range zero. With `keep` the range is to have memory of its own afterwards, so that later writes to it
+    /// want none; without `keep` its memory may be given back, and the call takes none and succeeds.
+    fn zero(&mut self, offset: usize, count: usize, keep: bool) -> Result<(), NoMemory>
+        requires { offset + count ≤ length (bytes self.old) }
+        ensures gives_back { OnFalse keep (IsOk result) }
+        ensures zeroed { OnOk result (bytes self.new
+            ≡ overwritten (bytes self.old) offset count (replicate count 0)) }
+        ensures no_memory { OnErr result (bytes self.new ≡ bytes self.old) };
+}

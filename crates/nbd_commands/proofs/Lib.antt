@@ -1,0 +1,2 @@
+pub mod ExportLemmas
+pub mod VerdictLemmas

@@ -1,0 +1,5 @@
+pub mod Exports
+pub mod Refusals
+pub mod Terms
+pub mod Verdict
+pub mod Meaning

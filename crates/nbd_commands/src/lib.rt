@@ -1,0 +1,17 @@
+//! What is configured, which requests an export refuses, and what a request does to an export's bytes.
+#![tactic(auto)]
+
+mod config;
+mod judging;
+mod performing;
+mod settings;
+
+pub use config::{Config, ExportConfig, ExportList};
+pub use judging::{ExportInfo, RequestRefusal, refusal, verdict};
+pub use performing::{Done, apply};
+pub use settings::{
+    ConfigError, DEFAULT_INFLIGHT, ExportSettings, MAX_EXPORTS, Refusal, is_inflight,
+};
+
+#[cfg(test)]
+mod tests;

@@ -1,0 +1,116 @@
+ghost use Rattle.std.specs.Prelude.{◌≡◌, ◌+◌, ◌≤◌, [], length, replicate, false, IsTrue};
+ghost use Rattle.std.specs.Bool.{OnTrue, OnFalse};
+ghost use Rattle.export_store.specs.Bytes.{range_of, overwritten};
+ghost use Rattle.nbd_commands.specs.Verdict.{verdict_at};
+ghost use Rattle.nbd_commands.specs.Meaning.{image_after, data_of, may_want_memory};
+
+use bytes::Bytes;
+use export_store::Image;
+use nbd_wire::Request;
+use nbd_wire::protocol::{ENOMEM, NO_HOLE, READ, TRIM, WRITE, WRITE_ZEROES};
+use std::alloc::Allocator;
+
+/// What a request that was performed gives back: the error and the data of its reply, and whether memory was there.
+#[derive(Drop)]
+pub struct Done<A: Allocator> {
+    pub error: u32,
+    pub content: Bytes<A>,
+    pub memory: bool,
+}
+
+impl<A: Allocator> Done<A> {
+    fn with(content: Bytes<A>) -> Done<A>
+        ensures error { result.error ≡ 0 }
+        ensures content { result.content ≡ content }
+        ensures memory { IsTrue result.memory }
+    {
+        Done {
+            error: 0,
+            content,
+            memory: true,
+        }
+    }
+
+    fn without_memory() -> Done<A>
+        ensures error { result.error ≡ 12 }
+        ensures content { result.content ≡ [] }
+        ensures memory { result.memory ≡ false }
+    {
+        Done {
+            error: ENOMEM,
+            content: Bytes::new(),
+            memory: false,
+        }
+    }
+}
+
+fn read<I: Image>(alloc: I::Alloc, image: &I, offset: usize, count: usize) -> Done<I::Alloc>
+    requires { offset + count ≤ length (I.bytes image.now) }
+    ensures done { OnTrue result.memory ((result.error ≡ 0) × (result.content ≡ range_of (I.bytes image.now) offset count)) }
+    ensures no_memory { OnFalse result.memory ((result.error ≡ 12) × (result.content ≡ [])) }
+{
+    let mut content = Vec::new(alloc);
+    if image.read(offset, count, &mut content).is_err() {
+        return Done::without_memory();
+    }
+    match Bytes::from_vec(content) {
+        Ok(content) => Done::with(content),
+        Err(_) => Done::without_memory(),
+    }
+}
+
+fn write<I: Image>(image: &mut I, offset: usize, piece: &[u8]) -> Done<I::Alloc>
+    requires { offset + length piece.now ≤ length (I.bytes image.old) }
+    ensures done { OnTrue result.memory ((result.error ≡ 0) × (result.content ≡ [])
+        × (I.bytes image.new ≡ overwritten (I.bytes image.old) offset (length piece.now) piece.now)) }
+    ensures no_memory { OnFalse result.memory ((result.error ≡ 12) × (result.content ≡ [])
+        × (I.bytes image.new ≡ I.bytes image.old)) }
+{
+    match image.write(offset, piece) {
+        Ok(()) => Done::with(Bytes::new()),
+        Err(_) => Done::without_memory(),
+    }
+}
+
+fn zero<I: Image>(image: &mut I, offset: usize, count: usize, keep: bool) -> Done<I::Alloc>
+    requires { offset + count ≤ length (I.bytes image.old) }
+    ensures done { OnTrue result.memory ((result.error ≡ 0) × (result.content ≡ [])
+        × (I.bytes image.new ≡ overwritten (I.bytes image.old) offset count (replicate count 0))) }
+    ensures no_memory { OnFalse result.memory ((result.error ≡ 12) × (result.content ≡ [])
+        × (I.bytes image.new ≡ I.bytes image.old) × IsTrue keep) }
+{
+    match image.zero(offset, count, keep) {
+        Ok(()) => Done::with(Bytes::new()),
+        Err(_) => Done::without_memory(),
+    }
+}
+
+/// Performs a request that isn't refused.
+///
+/// Where memory was refused the error is ENOMEM (12) and no byte changed; that is so of READ, WRITE and WRITE_ZEROES
+/// with NO_HOLE alone. A request that an export served when it was read-only is one that it serves at all, so the
+/// condition doesn't ask for that.
+pub fn apply<I: Image>(
+    alloc: I::Alloc,
+    image: &mut I,
+    request: &Request<I::Alloc>,
+) -> Done<I::Alloc>
+    requires { verdict_at (length (I.bytes image.old)) false request.now ≡ 0 }
+    ensures done { OnTrue result.memory ((result.error ≡ 0)
+        × (result.content ≡ data_of (I.bytes image.old) request.now)
+        × (I.bytes image.new ≡ image_after (I.bytes image.old) request.now)) }
+    ensures no_memory { OnFalse result.memory ((result.error ≡ 12) × (result.content ≡ [])
+        × (I.bytes image.new ≡ I.bytes image.old)
+        × IsTrue (may_want_memory request.now)) }
+{
+    let head = request.head();
+    let offset = head.offset as usize;
+    let count = head.length as usize;
+    match head.kind {
+        READ => read(alloc, image, offset, count),
+        WRITE => write(image, offset, request.payload().as_slice()),
+        TRIM => zero(image, offset, count, false),
+        WRITE_ZEROES => zero(image, offset, count, head.flags / NO_HOLE % 2 == 1),
+        _ => Done::with(Bytes::new()),
+    }
+}

@@ -1,0 +1,324 @@
+ghost use Rattle.std.specs.Prelude.{◌≤◌, ◌≢◌, length};
+
+use crate::*;
+use bytes::Bytes;
+use export_store::{Flat, Image};
+use nbd_base::NoMemory;
+use nbd_wire::protocol::WRITE;
+use nbd_wire::{Request, RequestHead};
+use refusing::Refusing;
+use std::alloc::{Allocator, Global};
+
+fn asked<A: Allocator>(kind: u16, flags: u16, offset: u64, length: u32) -> Request<A>
+    requires { kind ≢ 1 }
+{
+    let head = RequestHead {
+        flags,
+        kind,
+        cookie: 1,
+        offset,
+        length,
+    };
+    Request::new(head, Bytes::new())
+}
+
+fn write_of<A: Allocator + Copy>(
+    alloc: A,
+    flags: u16,
+    offset: u64,
+    bytes: &[u8],
+) -> Result<Request<A>, NoMemory>
+    requires { length bytes.now ≤ 4096 }
+{
+    let payload = match Bytes::copy_from_slice(alloc, bytes) {
+        Ok(payload) => payload,
+        Err(_) => Bytes::copy_from_slice(alloc, bytes)?,
+    };
+    let head = RequestHead {
+        flags,
+        kind: WRITE,
+        cookie: 1,
+        offset,
+        length: bytes.len() as u32,
+    };
+    Ok(Request::new(head, payload))
+}
+
+// Of a request that brings nothing, on an export of 4,096 bytes.
+fn told(read_only: bool, kind: u16, flags: u16, offset: u64, length: u32) -> u32 {
+    if kind == WRITE {
+        return 0;
+    }
+    let request: Request<Global> = asked(kind, flags, offset, length);
+    let info = ExportInfo {
+        size: 4096,
+        read_only,
+    };
+    verdict(&info, &request)
+}
+
+#[test]
+fn the_first_case_that_fits_gives_the_error(rt: HostRuntime) {
+    for (kind, flags, offset, length, error) in [
+        (0, 0, 4092, 4, 0),
+        (0, 0, 4092, 5, 22),
+        (0, 0, u64::MAX, 1, 22),
+        (4, 0, u64::MAX, 1, 22),
+        (6, 0, u64::MAX, 1, 28),
+        (0, 0, 4096, 0, 0),
+        (0, 0, 4097, 0, 22),
+        (3, 0, 7, 9, 0),
+        (0, 2, 0, 1, 22),
+        (6, 3, 0, 1, 0),
+        (6, 4, 0, 1, 22),
+        (5, 0, 0, 1, 22),
+        (0, 0, 0, 33_554_433, 22),
+    ] {
+        assert_eq!(rt;
+            told(false, kind, flags, offset, length),
+            error,
+            "type {kind} at {offset}"
+        );
+    }
+    assert_eq!(rt; told(true, 4, 0, 0, 3), 1);
+    assert_eq!(rt; told(true, 0, 0, 0, 3), 0);
+}
+
+#[test]
+fn a_write_past_the_end_finds_no_space(rt: HostRuntime) -> Result<(), NoMemory> {
+    let info = ExportInfo {
+        size: 4096,
+        read_only: false,
+    };
+    let read_only = ExportInfo {
+        size: 4096,
+        read_only: true,
+    };
+    let fits = write_of(rt.alloc(), 1, 4092, &[1, 2, 3, 4])?;
+    assert_eq!(rt; verdict(&info, &fits), 0);
+    assert_eq!(rt; verdict(&read_only, &fits), 1);
+    let past = write_of(rt.alloc(), 0, 4092, &[1, 2, 3, 4, 5])?;
+    assert_eq!(rt; verdict(&info, &past), 28);
+    Ok(())
+}
+
+// Performed where it is served, and once more where it found no memory.
+fn serve<I: Image>(alloc: I::Alloc, image: &mut I, request: &Request<I::Alloc>) -> Done<I::Alloc> {
+    let info = ExportInfo {
+        size: image.size() as u64,
+        read_only: false,
+    };
+    let error = verdict(&info, request);
+    if error != 0 {
+        return Done {
+            error,
+            content: Bytes::new(),
+            memory: true,
+        };
+    }
+    apply(alloc, image, request)
+}
+
+fn insist<I: Image>(alloc: I::Alloc, image: &mut I, request: &Request<I::Alloc>) -> Done<I::Alloc> {
+    let done = serve(alloc, image, request);
+    if done.memory {
+        return done;
+    }
+    serve(alloc, image, request)
+}
+
+// What is read after a write, a trim and two zeroings.
+fn row<A: Allocator + Copy>(alloc: A) -> Result<Bytes<A>, NoMemory> {
+    let mut image: Flat<A> = match Flat::zeros(alloc, 4096) {
+        Ok(image) => image,
+        Err(NoMemory) => Flat::zeros(alloc, 4096)?,
+    };
+    let write = write_of(alloc, 0, 0, &[1, 2, 3, 4, 5])?;
+    let _ = insist(alloc, &mut image, &write);
+    let _ = insist(alloc, &mut image, &asked(4, 0, 1, 2));
+    let _ = insist(alloc, &mut image, &asked(6, 2, 4, 1));
+    let _ = insist(alloc, &mut image, &asked(6, 4, 0, 1));
+    Ok(insist(alloc, &mut image, &asked(0, 0, 0, 5)).content)
+}
+
+#[test]
+fn each_growth_of_the_requests_is_refused_in_turn(rt: HostRuntime) -> Result<(), NoMemory> {
+    let mut refused = 0u64;
+    for nth in 1..100u64 {
+        let heap = Refusing::new(rt.alloc(), nth);
+        let content = row(&heap)?;
+        assert_eq!(rt; content.as_slice(), [1, 0, 0, 4, 0].as_slice(), "at {nth}");
+        if heap.is_armed() {
+            break;
+        }
+        refused = nth;
+    }
+    assert!(rt; refused > 3);
+    Ok(())
+}
+
+fn code_of<A: Allocator + Copy>(list: &mut ExportList<A>, settings: &ExportSettings<'_>) -> u8 {
+    match list.add(settings) {
+        Ok(()) => 0,
+        Err(ConfigError::Refused(refusal)) => refusal.code(),
+        Err(ConfigError::NoMemory) => 1,
+    }
+}
+
+#[test]
+fn the_first_bad_value_is_told(rt: HostRuntime) {
+    let mut list = ExportList::new(rt.alloc());
+    let a = ExportSettings::new(b"a", 4096);
+    assert_eq!(rt; code_of(&mut list, &a), 0);
+    assert_eq!(rt;
+        code_of(&mut list, &ExportSettings { size: 0, ..a }),
+        4,
+        "repeated"
+    );
+    let b = ExportSettings { name: b"b", ..a };
+    assert_eq!(rt; code_of(&mut list, &ExportSettings { name: b"", ..b }), 4);
+    assert_eq!(rt;
+        code_of(
+            &mut list,
+            &ExportSettings {
+                name: &[97; 256],
+                ..b
+            }
+        ),
+        4
+    );
+    assert_eq!(rt;
+        code_of(
+            &mut list,
+            &ExportSettings {
+                description: Some(&[97; 4097]),
+                ..b
+            }
+        ),
+        4
+    );
+    assert_eq!(rt;
+        code_of(
+            &mut list,
+            &ExportSettings {
+                size: 268_435_457,
+                ..b
+            }
+        ),
+        5
+    );
+    assert_eq!(rt;
+        code_of(
+            &mut list,
+            &ExportSettings {
+                size: 0,
+                weight: 0,
+                ..b
+            }
+        ),
+        5
+    );
+    assert_eq!(rt;
+        code_of(
+            &mut list,
+            &ExportSettings {
+                reservation: 1_000_001,
+                ..b
+            }
+        ),
+        6
+    );
+    assert_eq!(rt;
+        code_of(
+            &mut list,
+            &ExportSettings {
+                limit: 1_000_001,
+                ..b
+            }
+        ),
+        6
+    );
+    assert_eq!(rt;
+        code_of(
+            &mut list,
+            &ExportSettings {
+                weight: 0,
+                depth: 0,
+                ..b
+            }
+        ),
+        7
+    );
+    assert_eq!(rt; code_of(&mut list, &ExportSettings { depth: 4097, ..b }), 8);
+    assert_eq!(rt;
+        code_of(
+            &mut list,
+            &ExportSettings {
+                window: 0,
+                reservation: 11,
+                limit: 10,
+                ..b
+            }
+        ),
+        8
+    );
+    assert_eq!(rt;
+        code_of(
+            &mut list,
+            &ExportSettings {
+                reservation: 11,
+                limit: 10,
+                ..b
+            }
+        ),
+        9
+    );
+    assert_eq!(rt;
+        code_of(
+            &mut list,
+            &ExportSettings {
+                reservation: 11,
+                read_only: true,
+                ..b
+            }
+        ),
+        0
+    );
+    assert_eq!(rt;
+        Config::new(ExportList::new(rt.alloc()), 1).err(),
+        Some(Refusal::ExportCount)
+    );
+    assert!(rt; !is_inflight(4097) && is_inflight(DEFAULT_INFLIGHT));
+    if let Ok(config) = Config::new(list, 8) {
+        assert_eq!(rt; config.inflight(), 8);
+        for export in config.exports() {
+            let flags = if export.is_read_only() {
+                0x010f
+            } else {
+                0x016d
+            };
+            assert_eq!(rt; export.flags(), flags);
+            assert_eq!(rt; export.window(), 256);
+        }
+    }
+}
+
+#[test]
+fn each_growth_of_the_exports_is_refused_in_turn(rt: HostRuntime) {
+    let mut refused = 0u64;
+    for nth in 1..100u64 {
+        let heap = Refusing::new(rt.alloc(), nth);
+        let mut list = ExportList::new(&heap);
+        let mut a = ExportSettings::new(b"a", 4096);
+        a.description = Some(b"the first");
+        let first = code_of(&mut list, &a);
+        if heap.is_armed() {
+            assert_eq!(rt; first, 0);
+            break;
+        }
+        assert_eq!(rt; first, 1);
+        assert_eq!(rt; code_of(&mut list, &a), 0);
+        refused = nth;
+    }
+    assert!(rt; refused > 2);
+}

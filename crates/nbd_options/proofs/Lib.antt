@@ -1,0 +1,4 @@
+pub mod TypeLemmas
+pub mod HeadLemmas
+pub mod InfoLemmas
+pub mod TurnLemmas

@@ -1,0 +1,4 @@
+pub mod Exports
+pub mod Replies
+pub mod Counting
+pub mod Haggled

@@ -1,0 +1,35 @@
+ghost use Rattle.std.specs.Prelude.{◌≡◌, ℕ};
+ghost use Rattle.nbd_options.specs.declared.attach.Attached.{Attached};
+ghost use Rattle.nbd_options.specs.declared.attach.Attached.TheVariants.{Given};
+
+/// Whether a session of an export was given.
+#[derive(Clone, Copy, Debug, PartialEq, Eq)]
+pub enum Attached {
+    Given,
+    /// All sessions of the export are taken.
+    Full,
+    /// There was no memory, or the export has counted all the steps that it may.
+    Other,
+}
+
+/// Gives sessions of exports.
+pub trait Attach {
+    /// The answers that may be given for an export.
+    ghost may: { ℕ → Attached → Type 0 };
+
+    /// Asks for a session of an export, which is named by its place in the table.
+    fn attach(&mut self, export: u32) -> Attached
+        ensures answer { may export result };
+}
+
+/// Always gives a session.
+#[derive(Clone, Copy, Debug)]
+pub struct Always;
+
+impl Attach for Always {
+    ghost may = { λ _ answer. answer ≡ Given };
+
+    fn attach(&mut self, _: u32) -> Attached {
+        Attached::Given
+    }
+}

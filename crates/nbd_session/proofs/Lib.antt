@@ -1,0 +1,14 @@
+pub mod KnownLemmas
+pub mod BufferLemmas
+pub mod FrameLemmas
+pub mod OutcomeLemmas
+pub mod ServeLemmas
+pub mod OfferLemmas
+pub mod HaggleLemmas
+pub mod GreetLemmas
+pub mod OneService
+pub mod OneHaggling
+pub mod OneConversation
+pub mod InTable
+pub mod SomeConversation
+pub mod TalkLemmas

@@ -1,0 +1,27 @@
+use Rattle.std.proofs.Common.{◌≡◌, ◌≤◌, ◌<◌, [], ◌++◌, length, take, ℕ, List, arith, sym, subst}
+use Rattle.std.proofs.lemmas.List.{length-take}
+use Rattle.nbd_session.specs.Haggling.{IsOffer}
+use Rattle.nbd_session.proofs.KnownLemmas.{Consumes-then}
+use Rattle.nbd_session.proofs.OfferLemmas.{head_gap}
+use Rattle.nbd_session.proofs.offers.read_option.Goals as goal
+
+pub returns-in-Failed-clause-taken : goal.returns-in-Failed-clause-taken
+returns-in-Failed-clause-taken g c =
+    let part = take c.in-Failed.field-0 c.fill.new.buf in
+    record {
+      bytes = part;
+      took = c.in-Failed.ensures.1;
+      offer = head_gap c.args.haggle.now.seen part (omega (arith, length-take c.in-Failed.field-0 c.fill.new.buf, c.in-Failed.ensures.0));
+      told = tt;
+    }
+
+pub returns-in-Ok-clause-taken : goal.returns-in-Ok-clause-taken
+returns-in-Ok-clause-taken g c =
+    let front = c.fill.new.buf in
+    let behind = c.read_content.ensures.taken c.args.haggle.now.seen c.in-Ok.ensures.within.2 in
+    record {
+      bytes = front ++ behind.bytes;
+      took = Consumes-then (g.R.Read.remaining c.args.reader.now.inner) (g.R.Read.remaining c.fill.new.reader.inner) (g.R.Read.remaining c.read_content.new.reader.inner) front behind.bytes c.in-Whole.ensures.0 behind.took;
+      offer = subst (λ (t : List ℕ). IsOffer c.args.haggle.now.seen (t ++ behind.bytes) c.read_content.result) (sym c.in-Ok.ensures.ok.0) behind.offer;
+      told = behind.told;
+    }

@@ -1,0 +1,19 @@
+//! Conversations with clients, over any reader and writer. `specs/Conversation.antt` says what is said to the bytes of a
+//! client, and how the conversation ends.
+#![tactic(auto)]
+
+mod conversing;
+mod counted;
+mod fill;
+mod frames;
+mod haggling;
+mod laws;
+mod offers;
+mod talking;
+mod transmission;
+
+pub use conversing::talk;
+pub use counted::Counted;
+pub use haggling::haggle;
+pub use laws::one_conversation;
+pub use talking::{End, Entry, TalkFault};

@@ -1,0 +1,211 @@
+use crate::protocol::{DISC, READ, WRITE};
+use crate::*;
+use bytes::Bytes;
+use nbd_base::NoMemory;
+use refusing::Refusing;
+use std::alloc::{Allocator, Global};
+use std::test::Fail;
+
+// A WRITE of `deadbeef` at 4092, a READ of it, and a DISC.
+const STREAM: &[u8; 88] =
+    b"\x25\x60\x95\x13\0\0\0\x01\0\0\0\0\0\0\0\x01\0\0\0\0\0\0\x0f\xfc\0\0\0\x04\xde\xad\xbe\xef\
+    \x25\x60\x95\x13\0\0\0\0\0\0\0\0\0\0\0\x02\0\0\0\0\0\0\x0f\xfc\0\0\0\x04\
+    \x25\x60\x95\x13\0\0\0\x02\0\0\0\0\0\0\0\x03\0\0\0\0\0\0\0\0\0\0\0\0";
+
+const WRITE_HEAD: RequestHead = RequestHead {
+    flags: 0,
+    kind: WRITE,
+    cookie: 1,
+    offset: 4092,
+    length: 4,
+};
+
+fn plain(kind: u16, cookie: u64, offset: u64, length: u32) -> RequestHead {
+    RequestHead {
+        flags: 0,
+        kind,
+        cookie,
+        offset,
+        length,
+    }
+}
+
+// Whether these are the first requests of `STREAM`.
+fn are_first<A: Allocator>(requests: &[Request<A>]) -> bool {
+    let heads = [WRITE_HEAD, plain(READ, 2, 4092, 4), plain(DISC, 3, 0, 0)];
+    let payloads = [b"\xde\xad\xbe\xef".as_slice(), b"", b""];
+    requests.len() <= 3
+        && requests.iter().zip(heads.iter().zip(payloads.iter())).all(|(
+            request,
+            (head, payload),
+        )| request.head() == *head && request.payload().as_slice() == *payload)
+}
+
+#[test]
+fn heads_of_requests(rt: HostRuntime) {
+    let mut bytes = [0; 28];
+    bytes.copy_from_slice(&STREAM[..28]);
+    assert_eq!(rt; write_head(&WRITE_HEAD), bytes);
+    assert_eq!(rt; read_head(&bytes), Ok(WRITE_HEAD));
+    let long = RequestHead {
+        length: 33_554_432,
+        ..WRITE_HEAD
+    };
+    assert_eq!(rt; read_head(&write_head(&long)), Ok(long));
+    let mut too_long = write_head(&RequestHead {
+        length: 33_554_433,
+        ..WRITE_HEAD
+    });
+    assert_eq!(rt; read_head(&too_long), Err(WireFault::TooLong));
+    too_long[3] = 0x14;
+    assert_eq!(rt; read_head(&too_long), Err(WireFault::BadMagic));
+}
+
+#[test]
+fn options_and_their_replies(rt: HostRuntime) -> Result<(), Fail> {
+    let mut head = *b"IHAVEOPT\0\0\0\x07\0\0\0\x0e";
+    assert_eq!(rt; write_option_head(7, 14), head);
+    assert_eq!(rt; read_option_head(&head), Ok((7, 14)));
+    head[7] = 0x55;
+    assert_eq!(rt; read_option_head(&head), Err(WireFault::BadMagic));
+    let mut out = Vec::new(rt.alloc());
+    write_option_reply(3, 2, b"\0\0\0\x01a", &mut out)?;
+    write_option_reply(3, 0x8000_0003, b"", &mut out)?;
+    let texts = b"\0\x03\xe8\x89\x04\x55\x65\xa9\0\0\0\x03\0\0\0\x02\0\0\0\x05\0\0\0\x01a\
+        \0\x03\xe8\x89\x04\x55\x65\xa9\0\0\0\x03\x80\0\0\x03\0\0\0\0";
+    assert_eq!(rt; out.as_slice(), texts.as_slice());
+    Ok(())
+}
+
+#[test]
+fn replies(rt: HostRuntime) -> Result<(), Fail> {
+    let refused = Reply::<Global>::bare(28, 2);
+    assert_eq!(rt; (refused.error(), refused.cookie()), (28, 2));
+    assert!(rt; refused.content().is_empty());
+    let mut out = Vec::new(rt.alloc());
+    write_reply(&refused, &mut out)?;
+    let read = Reply::done(4, Bytes::copy_from_slice(rt.alloc(), b"\xde\xad\xbe\xef")?);
+    write_reply(&read, &mut out)?;
+    let texts =
+        b"\x67\x44\x66\x98\0\0\0\x1c\0\0\0\0\0\0\0\x02\x67\x44\x66\x98\0\0\0\0\0\0\0\0\0\0\0\x04\xde\xad\xbe\xef";
+    assert_eq!(rt; out.as_slice(), texts.as_slice());
+    Ok(())
+}
+
+#[test]
+fn pieces_of_any_size(rt: HostRuntime) -> Result<(), Fail> {
+    for size in [1, 27, 88] {
+        let mut decoder = Decoder::new(rt.alloc());
+        let mut requests = Vec::new(rt.alloc());
+        decoder.feed(&[], &mut requests)?;
+        for (i, piece) in STREAM.chunks(size).enumerate() {
+            decoder.feed(piece, &mut requests)?;
+            if i == 0 && size == 27 {
+                assert_eq!(rt; (requests.len(), decoder.rest()), (0, 27));
+            }
+        }
+        assert_eq!(rt;
+            (requests.len(), decoder.rest()),
+            (3, 0),
+            "in pieces of {size}"
+        );
+        assert!(rt; are_first(requests.as_slice()), "in pieces of {size}");
+    }
+    Ok(())
+}
+
+#[test]
+fn requests_before_a_fault_are_given(rt: HostRuntime) -> Result<(), Fail> {
+    let mut stream = Vec::new(rt.alloc());
+    stream.extend_from_slice(STREAM)?;
+    stream.extend_from_slice(&[0; 28])?;
+    let mut decoder = Decoder::new(rt.alloc());
+    let mut requests = Vec::new(rt.alloc());
+    assert_eq!(rt;
+        decoder.feed(stream.as_slice(), &mut requests),
+        Err(FeedFault::BadMagic)
+    );
+    assert_eq!(rt; (requests.len(), decoder.rest()), (3, 0));
+    assert!(rt; are_first(requests.as_slice()));
+    assert_eq!(rt; decoder.feed(STREAM, &mut requests), Err(FeedFault::Failed));
+    assert_eq!(rt; requests.len(), 3);
+    Ok(())
+}
+
+#[test]
+fn feed_with_each_growth_refused(rt: HostRuntime) {
+    let mut refused = 0u64;
+    for nth in 1..100u64 {
+        let heap = Refusing::new(rt.alloc(), nth);
+        let mut decoder = Decoder::new(&heap);
+        let mut requests = Vec::new(&heap);
+        let outcome = decoder.feed(STREAM, &mut requests);
+        assert!(rt; are_first(requests.as_slice()), "at {nth}");
+        if heap.is_armed() {
+            assert_eq!(rt; (outcome, requests.len()), (Ok(()), 3));
+            break;
+        }
+        assert_eq!(rt;
+            (outcome, decoder.rest()),
+            (Err(FeedFault::NoMemory), 0),
+            "at {nth}"
+        );
+        let given = requests.len();
+        assert!(rt; given < 3, "at {nth}");
+        assert_eq!(rt;
+            decoder.feed(STREAM, &mut requests),
+            Err(FeedFault::Failed),
+            "at {nth}"
+        );
+        assert_eq!(rt; requests.len(), given, "at {nth}");
+        refused = nth;
+    }
+    assert!(rt; refused >= 3);
+}
+
+#[test]
+fn replies_with_each_growth_refused(rt: HostRuntime) -> Result<(), Fail> {
+    let reply = Reply::done(4, Bytes::copy_from_slice(rt.alloc(), &[9; 64])?);
+    let mut refused = 0u64;
+    for nth in 1..100u64 {
+        let heap = Refusing::new(rt.alloc(), 0);
+        let mut out = Vec::new(&heap);
+        out.push(7)?;
+        heap.arm(nth);
+        let outcome = write_reply(&reply, &mut out);
+        if heap.is_armed() {
+            assert_eq!(rt; (outcome, out.len()), (Ok(()), 81));
+            break;
+        }
+        assert_eq!(rt; outcome, Err(NoMemory), "at {nth}");
+        assert_eq!(rt; out.as_slice(), [7].as_slice(), "at {nth}");
+        write_reply(&reply, &mut out)?;
+        assert_eq!(rt; out.len(), 81, "at {nth}");
+        refused = nth;
+    }
+    assert!(rt; refused >= 2);
+    Ok(())
+}
+
+#[test]
+fn option_replies_with_each_growth_refused(rt: HostRuntime) -> Result<(), Fail> {
+    let mut refused = 0u64;
+    for nth in 1..100u64 {
+        let heap = Refusing::new(rt.alloc(), 0);
+        let mut out = Vec::new(&heap);
+        out.push(7)?;
+        heap.arm(nth);
+        let outcome = write_option_reply(3, 1, &[9; 64], &mut out);
+        if heap.is_armed() {
+            assert_eq!(rt; (outcome, out.len()), (Ok(()), 85));
+            break;
+        }
+        assert_eq!(rt; outcome, Err(NoMemory), "at {nth}");
+        assert_eq!(rt; out.as_slice(), [7].as_slice(), "at {nth}");
+        write_option_reply(3, 1, &[9; 64], &mut out)?;
+        assert_eq!(rt; out.len(), 85, "at {nth}");
+        refused = nth;
+    }
+    assert!(rt; refused >= 2);
+    Ok(())
+}

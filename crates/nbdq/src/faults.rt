@@ -1,0 +1,130 @@
+//! One conversation, cut at each of its places, and with each read and write failing in turn.
+
+use nbd_commands::{Config, ExportList, ExportSettings};
+use nbd_session::{Counted, End, TalkFault, talk};
+use std::alloc::Global;
+use std::io;
+use std::io::{Read, Write};
+use std::test::Fail;
+
+/// The client's flags, EXPORT_NAME, a WRITE and a READ of the same four bytes, and DISC.
+const SENT: &[u8; 109] =
+    b"\x00\x00\x00\x03\x49\x48\x41\x56\x45\x4f\x50\x54\x00\x00\x00\x01\x00\x00\x00\x01\x61\x25\x60\x95\x13\x00\x00\x00\x01\x00\x00\x00\x00\x00\x00\x00\x01\x00\x00\x00\x00\x00\x00\x0f\xfc\x00\x00\x00\x04\xde\xad\xbe\xef\x25\x60\x95\x13\x00\x00\x00\x00\x00\x00\x00\x00\x00\x00\x00\x02\x00\x00\x00\x00\x00\x00\x0f\xfc\x00\x00\x00\x04\x25\x60\x95\x13\x00\x00\x00\x02\x00\x00\x00\x00\x00\x00\x00\x03\x00\x00\x00\x00\x00\x00\x00\x00\x00\x00\x00\x00";
+
+/// The greeting, the answer to EXPORT_NAME, and two replies.
+const SAID: &[u8; 64] =
+    b"\x4e\x42\x44\x4d\x41\x47\x49\x43\x49\x48\x41\x56\x45\x4f\x50\x54\x00\x03\x00\x00\x00\x00\x00\x00\x10\x00\x01\x6d\x67\x44\x66\x98\x00\x00\x00\x00\x00\x00\x00\x00\x00\x00\x00\x01\x67\x44\x66\x98\x00\x00\x00\x00\x00\x00\x00\x00\x00\x00\x00\x02\xde\xad\xbe\xef";
+
+/// Gives bytes, and then ends or fails.
+#[derive(Drop)]
+struct Source<'a> {
+    bytes: &'a [u8],
+    fails: bool,
+}
+
+impl Read for Source<'_> {
+    fn read(&mut self, buf: &mut [u8]) -> io::Result<usize> {
+        if self.fails && self.bytes.is_empty() {
+            return Err(io::Error::from(io::ErrorKind::TimedOut));
+        }
+        let count = buf.len().min(self.bytes.len());
+        buf[..count].copy_from_slice(&self.bytes[..count]);
+        self.bytes = &self.bytes[count..];
+        Ok(count)
+    }
+}
+
+/// Takes so many bytes, and then fails.
+#[derive(Drop)]
+struct Sink {
+    taken: Vec<u8>,
+    room: usize,
+}
+
+impl Write for Sink {
+    fn write(&mut self, buf: &[u8]) -> io::Result<usize> {
+        let count = buf.len().min(self.room);
+        if count == 0 {
+            return Err(io::Error::from(io::ErrorKind::BrokenPipe));
+        }
+        self.taken.extend_from_slice(&buf[..count])?;
+        self.room -= count;
+        Ok(count)
+    }
+
+    fn flush(&mut self) -> io::Result<()> {
+        Ok(())
+    }
+}
+
+/// How the conversation of the first bytes goes with a writer that takes so many, and what is said.
+fn told(
+    alloc: Global,
+    sent: &[u8],
+    fails: bool,
+    room: usize,
+) -> Result<(Result<End, TalkFault>, Vec<u8>), Fail> {
+    let mut exports = ExportList::new(alloc);
+    exports.add(&ExportSettings::new(b"a", 4096))?;
+    let config = Config::new(exports, 32)?;
+    let mut reader = Counted::new(Source { bytes: sent, fails });
+    let mut writer = Counted::new(Sink {
+        taken: Vec::new(alloc),
+        room,
+    });
+    let end = talk(alloc, &config, &mut reader, &mut writer);
+    let Sink { taken, room: _ } = writer.into_inner();
+    Ok((end, taken))
+}
+
+/// How the first bytes end, where no call fails.
+fn end_of(count: usize) -> End {
+    match count {
+        0 | 4 | 21 | 53 | 81 => End::Over,
+        109 => End::Disc,
+        _ => End::Cut,
+    }
+}
+
+/// How many bytes are said to the first bytes.
+fn said_to(count: usize) -> usize {
+    match count {
+        0..=20 => 18,
+        21..=52 => 28,
+        53..=80 => 44,
+        _ => 64,
+    }
+}
+
+#[test]
+fn cut_at_each_byte(rt: HostRuntime) -> Result<(), Fail> {
+    for count in 0..110usize {
+        let (end, said) = told(rt.alloc(), &SENT[..count], false, 1000)?;
+        assert_eq!(rt; end, Ok(end_of(count)), "at {count}");
+        let well = said.as_slice() == &SAID[..said_to(count)];
+        assert!(rt; well, "at {count}");
+    }
+    Ok(())
+}
+
+#[test]
+fn each_read_fails(rt: HostRuntime) -> Result<(), Fail> {
+    for count in 0..109usize {
+        let (end, said) = told(rt.alloc(), &SENT[..count], true, 1000)?;
+        assert_eq!(rt; end, Err(TalkFault::ReadFailed), "at {count}");
+        let well = said.as_slice() == &SAID[..said_to(count)];
+        assert!(rt; well, "at {count}");
+    }
+    Ok(())
+}
+
+#[test]
+fn each_write_fails(rt: HostRuntime) -> Result<(), Fail> {
+    for room in 0..64usize {
+        let (end, said) = told(rt.alloc(), SENT, false, room)?;
+        assert_eq!(rt; end, Err(TalkFault::WriteFailed), "at {room}");
+        let well = said.as_slice() == &SAID[..room];
+        assert!(rt; well, "at {room}");
+    }
+    Ok(())
+}

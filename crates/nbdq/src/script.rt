@@ -1,0 +1,257 @@
+//! The head of a script: what is configured, up to the line `---`.
+
+ghost use Rattle.std.specs.Prelude.{◌<◌, length};
+
+use nbd_base::NoMemory;
+use nbd_commands::{
+    Config, ConfigError, DEFAULT_INFLIGHT, ExportList, ExportSettings, Refusal, is_inflight,
+};
+use std::alloc::{AllocError, AllocFailed, Global};
+
+/// Why a line of the head is refused.
+pub enum LineFault {
+    /// It has none of the forms of a line.
+    Form,
+    /// A value is out of range.
+    Value(Refusal),
+    NoMemory,
+}
+
+impl From<AllocError> for LineFault {
+    fn from(_: AllocError) -> LineFault {
+        LineFault::NoMemory
+    }
+}
+
+impl<T: Drop> From<AllocFailed<T>> for LineFault {
+    fn from(_: AllocFailed<T>) -> LineFault {
+        LineFault::NoMemory
+    }
+}
+
+impl From<NoMemory> for LineFault {
+    fn from(_: NoMemory) -> LineFault {
+        LineFault::NoMemory
+    }
+}
+
+impl From<Refusal> for LineFault {
+    fn from(refusal: Refusal) -> LineFault {
+        LineFault::Value(refusal)
+    }
+}
+
+impl From<ConfigError> for LineFault {
+    fn from(error: ConfigError) -> LineFault {
+        match error {
+            ConfigError::Refused(refusal) => LineFault::Value(refusal),
+            ConfigError::NoMemory => LineFault::NoMemory,
+        }
+    }
+}
+
+/// What reading the head of a script gives.
+pub enum Head<'a> {
+    /// What is configured, and the bytes behind the head.
+    Read(Config<Global>, &'a [u8]),
+    /// The first refused line, counted from 1.
+    Refused(usize, LineFault),
+}
+
+/// Reads the head at the front of a script.
+pub fn read_head(alloc: Global, script: &[u8]) -> Head<'_> {
+    let mut draft = Draft::new(alloc);
+    let mut rest = script;
+    let mut count = 0usize;
+    while !rest.is_empty() {
+        let (line, after) = first_line(rest);
+        rest = after;
+        count = count.saturating_add(1);
+        if line == b"---".as_slice() {
+            return match draft.config() {
+                Ok(config) => Head::Read(config, rest),
+                Err(refusal) => Head::Refused(count, LineFault::Value(refusal)),
+            };
+        }
+        if let Err(fault) = draft.line(alloc, line) {
+            return Head::Refused(count, fault);
+        }
+    }
+    Head::Refused(count.max(1), LineFault::Form)
+}
+
+/// The line at the front, and the bytes behind it.
+fn first_line(bytes: &[u8]) -> (&[u8], &[u8])
+    requires { 0 < length bytes.now }
+    ensures { length result.1.now < length bytes.now }
+{
+    match bytes.iter().position(|byte| *byte == b'\n') {
+        Some(at) => (&bytes[..at], &bytes[at + 1..]),
+        None => (bytes, &[]),
+    }
+}
+
+/// What the lines before have configured.
+#[derive(Drop)]
+struct Draft {
+    exports: ExportList<Global>,
+    inflight: Option<u64>,
+}
+
+impl Draft {
+    fn new(alloc: Global) -> Draft {
+        Draft {
+            exports: ExportList::new(alloc),
+            inflight: None,
+        }
+    }
+
+    /// Takes one line. One without fields, or that begins with `#`, is passed over.
+    fn line(&mut self, alloc: Global, line: &[u8]) -> Result<(), LineFault> {
+        if line.first() == Some(&b'#') {
+            return Ok(());
+        }
+        let fields = fields_of(alloc, line)?;
+        match fields.as_slice() {
+            [] => Ok(()),
+            [b"export", name, settings @ ..] => self.export(name, settings),
+            [b"inflight", count] => self.inflight(count),
+            _ => Err(LineFault::Form),
+        }
+    }
+
+    fn inflight(&mut self, count: &[u8]) -> Result<(), LineFault> {
+        let count = number(count)?;
+        if self.inflight.is_some() {
+            return Err(LineFault::Form);
+        }
+        if !is_inflight(count) {
+            return Err(LineFault::Value(Refusal::BadInflight));
+        }
+        self.inflight = Some(count);
+        Ok(())
+    }
+
+    fn export(&mut self, name: &[u8], fields: &[&[u8]]) -> Result<(), LineFault> {
+        let mut written = Written::new();
+        for field in fields {
+            written.field(field)?;
+        }
+        self.exports.add(&written.settings(name)?)?;
+        Ok(())
+    }
+
+    fn config(self) -> Result<Config<Global>, Refusal> {
+        let Draft { exports, inflight } = self;
+        Config::new(exports, inflight.unwrap_or(DEFAULT_INFLIGHT))
+    }
+}
+
+/// The settings that an export's line has written so far.
+#[derive(Clone, Copy)]
+struct Written<'a> {
+    description: Option<&'a [u8]>,
+    read_only: Option<bool>,
+    size: Option<u64>,
+    reservation: Option<u64>,
+    limit: Option<u64>,
+    weight: Option<u64>,
+    depth: Option<u64>,
+    window: Option<u64>,
+}
+
+impl<'a> Written<'a> {
+    fn new() -> Written<'a> {
+        Written {
+            description: None,
+            read_only: None,
+            size: None,
+            reservation: None,
+            limit: None,
+            weight: None,
+            depth: None,
+            window: None,
+        }
+    }
+
+    /// Takes one setting: `ro`, or a key and a value.
+    fn field(&mut self, field: &'a [u8]) -> Result<(), LineFault> {
+        if field == b"ro".as_slice() {
+            return once(&mut self.read_only, true);
+        }
+        let Some(at) = field.iter().position(|byte| *byte == b'=') else {
+            return Err(LineFault::Form);
+        };
+        let value = &field[at + 1..];
+        match &field[..at] {
+            b"desc" => once(&mut self.description, value),
+            b"size" => once(&mut self.size, number(value)?),
+            b"r" => once(&mut self.reservation, number(value)?),
+            b"l" => once(&mut self.limit, number(value)?),
+            b"w" => once(&mut self.weight, number(value)?),
+            b"depth" => once(&mut self.depth, number(value)?),
+            b"window" => once(&mut self.window, number(value)?),
+            _ => Err(LineFault::Form),
+        }
+    }
+
+    /// The settings, with the defaults for what isn't written. The size has none.
+    fn settings(self, name: &'a [u8]) -> Result<ExportSettings<'a>, LineFault> {
+        let Some(size) = self.size else {
+            return Err(LineFault::Form);
+        };
+        let plain = ExportSettings::new(name, size);
+        Ok(ExportSettings {
+            name,
+            description: self.description,
+            size,
+            read_only: self.read_only.unwrap_or(plain.read_only),
+            reservation: self.reservation.unwrap_or(plain.reservation),
+            limit: self.limit.unwrap_or(plain.limit),
+            weight: self.weight.unwrap_or(plain.weight),
+            depth: self.depth.unwrap_or(plain.depth),
+            window: self.window.unwrap_or(plain.window),
+        })
+    }
+}
+
+/// Keeps a setting that may be written once.
+fn once<T: Copy>(place: &mut Option<T>, value: T) -> Result<(), LineFault> {
+    if place.is_some() {
+        return Err(LineFault::Form);
+    }
+    *place = Some(value);
+    Ok(())
+}
+
+/// A number in decimal digits that fits 64 bits.
+fn number(digits: &[u8]) -> Result<u64, LineFault> {
+    if digits.is_empty() {
+        return Err(LineFault::Form);
+    }
+    let mut value = 0u64;
+    for digit in digits {
+        let next = match digit {
+            b'0'..=b'9' => value
+                .checked_mul(10)
+                .and_then(|tens| tens.checked_add(u64::from(*digit - b'0'))),
+            _ => None,
+        };
+        let Some(next) = next else {
+            return Err(LineFault::Form);
+        };
+        value = next;
+    }
+    Ok(value)
+}
+
+/// The fields of a line, which one or more spaces part.
+fn fields_of(alloc: Global, line: &[u8]) -> Result<Vec<&[u8]>, AllocError> {
+    let mut fields = Vec::new(alloc);
+    for field in line.split(|byte| *byte == b' ') {
+        if !field.is_empty() {
+            fields.push(field)?;
+        }
+    }
+    Ok(fields)
+}

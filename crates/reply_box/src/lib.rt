@@ -1,0 +1,326 @@
+//! The sessions of one export, each with the replies that wait for it.
+//!
+//! A session is open from its attach until it leaves or is gone. Of the sessions that are gone nothing is kept but
+//! that their numbers were used: 64 sessions at most are not gone at once, so the memory is bounded while numbers
+//! rise without end.
+//!
+//! A session's outstanding requests are those that were admitted and whose reply was not yet taken: it is owed a
+//! reply, or the reply waits in its outbox. They never exceed the window, and the outbox has room for a window's
+//! replies from the attach on. So after [`ReplyBox::attach`] nothing takes memory.
+#![tactic(auto)]
+
+mod fault;
+mod seat;
+
+ghost use Rattle.std.specs.Prelude.{◌≡◌, ◌<◌, ◌^◌, length, IfOk, IfErr, false};
+ghost use Rattle.reply_box.specs.Sessions.{is_open_at, state_at};
+ghost use Rattle.reply_box.specs.Box.{empty_box, is_full, attach_fault, after_attach, owed_at, MayAdmit, Admits, IsOwed, after_put, Takes, Leaves, Goes, IsInBounds};
+
+use crate::seat::Seat;
+use circular_buffer::HeapCircularBuffer;
+pub use fault::{AdmitFault, AttachFault, NotOpen};
+use nbd_wire::Reply;
+pub use seat::{SessionState, Taken};
+use std::alloc::Allocator;
+use std::collections::BTreeMap;
+use std::marker::Model;
+
+/// The most sessions that are not gone at once.
+const MOST_SESSIONS: usize = 64;
+
+/// The sessions of an export, by number from 0 in the order in which they were attached.
+#[derive(Drop)]
+pub struct ReplyBox<A: Allocator + Copy> {
+    // The number of the next session.
+    next: u64,
+    // The sessions that are not gone.
+    seats: BTreeMap<u64, Seat<A>, A>,
+    window: usize,
+    alloc: A,
+}
+
+impl<A: Allocator + Copy> Model for ReplyBox<A> {
+    ghost use Rattle.reply_box.specs.Box.{Box};
+    ghost use Rattle.reply_box.specs.Seats.{box_of, IsBox};
+
+    ghost Value = { Box };
+
+    ghost view = { λ b. box_of b.next b.seats b.window };
+
+    ghost invariant = { λ b. IsBox b.next b.seats b.window };
+}
+
+impl<A: Allocator + Copy> ReplyBox<A> {
+    /// A box without sessions, in which each will have at most `window` outstanding requests.
+    pub fn new(alloc: A, window: usize) -> Self
+        ensures { result ≡ empty_box window }
+    {
+        ReplyBox {
+            next: 0,
+            seats: BTreeMap::new(alloc),
+            window,
+            alloc,
+        }
+    }
+
+    /// The number that the next session gets, which is how many were ever attached.
+    pub fn next_session(&self) -> u64
+        ensures { result ≡ length self.now.sessions }
+    {
+        self.next
+    }
+
+    /// Whether as many sessions as may be are not gone, so that `attach` answers [`AttachFault::Full`].
+    pub fn is_full(&self) -> bool
+        ensures { result ≡ is_full self.now }
+    {
+        self.seats.len() == MOST_SESSIONS
+    }
+
+    /// Whether the session is open, has left or is gone; None where it was never attached.
+    pub fn state(&self, session: u64) -> Option<SessionState>
+        ensures { result ≡ state_at self.now.sessions session }
+    {
+        if session >= self.next {
+            return None;
+        }
+        let Some(seat) = self.seats.get(&session) else {
+            return Some(SessionState::Gone);
+        };
+        Some(seat.state())
+    }
+
+    /// Whether the session is open.
+    pub fn is_open(&self, session: u64) -> bool
+        ensures { result ≡ is_open_at self.now.sessions session }
+    {
+        let Some(seat) = self.seats.get(&session) else {
+            return false;
+        };
+        !seat.left
+    }
+
+    /// How many of the session's requests are admitted and not yet answered by `put`; 0 where it is gone.
+    pub fn owed(&self, session: u64) -> usize
+        ensures { result ≡ owed_at self.now.owed session }
+    {
+        let Some(seat) = self.seats.get(&session) else {
+            return 0;
+        };
+        seat.owed
+    }
+
+    /// What `admit` answers.
+    pub fn may_admit(&self, session: u64) -> Result<(), AdmitFault>
+        ensures { MayAdmit self.now session result }
+    {
+        let Some(seat) = self.seats.get(&session) else {
+            return Err(AdmitFault::NotOpen);
+        };
+        if seat.left {
+            return Err(AdmitFault::NotOpen);
+        }
+        if seat.owed + seat.outbox.len() == self.window {
+            Err(AdmitFault::Hold)
+        } else {
+            Ok(())
+        }
+    }
+
+    /// Opens a session and gives its number. Its outbox gets room for a window's replies.
+    pub fn attach(&mut self) -> Result<u64, AttachFault>
+        requires { length self.old.sessions < 2 ^ 63 }
+        ensures ok { IfOk result (λ n. (is_full self.old ≡ false) × (n ≡ length self.old.sessions) × (self.new ≡ after_attach self.old)) }
+        ensures err { IfErr result (λ e. (e ≡ attach_fault self.old) × (self.new ≡ self.old)) }
+    {
+        if self.is_full() {
+            return Err(AttachFault::Full);
+        }
+        let Ok(outbox) = HeapCircularBuffer::with_capacity(self.alloc, self.window) else {
+            return Err(AttachFault::NoMemory);
+        };
+        let number = self.next;
+        let seat = Seat {
+            left: false,
+            owed: 0,
+            outbox,
+        };
+        if let Err(_back) = self.seats.insert(number, seat) {
+            return Err(AttachFault::NoMemory);
+        }
+        self.next += 1;
+        Ok(number)
+    }
+
+    /// A request of the session is outstanding from now on: the session is owed a reply.
+    pub fn admit(&mut self, session: u64) -> Result<(), AdmitFault>
+        ensures { Admits self.old session self.new result }
+    {
+        if let Err(refused) = self.may_admit(session) {
+            return Err(refused);
+        }
+        let Some(seat) = self.seats.get_mut(&session) else {
+            return Err(AdmitFault::NotOpen);
+        };
+        seat.owed += 1;
+        Ok(())
+    }
+
+    /// Puts a reply that the session is owed behind the others of its outbox, or drops it where the session is gone.
+    pub fn put(&mut self, session: u64, reply: Reply<A>)
+        requires { IsOwed self.old session }
+        ensures { self.new ≡ after_put self.old session reply }
+    {
+        let Some(seat) = self.seats.get_mut(&session) else {
+            return;
+        };
+        seat.owed -= 1;
+        seat.outbox.push_back(reply);
+    }
+
+    /// Takes the session's oldest reply.
+    pub fn take(&mut self, session: u64) -> Result<Taken<A>, NotOpen>
+        ensures { Takes self.old session self.new result }
+    {
+        let Some(seat) = self.seats.get_mut(&session) else {
+            return Err(NotOpen);
+        };
+        let Some(reply) = seat.outbox.pop_front() else {
+            return Ok(seat.quiet());
+        };
+        Ok(Taken::Reply(reply))
+    }
+
+    /// The open session sends no more requests. Its replies can still be taken.
+    pub fn leave(&mut self, session: u64) -> Result<(), NotOpen>
+        ensures { Leaves self.old session self.new result }
+    {
+        if !self.is_open(session) {
+            return Err(NotOpen);
+        }
+        let Some(seat) = self.seats.get_mut(&session) else {
+            return Err(NotOpen);
+        };
+        seat.left = true;
+        Ok(())
+    }
+
+    /// Drops a session that is not gone, with its outbox. What it is owed is dropped when it is put.
+    pub fn gone(&mut self, session: u64) -> Result<(), NotOpen>
+        ensures { Goes self.old session self.new result }
+    {
+        let Some(_seat) = self.seats.remove(&session) else {
+            return Err(NotOpen);
+        };
+        Ok(())
+    }
+
+    /// Does nothing: its contract says what is true of every box.
+    ///
+    /// No session has more outstanding than the window, one that is gone is owed nothing and has no replies, and 64
+    /// at most are not gone.
+    pub fn laws(&self)
+        ensures { IsInBounds self.now }
+    {
+        let _ = &self.window;
+    }
+}
+
+#[cfg(test)]
+mod tests {
+    use super::*;
+    use refusing::Refusing;
+
+    fn attach<A: Allocator + Copy>(sessions: &mut ReplyBox<A>) -> Result<u64, AttachFault> {
+        if sessions.next_session() < 1000 {
+            sessions.attach()
+        } else {
+            Err(AttachFault::Full)
+        }
+    }
+
+    fn answer<A: Allocator + Copy>(sessions: &mut ReplyBox<A>, session: u64, cookie: u64) -> bool {
+        let is_owed = sessions.owed(session) > 0;
+        if is_owed {
+            sessions.put(session, Reply::bare(0, cookie));
+        }
+        is_owed
+    }
+
+    // The cookie of the reply that is taken; 100 for Empty, 101 for End, 102 where it isn't open.
+    fn cookie<A: Allocator + Copy>(sessions: &mut ReplyBox<A>, session: u64) -> u64 {
+        match sessions.take(session) {
+            Ok(Taken::Reply(first)) => first.cookie(),
+            Ok(Taken::Empty) => 100,
+            Ok(Taken::End) => 101,
+            Err(NotOpen) => 102,
+        }
+    }
+
+    #[test]
+    fn the_outbox_counts_for_the_window(rt: HostRuntime) {
+        let mut sessions = ReplyBox::new(rt.alloc(), 2);
+        assert_eq!(rt; attach(&mut sessions), Ok(0));
+        assert_eq!(rt; sessions.admit(0), Ok(()));
+        assert_eq!(rt; sessions.admit(0), Ok(()));
+        assert_eq!(rt; sessions.admit(0), Err(AdmitFault::Hold));
+        assert!(rt; answer(&mut sessions, 0, 7));
+        assert_eq!(rt; sessions.admit(0), Err(AdmitFault::Hold));
+        assert_eq!(rt; cookie(&mut sessions, 0), 7);
+        assert_eq!(rt; sessions.admit(0), Ok(()));
+        assert_eq!(rt; sessions.leave(0), Ok(()));
+        assert_eq!(rt; sessions.admit(0), Err(AdmitFault::NotOpen));
+        assert!(rt; answer(&mut sessions, 0, 8) && answer(&mut sessions, 0, 9));
+        assert_eq!(rt; cookie(&mut sessions, 0), 8);
+        assert_eq!(rt; cookie(&mut sessions, 0), 9);
+        assert_eq!(rt; cookie(&mut sessions, 0), 101);
+        assert_eq!(rt; sessions.leave(0), Err(NotOpen));
+        assert_eq!(rt; sessions.gone(0), Ok(()));
+        assert_eq!(rt; cookie(&mut sessions, 0), 102);
+        assert!(rt; sessions.state(0) == Some(SessionState::Gone) && sessions.state(1).is_none());
+        sessions.laws();
+    }
+
+    #[test]
+    fn numbers_are_not_used_again(rt: HostRuntime) {
+        let mut sessions = ReplyBox::new(rt.alloc(), 1);
+        for number in 0..64u64 {
+            assert_eq!(rt; attach(&mut sessions), Ok(number));
+        }
+        assert!(rt; sessions.is_full());
+        assert_eq!(rt; attach(&mut sessions), Err(AttachFault::Full));
+        assert_eq!(rt; sessions.gone(0), Ok(()));
+        assert_eq!(rt; attach(&mut sessions), Ok(64));
+        assert_eq!(rt; cookie(&mut sessions, 64), 100);
+    }
+
+    // Each of 40 attaches is made again where it found no memory, and none is lost or counted twice.
+    fn is_whole<A: Allocator + Copy>(alloc: A) -> bool {
+        let mut sessions = ReplyBox::new(alloc, 2);
+        let mut whole = true;
+        for number in 0..40u64 {
+            if attach(&mut sessions) == Err(AttachFault::NoMemory) {
+                whole = whole
+                    && sessions.state(number).is_none()
+                    && attach(&mut sessions) == Ok(number);
+            }
+            whole = whole && sessions.next_session() == number + 1 && sessions.is_open(number);
+        }
+        whole
+    }
+
+    #[test]
+    fn each_growth_is_refused_in_turn(rt: HostRuntime) {
+        let mut refused = 0u64;
+        for nth in 1..1000u64 {
+            let heap = Refusing::new(rt.alloc(), nth);
+            let whole = is_whole(&heap);
+            assert!(rt; whole);
+            if heap.is_armed() {
+                break;
+            }
+            refused = nth;
+        }
+        assert!(rt; refused >= 40);
+    }
+}

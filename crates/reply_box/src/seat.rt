@@ -1,0 +1,61 @@
+//! A session that is not gone, as it is kept.
+ghost use Rattle.std.specs.Prelude.{◌≡◌};
+ghost use Rattle.reply_box.specs.Seats.{quiet, state_of};
+
+use circular_buffer::HeapCircularBuffer;
+use nbd_wire::Reply;
+use std::alloc::Allocator;
+
+/// How a session stands that was attached.
+#[derive(Clone, Copy, Debug, PartialEq, Eq)]
+pub enum SessionState {
+    /// It may send requests.
+    Open,
+    /// It sends no more, and its replies can be taken.
+    Left,
+    /// It is no more, and its replies are dropped.
+    Gone,
+}
+
+/// What `take` answers for a session that is not gone.
+#[derive(Drop)]
+pub enum Taken<A: Allocator> {
+    /// Its oldest reply.
+    Reply(Reply<A>),
+    /// None waits, and one may come: the session is open, or it is owed some.
+    Empty,
+    /// The session has left, and all that it was owed is taken.
+    End,
+}
+
+/// A session that is not gone.
+#[derive(Drop)]
+pub(crate) struct Seat<A: Allocator> {
+    pub(crate) left: bool,
+    // How many of its requests are admitted and not yet answered.
+    pub(crate) owed: usize,
+    pub(crate) outbox: HeapCircularBuffer<Reply<A>, A>,
+}
+
+impl<A: Allocator> Seat<A> {
+    pub(crate) fn state(&self) -> SessionState
+        ensures { result ≡ state_of self.now }
+    {
+        if self.left {
+            SessionState::Left
+        } else {
+            SessionState::Open
+        }
+    }
+
+    // What `take` answers where the outbox is empty.
+    pub(crate) fn quiet(&self) -> Taken<A>
+        ensures { result ≡ quiet self.now }
+    {
+        if self.left && self.owed == 0 {
+            Taken::End
+        } else {
+            Taken::Empty
+        }
+    }
+}

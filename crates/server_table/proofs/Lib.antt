@@ -1,0 +1,10 @@
+pub mod Rows
+pub mod Sides
+pub mod Perform
+pub mod Refused
+pub mod Heads
+pub mod Ordered
+pub mod Arrive
+pub mod Arrived
+pub mod Dispatch
+pub mod Push

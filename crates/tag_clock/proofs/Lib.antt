@@ -1,0 +1,2 @@
+pub mod Unrolled
+pub mod Bounds

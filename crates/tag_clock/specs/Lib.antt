@@ -1,0 +1,4 @@
+pub mod Intervals
+pub mod Tags
+pub mod Clocks
+pub mod LimitTags
