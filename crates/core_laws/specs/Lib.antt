@@ -2,5 +2,5 @@ pub mod Runs
 pub mod Counts
 pub mod Heads
 pub mod Made
-pub mod Laws
+pub mod Statements
 pub mod Worked

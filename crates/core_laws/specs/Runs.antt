@@ -36,10 +36,3 @@ module _ {A : Type 0} where
   -- export e is there, with these terms
   abbrev pub HasExport : Run A → ℕ → Terms → Type 0
   HasExport run e terms = slice_get run.setup.exports e ≡ Some terms
-
-  -- two runs agree at e: it has the same terms in both, and the same own steps. The number of exports, the terms of the
-  -- others, how many requests may be out and all other events may differ
-  pub record AgreeAt (e : ℕ) (terms : Terms) (one two : Run A) : Type 0 where
-    pub there : HasExport one e terms
-    pub there_too : HasExport two e terms
-    pub steps : own_steps e one ≡ own_steps e two

@@ -5,7 +5,7 @@ ghost use Rattle.lone_export.specs.declared.step.Step.{Step};
 ghost use Rattle.server_table.specs.declared.event.Event.{Event};
 ghost use Rattle.server_table.specs.Table.{Table, Setup};
 ghost use Rattle.core_laws.specs.Runs.{Run};
-ghost use Rattle.core_laws.specs.Laws.{IsToldAsAlone, EndsAsAlone, IsToldTheSame, EndsTheSame, LeavesOthers, LeavesUnchosen, LeavesAll, QueueCountsItsOwn, WeightWaitsForItsLimit, GivesUnrolledTags, HasUnrolledTags, HeadsSuffice, ChoosesNoneBefore, ChoosesByLimit, ChoosesByReservation, KeepsOtherAnswers, KeepsLastTable};
+ghost use Rattle.core_laws.specs.Statements.{IsToldAsAlone, EndsAsAlone, IsToldTheSame, EndsTheSame, LeavesOthers, LeavesUnchosen, LeavesAll, QueueCountsItsOwn, WeightWaitsForItsLimit, GivesUnrolledTags, HasUnrolledTags, HeadsSuffice, ChoosesNoneBefore, ChoosesByLimit, ChoosesByReservation, KeepsOtherAnswers, KeepsLastTable};
 
 use std::alloc::Allocator;
 

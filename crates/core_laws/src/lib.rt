@@ -1,6 +1,6 @@
 //! The laws of a server's runs, over the definitions alone.
 //!
-//! Each law is a function without a body, and its contract is the law. `specs/Laws.antt` has the statements.
+//! Each law is a function without a body, and its contract is the law. `specs/Statements.antt` has the statements.
 #![tactic(auto)]
 
 mod laws;

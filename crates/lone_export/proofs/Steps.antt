@@ -96,10 +96,10 @@ less_done old n job reply h =
 
 module _ {A : Type 0} where
   still : (n : ℕ) (old : Alone) (answer : StepAnswer A) → is_counted answer ≡ false → IsOneStep n old (stays old answer)
-  still n old answer no_step = record { counts = λ h. true_false (sym h ∙ no_step); stays = λ h. refl; to_come = λ h. true_false (sym h ∙ no_step) }
+  still n old answer no_step = record { counts = λ h. true_false (sym h ∙ no_step); stays = λ h. refl; brings = λ h. true_false (sym h ∙ no_step) }
 
   moved : (n : ℕ) (old new : Alone) (answer : StepAnswer A) → is_counted answer ≡ true → new.count ≡ old.count → to_come new + 1 ≤ to_come old + n → IsOneStep n old (moves new answer)
-  moved n old new answer a_step same less = record { counts = λ h. ap (λ k. k + 1) same; stays = λ h. true_false (sym a_step ∙ h); to_come = λ h. less }
+  moved n old new answer a_step same less = record { counts = λ h. ap (λ k. k + 1) same; stays = λ h. true_false (sym a_step ∙ h); brings = λ h. less }
 
   pub steps : (terms : Terms) (old : Alone) (one : Step A) → IsOneStep (brought one) old (own_step terms old one)
   steps terms old Attach =

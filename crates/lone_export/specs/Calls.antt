@@ -54,12 +54,12 @@ module _ {A : Type 0} where
   brought (Leave s) = 0
   brought (Gone s) = 0
 
-  -- a step that is counted adds one to the count and is one of those that were to come, or that it brings; any other
-  -- leaves the state
-  pub record IsOneStep (brings : ℕ) (old : Alone) (moved : Moved A) : Type 0 where
+  -- a step that is counted adds one to the count and uses up one of the steps that were to come, or of the n that it
+  -- brings; any other leaves the state
+  pub record IsOneStep (n : ℕ) (old : Alone) (moved : Moved A) : Type 0 where
     pub counts : is_counted moved.answer ≡ true → moved.state.count ≡ old.count + 1
     pub stays : is_counted moved.answer ≡ false → moved.state ≡ old
-    pub to_come : is_counted moved.answer ≡ true → to_come moved.state + 1 ≤ to_come old + brings
+    pub brings : is_counted moved.answer ≡ true → to_come moved.state + 1 ≤ to_come old + n
 
 -- every step of an export is one of its steps to come
 abbrev pub StepsToCome : Type 0 → Type 0

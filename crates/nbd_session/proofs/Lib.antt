@@ -12,3 +12,4 @@ pub mod OneConversation
 pub mod InTable
 pub mod SomeConversation
 pub mod TalkLemmas
+pub mod HaggledLemmas

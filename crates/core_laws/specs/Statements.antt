@@ -16,7 +16,7 @@ use Rattle.server_table.specs.declared.event.Answer.TheVariants.{Answered, Picke
 use Rattle.server_table.specs.Table.{Row, Table, Setup, part, side, waits_in, choice}
 use Rattle.server_table.specs.Steps.{step, outstanding_in}
 use Rattle.server_table.specs.Shares.{named, is_made}
-use Rattle.core_laws.specs.Runs.{Run, answers_in, table_in, own_steps, told_answers, last_part, HasExport, AgreeAt}
+use Rattle.core_laws.specs.Runs.{Run, answers_in, table_in, own_steps, told_answers, last_part, HasExport}
 use Rattle.core_laws.specs.Counts.{choices_by, first_moment}
 use Rattle.core_laws.specs.Heads.{first_rows, choice_among}
 use Rattle.core_laws.specs.Made.{made_events, made_marks}
@@ -31,6 +31,13 @@ module _ {A : Type 0} where
   -- and is in the end what it is alone: its bytes, outboxes, sessions, requests, last limit tag and count
   abbrev pub EndsAsAlone : Run A → Type 0
   EndsAsAlone run = (e : ℕ) (terms : Terms) → HasExport run e terms → last_part e run ≡ alone terms (opening terms) (own_steps e run)
+
+  -- two runs agree at e: it has the same terms in both, and the same own steps. The number of exports, the terms of the
+  -- others, how many requests may be out and all other events may differ
+  pub record AgreeAt (e : ℕ) (terms : Terms) (one two : Run A) : Type 0 where
+    pub there : HasExport one e terms
+    pub there_too : HasExport two e terms
+    pub steps : own_steps e one ≡ own_steps e two
 
   -- where two runs agree at an export, it is told the same in both
   abbrev pub IsToldTheSame : Run A → Run A → Type 0
