@@ -300,7 +300,7 @@ fn put<A: Allocator + Copy>(
     Ok(())
 }
 
-/// Exports in the order in which they are configured. No two have one name.
+/// At most 64 exports, in the order in which they were added. `add` refuses a name that an earlier one has.
 #[derive(Drop)]
 pub struct ExportList<A: Allocator + Copy> {
     exports: Vec<ExportConfig<A>, A>,
@@ -342,7 +342,7 @@ impl<A: Allocator + Copy> ExportList<A> {
     }
 }
 
-/// What a server offers: 1 to 64 exports, and how many of its requests may be out at once.
+/// What a server offers: 1 to 64 exports, and how many of its requests may be out at once, 1 to 4,096.
 #[derive(Drop)]
 pub struct Config<A: Allocator + Copy> {
     exports: Vec<ExportConfig<A>, A>,
@@ -360,7 +360,7 @@ impl<A: Allocator + Copy> Model for Config<A> {
 }
 
 impl<A: Allocator + Copy> Config<A> {
-    /// Exports without any are refused first, and then the number of requests.
+    /// An empty list is refused first (`ExportCount`), and then a number that isn't 1 to 4,096 (`BadInflight`).
     pub fn new(list: ExportList<A>, inflight: u64) -> Result<Config<A>, Refusal>
         ensures made { IfOk result (λ c. (c ≡ record { exports = list; inflight = inflight })
             × (whole_refusal list inflight ≡ None)) }

@@ -13,3 +13,4 @@ pub mod InTable
 pub mod SomeConversation
 pub mod TalkLemmas
 pub mod HaggledLemmas
+pub mod Worked

@@ -15,5 +15,5 @@ mod transmission;
 pub use conversing::talk;
 pub use counted::Counted;
 pub use haggling::haggle;
-pub use laws::{handshake_is_haggled, one_conversation};
+pub use laws::{handshake_is_haggled, one_conversation, worked_conversations};
 pub use talking::{End, Entry, TalkFault};
