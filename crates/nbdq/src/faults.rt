@@ -2,6 +2,7 @@
 
 use nbd_commands::{Config, ExportList, ExportSettings};
 use nbd_session::{Counted, End, TalkFault, talk};
+use refusing::Refusing;
 use std::alloc::Global;
 use std::io;
 use std::io::{Read, Write};
@@ -126,5 +127,42 @@ fn each_write_fails(rt: HostRuntime) -> Result<(), Fail> {
         let well = said.as_slice() == &SAID[..room];
         assert!(rt; well, "at {room}");
     }
+    Ok(())
+}
+
+/// How the whole conversation goes where the first so many growths are given and the next is refused, and what is said.
+fn told_without_memory(
+    alloc: Global,
+    heap: &Refusing<Global>,
+    nth: u64,
+) -> Result<(Result<End, TalkFault>, Vec<u8>), Fail> {
+    let mut exports = ExportList::new(heap);
+    exports.add(&ExportSettings::new(b"a", 4096))?;
+    let config = Config::new(exports, 32)?;
+    let mut reader = Counted::new(SENT.as_slice());
+    let mut writer = Counted::new(Vec::new(alloc));
+    heap.arm(nth);
+    let end = talk(heap, &config, &mut reader, &mut writer);
+    Ok((end, writer.into_inner()))
+}
+
+#[test]
+fn each_growth_is_refused(rt: HostRuntime) -> Result<(), Fail> {
+    let mut refused = 0u64;
+    for nth in 1..100u64 {
+        let heap = Refusing::new(rt.alloc(), 0);
+        let (end, said) = told_without_memory(rt.alloc(), &heap, nth)?;
+        if heap.is_armed() {
+            assert_eq!(rt; end, Ok(End::Disc));
+            let well = said.as_slice() == SAID.as_slice();
+            assert!(rt; well);
+            break;
+        }
+        assert_eq!(rt; end, Err(TalkFault::NoMemory), "at {nth}");
+        let begins = SAID.starts_with(&said);
+        assert!(rt; begins, "at {nth}");
+        refused = nth;
+    }
+    assert!(rt; refused > 0);
     Ok(())
 }
