@@ -97,12 +97,17 @@ fn said_to(count: usize) -> usize {
     }
 }
 
+/// The first bytes of a text.
+fn beginning(text: &[u8], count: usize) -> &[u8] {
+    text.get(..count).unwrap_or_default()
+}
+
 #[test]
 fn cut_at_each_byte(rt: HostRuntime) -> Result<(), Fail> {
     for count in 0..110usize {
-        let (end, said) = told(rt.alloc(), &SENT[..count], false, 1000)?;
+        let (end, said) = told(rt.alloc(), beginning(SENT, count), false, 1000)?;
         assert_eq!(rt; end, Ok(end_of(count)), "at {count}");
-        let well = said.as_slice() == &SAID[..said_to(count)];
+        let well = said.as_slice() == beginning(SAID, said_to(count));
         assert!(rt; well, "at {count}");
     }
     Ok(())
@@ -111,9 +116,9 @@ fn cut_at_each_byte(rt: HostRuntime) -> Result<(), Fail> {
 #[test]
 fn each_read_fails(rt: HostRuntime) -> Result<(), Fail> {
     for count in 0..109usize {
-        let (end, said) = told(rt.alloc(), &SENT[..count], true, 1000)?;
+        let (end, said) = told(rt.alloc(), beginning(SENT, count), true, 1000)?;
         assert_eq!(rt; end, Err(TalkFault::ReadFailed), "at {count}");
-        let well = said.as_slice() == &SAID[..said_to(count)];
+        let well = said.as_slice() == beginning(SAID, said_to(count));
         assert!(rt; well, "at {count}");
     }
     Ok(())
