@@ -1,3 +1,5 @@
 pub mod Alone
 pub mod LimitTags
 pub mod Calls
+pub mod Lone
+pub mod Parts

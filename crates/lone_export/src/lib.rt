@@ -2,7 +2,15 @@
 #![tactic(auto)]
 
 mod laws;
+mod lone;
+mod refusal;
+mod row;
 mod step;
 
 pub use laws::steps_to_come;
+pub use lone::Lone;
+pub use refusal::{ArriveRefusal, Arrived, AttachRefusal, NotArrived, NotAttached};
 pub use step::{Step, StepAnswer};
+
+#[cfg(test)]
+mod tests;

@@ -1,0 +1,114 @@
+-- What a contract sees of a `Lone`, and what its calls answer, as steps.
+use Rattle.std.specs.Prelude.{◌≡◌, ℕ, ◌^◌, ◌==◌, nat_le, true, false, not, List, [], ◌∷◌, ◌++◌, length, filter, if◌then◌else◌, Option, Some, None, Result, Ok, Err}
+use Rattle.nbd_commands.specs.Terms.{Terms}
+use Rattle.reply_box.specs.Sessions.{is_open_at, is_here}
+use Rattle.reply_box.specs.declared.fault.NotOpen.{NotOpen}
+use Rattle.reply_box.specs.declared.seat.Taken.{Taken}
+use Rattle.reply_box.specs.declared.seat.Taken.TheVariants as taking
+use Rattle.export_queue.specs.declared.Picked.{Picked}
+use Rattle.lone_export.specs.Alone.{Alone, Job, own_step, outstanding, opening}
+use Rattle.lone_export.specs.declared.step.Step.{Step}
+use Rattle.lone_export.specs.declared.step.StepAnswer.{StepAnswer}
+use Rattle.lone_export.specs.declared.step.StepAnswer.TheVariants as said
+use Rattle.lone_export.specs.declared.refusal.AttachRefusal.{AttachRefusal}
+use Rattle.lone_export.specs.declared.refusal.AttachRefusal.TheVariants as attaching
+use Rattle.lone_export.specs.declared.refusal.NotAttached.{NotAttached}
+use Rattle.lone_export.specs.declared.refusal.NotAttached.TheVariants.{Refused, NoMemory}
+use Rattle.lone_export.specs.declared.refusal.ArriveRefusal.{ArriveRefusal}
+use Rattle.lone_export.specs.declared.refusal.ArriveRefusal.TheVariants as arriving
+use Rattle.lone_export.specs.declared.refusal.NotArrived.{NotArrived}
+use Rattle.lone_export.specs.declared.refusal.Arrived.{Arrived}
+use Rattle.lone_export.specs.declared.refusal.Arrived.TheVariants as arrival
+
+-- an export alone, with its terms, how many of its requests may be out, and the slots of those that are, in their order
+pub record Whole : Type 0 where
+  pub terms : Terms
+  pub inflight : ℕ
+  pub state : Alone
+  pub slots : List ℕ
+
+-- an export before its first step
+abbrev pub opening_of : Terms → ℕ → Whole
+opening_of terms inflight = record { terms = terms; inflight = inflight; state = opening terms; slots = [] }
+
+-- the slot of the request of this number, where it is out
+abbrev pub slot_among : List Job → List ℕ → ℕ → Option ℕ
+slot_among [] slots n = None
+slot_among (job ∷ jobs) [] n = None
+slot_among (job ∷ jobs) (slot ∷ slots) n = if job.number == n then Some slot else slot_among jobs slots n
+
+abbrev pub slot_at : Whole → ℕ → Option ℕ
+slot_at w n = slot_among w.state.out w.slots n
+
+-- the slots once the request of this number is out no longer
+abbrev pub slots_without : List Job → List ℕ → ℕ → List ℕ
+slots_without [] slots n = slots
+slots_without (job ∷ jobs) [] n = []
+slots_without (job ∷ jobs) (slot ∷ slots) n = if not (job.number == n) then slot ∷ slots_without jobs slots n else slots_without jobs slots n
+
+-- the slots once a request was picked
+abbrev pub slots_picked : List ℕ → Option Picked → List ℕ
+slots_picked slots None = slots
+slots_picked slots (Some p) = slots ++ p.slot ∷ []
+
+-- what is so where a session may be opened, or is refused
+abbrev pub MayAttach : Whole → Result (Unit {0}) AttachRefusal → Type 0
+MayAttach w (Ok done) = (nat_le (2 ^ 56) w.state.count ≡ false) × ((length (filter is_here w.state.sessions) == 64) ≡ false)
+MayAttach w (Err attaching.Worn) = nat_le (2 ^ 56) w.state.count ≡ true
+MayAttach w (Err attaching.Full) = (nat_le (2 ^ 56) w.state.count ≡ false) × ((length (filter is_here w.state.sessions) == 64) ≡ true)
+
+-- what is so where a request of session s may arrive, or is refused
+abbrev pub MayArrive : Whole → ℕ → Result (Unit {0}) ArriveRefusal → Type 0
+MayArrive w s (Ok done) = (is_open_at w.state.sessions s ≡ true) × (nat_le (2 ^ 56) w.state.count ≡ false) × ((outstanding w.state s == w.terms.window) ≡ false)
+MayArrive w s (Err arriving.NotOpen) = is_open_at w.state.sessions s ≡ false
+MayArrive w s (Err arriving.Worn) = (is_open_at w.state.sessions s ≡ true) × (nat_le (2 ^ 56) w.state.count ≡ true)
+MayArrive w s (Err arriving.Hold) = (is_open_at w.state.sessions s ≡ true) × (nat_le (2 ^ 56) w.state.count ≡ false) × ((outstanding w.state s == w.terms.window) ≡ true)
+
+module _ {A : Type 0} where
+  -- a call is this step, with this answer
+  pub record Does (old new : Whole) (step : Step A) (answer : StepAnswer A) : Type 0 where
+    pub did : own_step old.terms old.state step ≡ record { state = new.state; answer = answer }
+    pub terms : new.terms ≡ old.terms
+    pub inflight : new.inflight ≡ old.inflight
+
+  -- the same, or nothing at all where there was no answer
+  abbrev pub DoesOr : Whole → Whole → Step A → Option (StepAnswer A) → Type 0
+  DoesOr old new step None = new ≡ old
+  DoesOr old new step (Some answer) = Does old new step answer
+
+  abbrev pub attach_refusal_said : AttachRefusal → StepAnswer A
+  attach_refusal_said attaching.Worn = said.Worn
+  attach_refusal_said attaching.Full = said.Full
+
+  abbrev pub attach_said : Result ℕ NotAttached → Option (StepAnswer A)
+  attach_said (Ok n) = Some (said.Session n)
+  attach_said (Err (Refused e)) = Some (attach_refusal_said e)
+  attach_said (Err NoMemory) = None
+
+  abbrev pub refusal_said : ArriveRefusal → StepAnswer A
+  refusal_said arriving.NotOpen = said.NotOpen
+  refusal_said arriving.Worn = said.Worn
+  refusal_said arriving.Hold = said.Hold
+
+  abbrev pub arrived_said : Result Arrived (NotArrived A) → StepAnswer A
+  arrived_said (Ok (arrival.Accepted n tag)) = said.Accepted n tag
+  arrived_said (Ok (arrival.Answered error)) = said.Answered error
+  arrived_said (Err e) = refusal_said e.refusal
+
+  abbrev pub pick_said : Option Picked → StepAnswer A
+  pick_said None = said.Nothing
+  pick_said (Some p) = said.Picked p.number
+
+  abbrev pub take_said : Result (Taken A) NotOpen → StepAnswer A
+  take_said (Ok (taking.Reply r)) = said.Reply r
+  take_said (Ok taking.Empty) = said.Empty
+  take_said (Ok taking.End) = said.End
+  take_said (Err e) = said.NotOpen
+
+  abbrev pub leave_said : Result (Unit {0}) NotOpen → StepAnswer A
+  leave_said (Ok done) = said.Left
+  leave_said (Err e) = said.NotOpen
+
+  abbrev pub gone_said : Result (Unit {0}) NotOpen → StepAnswer A
+  gone_said (Ok done) = said.Dropped
+  gone_said (Err e) = said.NotOpen
