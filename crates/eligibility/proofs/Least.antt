@@ -3,7 +3,7 @@ use Rattle.std.proofs.Common.{◌≡◌, ℕ, ◌+◌, ◌<◌, ℤ, Option, Non
 use Rattle.std.proofs.lemmas.List.{take_more, length-take}
 use Rattle.tag_clock.specs.declared.Tags.{Tags}
 use Rattle.nbd_base.specs.Least.{the_sooner, least, keyed}
-use Rattle.index_heap.proofs.Least.{sooner_none, least-append}
+use Rattle.nbd_base.proofs.Least.{sooner_none, least-append}
 use Rattle.eligibility.specs.Choice.{slot_key, candidates}
 
 pub candidates-append : (key : Tags → Option ℤ) (e : ℕ) (xs ys : List (Option Tags)) → candidates key e (xs ++ ys) ≡ candidates key e xs ++ candidates key (e + length xs) ys

@@ -2,6 +2,9 @@
 //! are written in (`specs/`).
 #![tactic(auto)]
 
+mod laws;
+
+pub use laws::{least_of_two, sums_fit};
 use std::alloc::{AllocError, AllocFailed};
 use thiserror::Error;
 
@@ -28,6 +31,13 @@ impl<T: Drop> From<AllocFailed<T>> for NoMemory {
 mod tests {
     use super::*;
     use std::test::Fail;
+
+    #[test]
+    fn laws_of_numbers(_rt: HostRuntime) -> Result<(), Fail> {
+        least_of_two::<u64>();
+        sums_fit();
+        Ok(())
+    }
 
     #[test]
     fn refused_growths_are_no_memory(rt: HostRuntime) -> Result<(), Fail> {

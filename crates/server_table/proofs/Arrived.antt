@@ -21,7 +21,8 @@ use Rattle.server_table.specs.Order.{AllParts, IsRising, IsNumbered}
 use Rattle.server_table.specs.Ways.{part_shifted, entry_shifted, least_first_p, parts_for, way_for, part_tags, accepted_part}
 use Rattle.server_table.proofs.Rows.{side_at, terms_at}
 use Rattle.lone_export.proofs.Cases.{fork}
-use Rattle.server_table.proofs.Sides.{as_moved, stay, move, outstanding_at}
+use Rattle.server_table.specs.Kept.{as_moved}
+use Rattle.server_table.proofs.Sides.{stay, move, outstanding_at}
 use Rattle.server_table.proofs.Arrive.{waiting_at, shifted_way, accepted_at}
 
 -- the request is accepted

@@ -17,6 +17,7 @@ use Rattle.server_table.specs.declared.event.Event.TheVariants.{Dispatch}
 use Rattle.server_table.specs.Table.{Row, Side, Choice, foremost, is_due_by_reservation, is_due_by_limit, r_key, p_key, waits_in, lower_r, lower_last_r, credited}
 use Rattle.server_table.specs.Steps.{Outcome, outcome, send, sent, with_credit, step}
 use Rattle.server_table.specs.Order.{AllParts, AllAbove, IsRising, IsNumbered, heads, least_row, chosen_row}
+use Rattle.server_table.specs.Kept.{AreInOrder, ChoosesAmongHeads, export_phase}
 use Rattle.server_table.specs.Picks.{entry_credited, part_credited, front, part_sent, part_picked}
 use Rattle.server_table.proofs.Rows.{sides_at, terms_at, filter_entries, filter_all, filter_no}
 use Rattle.server_table.proofs.Heads.{HeadAt, IsHeadAt, least_rows, least_is_head, due_r_order, due_p_order, choice_told, choice_of_heads}
@@ -182,11 +183,6 @@ module _ {A : Type 0} where
       let test : nat_le inflight (length (filter (λ (row : Row). row.out) (rows_from 0 ps))) ≡ true = grind (arith, nat_tests) in
       ap (λ b. when_some (cond b None (the_choice (max now t) (rows_from 0 ps))) (λ chosen. outcome (with_credit (setup_of ps inflight) chosen (sent chosen.row (table_of ps (max now t)))) (Picked chosen.row.export chosen.row.number chosen.phase)) (outcome (table_of ps (max now t)) Nothing)) test
 
--- the export and the phase of a choice
-abbrev pub export_phase : Option Choice → Option (ℕ × Phase)
-export_phase None = None
-export_phase (Some c) = Some (c.row.export, c.phase)
-
 told_pair : (o : Option Choice) → choice_told (option_map pair_of o) ≡ export_phase o
 told_pair None = refl
 told_pair (Some c) = refl
@@ -287,3 +283,9 @@ module _ {A : Type 0} where
       let pairs : chosen_row (max now t) rows ≡ Some (c.row, c.phase) = choice_pairs (max now t) rows (ordered_rows 0 ps numbered) ∙ ap (option_map pair_of) some.1 in
       let head : HeadAt 0 ps c.row = subst (IsChoiceAt ps) pairs (chosen_at (max now t) ps rising) in
       subst (λ n. Chosen A ps now inflight t n phase) some.2 (subst (λ f. Chosen A ps now inflight t c.row.export f) some.3 (chosen_head ps now inflight t c numbered free some.1 head))
+
+-- the choice over the table is that over the heads
+pub chooses_among_heads : (ps : List Part) (now inflight : ℕ) → ChoosesAmongHeads ps now inflight
+chooses_among_heads ps now inflight kept free =
+    let test : nat_le inflight (length (filter (λ (row : Row). row.out) (rows_from 0 ps))) ≡ false = grind (arith, nat_tests) in
+    ap (λ b. export_phase (cond b None (the_choice now (rows_from 0 ps)))) test ∙ sym (choice_told_of ps now kept.numbered kept.rising)

@@ -6,21 +6,11 @@ use Rattle.std.proofs.lemmas.Int.{ints}
 use Rattle.tag_clock.specs.declared.Tags.{Tags}
 use Rattle.tag_clock.specs.declared.Phase.{Phase}
 use Rattle.nbd_base.specs.Least.{least, the_sooner, keyed}
+use Rattle.nbd_base.proofs.Least.{sooner_assoc, sooner_none, least-append}
 use Rattle.eligibility.specs.Choice.{slot_key, candidates, due, due_r, due_p, choice, by_phase}
 use Rattle.server_table.specs.Parts.{Entry, Part, row_of, part_rows, rows_from}
 use Rattle.server_table.specs.Table.{Row}
 use Rattle.server_table.specs.Order.{TagBefore, Before, BeforeAll, IsRising, AllParts, head_tags, heads, row_key, least_row, chosen_row}
-
--- ---- the least of two lists
-sooner_assoc : {B : Type 0} (a b c : Option (ℤ × B)) → the_sooner (the_sooner a b) c ≡ the_sooner a (the_sooner b c)
-sooner_assoc None b c = refl
-sooner_assoc (Some a) None c = refl
-sooner_assoc (Some a) (Some b) None = grind (arith, ints)
-sooner_assoc (Some a) (Some b) (Some c) = grind (arith, ints)
-
-least-append : {B : Type 0} (xs ys : List (Option (ℤ × B))) → least (xs ++ ys) ≡ the_sooner (least xs) (least ys)
-least-append [] ys = refl
-least-append (x ∷ xs) ys = ap (the_sooner x) (least-append xs ys) ∙ sym (sooner_assoc x (least xs) (least ys))
 
 -- ---- keys
 -- a key that is there comes no later than the other
@@ -46,10 +36,6 @@ due_p_order now a b h = let l = h.l in let p = h.p in grind (arith, ints)
 
 pub p_order : KeepsOrder (λ tags. Some tags.p)
 p_order a b h = h.p
-
-sooner_none : {B : Type 0} (a : Option (ℤ × B)) → the_sooner a None ≡ a
-sooner_none None = refl
-sooner_none (Some a) = refl
 
 sooner_first : {B : Type 0} (a b : Option ℤ) (u v : B) → KeyBefore a b → the_sooner (keyed a u) (keyed b v) ≡ keyed a u
 sooner_first None None u v h = refl

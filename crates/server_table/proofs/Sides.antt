@@ -16,6 +16,7 @@ use Rattle.server_table.specs.declared.event.Event.TheVariants.{Attach, Take, Le
 use Rattle.server_table.specs.Table.{Row, Side, side}
 use Rattle.server_table.specs.Steps.{Outcome, outcome, seated, with_sessions, outstanding_in, step}
 use Rattle.server_table.specs.Answers.{as_answer}
+use Rattle.server_table.specs.Kept.{as_moved}
 use Rattle.lone_export.proofs.Cases.{fork, fork_some}
 use Rattle.server_table.proofs.Rows.{side_at, terms_at, sides_at, rows_same, set_same, filter_only, filter_entries}
 
@@ -28,10 +29,6 @@ seated_at ps now e p sessions lt at =
     ∙ ap (λ ss. record { rows = rows_from 0 (set ps e q); sides = ss; now = now }) (sides_at f e ps p q lt at refl)
 
 module _ {A : Type 0} where
-  -- the table and the answer after an own step of export e
-  abbrev pub as_moved : List Part → ℕ → ℕ → Part → Phase → Moved A → Outcome A
-  as_moved ps now e p phase moved = record { table = table_of (set ps e (with_alone moved.state p)) now; answer = as_answer e phase moved.answer }
-
   pub stay : (ps : List Part) (now e : ℕ) (p : Part) (phase : Phase) (said : StepAnswer A) → p ≡ get_or ps e p → outcome (table_of ps now) (as_answer e phase said) ≡ as_moved ps now e p phase (stays (alone_of p) said)
   stay ps now e p phase said at = ap (λ l. outcome (table_of l now) (as_answer e phase said)) (sym (set_same ps e p at))
 

@@ -6,3 +6,4 @@ pub mod Order
 pub mod Picks
 pub mod Ways
 pub mod Answers
+pub mod Kept

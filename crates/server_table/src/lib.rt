@@ -5,5 +5,22 @@
 #![tactic(auto)]
 
 mod event;
+mod laws;
 
 pub use event::{Answer, Event};
+pub use laws::{choice_of_first_requests, steps_of_sessions};
+
+#[cfg(test)]
+mod tests {
+    use super::*;
+    use std::alloc::Global;
+    use std::test::Fail;
+
+    // The laws hold of payloads in the usual allocator.
+    #[test]
+    fn laws_of_the_global_allocator(_rt: HostRuntime) -> Result<(), Fail> {
+        steps_of_sessions::<Global>();
+        choice_of_first_requests();
+        Ok(())
+    }
+}
