@@ -18,8 +18,8 @@ use tag_clock::{Moment, Phase, Tags};
 
 /// The tags by export, and three heaps over them.
 ///
-/// A choice takes time by the logarithm of the number of exports for each export that it finds to be within its limit,
-/// once for each of its requests, and else none to speak of. A shift writes each export's tags.
+/// A choice takes O(log n) for each export whose L tag has become due since the last choice, and else O(1); a shift takes
+/// O(n), n the number of exports.
 #[derive(Drop)]
 pub struct Heaped<A: Allocator + Copy> {
     slots: Vec<Option<Tags>, A>,

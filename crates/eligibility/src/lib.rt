@@ -58,7 +58,7 @@ pub trait Eligibility: Sized + Drop {
         ensures asked { asked self.new ≤ asked self.old }
         ensures contents { contents self.new ≡ slice_set (contents self.old) export (Some next) };
 
-    /// Subtracts `delta` from every P tag.
+    /// Subtracts `delta` nanoseconds from every P tag.
     fn shift(&mut self, delta: i128)
         requires delta { InRange delta }
         requires in_range { AllInRange (all_shifted delta (contents self.old)) }

@@ -9,7 +9,7 @@ use crate::slots::{idle_slots, shift_all};
 use nbd_base::NoMemory;
 use tag_clock::{Moment, Phase, Tags};
 
-/// An operation on an index of first requests.
+/// An operation on an index of first requests: a call of `Eligibility`, with its arguments. A shift is in nanoseconds.
 #[derive(Clone, Copy, Debug, PartialEq, Eq, Drop)]
 pub enum Op {
     Enter(u32, Tags),
@@ -187,28 +187,16 @@ fn step<E: Eligibility>(
     ensures said { OnOk result (answers.new.items ≡ answers.old.items ++ said op held.old.items asked.old) }
 {
     match op {
-        Op::Enter(export, tags) => {
-            enter(index, held, export, tags);
-            Ok(())
-        }
-        Op::Leave(export) => {
-            leave(index, held, export);
-            Ok(())
-        }
-        Op::Rekey(export, tags) => {
-            rekey(index, held, export, tags);
-            Ok(())
-        }
-        Op::Shift(delta) => {
-            shift(index, held, delta);
-            Ok(())
-        }
+        Op::Enter(export, tags) => enter(index, held, export, tags),
+        Op::Leave(export) => leave(index, held, export),
+        Op::Rekey(export, tags) => rekey(index, held, export, tags),
+        Op::Shift(delta) => shift(index, held, delta),
         Op::Choose(now) => {
             let answer = choose(index, asked, now);
             answers.push(answer)?;
-            Ok(())
         }
     }
+    Ok(())
 }
 
 /// The answers of an index of `n` exports to a list of operations, one for each Choose.
@@ -307,15 +295,71 @@ mod tests {
         let memory = Refusing::new(rt.alloc(), 1);
         assert!(rt; !is_made::<Listed<Memory>>(&memory));
         assert!(rt; is_made::<Listed<Memory>>(&memory));
-        let mut refused = 0u64;
+        let mut met = false;
         for nth in 1..100u64 {
             let memory = Refusing::new(rt.alloc(), nth);
             if is_made::<Heaped<Memory>>(&memory) {
-                break;
+                assert!(rt; met);
+                return;
             }
-            refused = nth;
+            met = true;
             assert!(rt; is_made::<Heaped<Memory>>(&memory));
         }
-        assert_eq!(rt; refused, 10);
+        assert!(rt; false, "no end");
+    }
+
+    fn is_walked<'a, E: Eligibility<Alloc = Memory<'a>>>(memory: Memory<'a>, ops: &[Op]) -> bool {
+        match walk::<E>(memory, 2, ops) {
+            Ok(answers) => answers.as_slice() == BY_WEIGHT.as_slice(),
+            Err(NoMemory) => false,
+        }
+    }
+
+    // Each growth of a walk is refused in turn: it has no answers then, and all of them where none was refused.
+    #[test]
+    fn walks_want_memory(rt: HostRuntime) -> Result<(), Fail> {
+        let ops = two_by_weight().ok_or("in range")?;
+        let mut met = false;
+        for nth in 1..100u64 {
+            let memory = Refusing::new(rt.alloc(), nth);
+            let listed = is_walked::<Listed<Memory>>(&memory, &ops);
+            let is_listed_whole = memory.is_armed();
+            assert_eq!(rt; listed, is_listed_whole);
+            memory.arm(nth);
+            let heaped = is_walked::<Heaped<Memory>>(&memory, &ops);
+            assert_eq!(rt; heaped, memory.is_armed());
+            if heaped && listed {
+                assert!(rt; met);
+                return Ok(());
+            }
+            met = true;
+        }
+        assert!(rt; false, "no end");
+        Ok(())
+    }
+
+    // An operation whose condition isn't met changes nothing; a choice at an earlier moment has no answer.
+    #[test]
+    fn what_may_not_be_is_passed_over(rt: HostRuntime) -> Result<(), Fail> {
+        let late = Moment::new(10).ok_or("in range")?;
+        let ops = [
+            Op::Leave(0),
+            Op::Rekey(1, tags(None, 0, 0)),
+            Op::Choose(Moment::zero()),
+            Op::Enter(2, tags(None, 0, 0)),
+            Op::Enter(1, tags(None, 0, 1 << 126)),
+            Op::Enter(1, tags(None, 5, 5)),
+            Op::Enter(1, tags(None, 0, 0)),
+            Op::Shift(1 << 126),
+            Op::Choose(Moment::zero()),
+            Op::Choose(late),
+            Op::Choose(Moment::zero()),
+        ];
+        let answers = [None, None, Some((1, Phase::Weight)), None];
+        let listed = walk::<Listed<Global>>(rt.alloc(), 2, &ops)?;
+        assert_eq!(rt; listed.as_slice(), answers.as_slice());
+        let heaped = walk::<Heaped<Global>>(rt.alloc(), 2, &ops)?;
+        assert_eq!(rt; heaped.as_slice(), answers.as_slice());
+        Ok(())
     }
 }

@@ -107,7 +107,8 @@ impl<T: Drop, A: Allocator + Copy> ExportQueue<T, A> {
         self.ring.get(place)
     }
 
-    /// Puts an item behind the others that wait, and gives its number. A full queue hands the item back.
+    /// Puts an item behind the others that wait, and gives its number. A full queue hands the item back. The condition is
+    /// that fewer than 2^63 items were pushed before.
     pub fn push(&mut self, item: T) -> Result<u64, T>
         requires { self.old.next < 2 ^ 63 }
         ensures variant { IsOk result ↔ (length self.old.waiting < self.old.depth) }
@@ -203,7 +204,7 @@ mod tests {
         }
     }
 
-    fn row<A: Allocator + Copy>(alloc: A) -> Result<bool, NoMemory> {
+    fn is_full_after_two<A: Allocator + Copy>(alloc: A) -> Result<bool, NoMemory> {
         let mut queue = ExportQueue::new(alloc, 2, 1)?;
         let first = put(&mut queue, 10);
         let second = put(&mut queue, 11);
@@ -213,19 +214,19 @@ mod tests {
 
     #[test]
     fn each_growth_is_refused_in_turn(rt: HostRuntime) {
-        let mut refused = 0u64;
-        for nth in 1..9u64 {
+        let mut met = false;
+        for nth in 1..100u64 {
             let heap = Refusing::new(rt.alloc(), nth);
-            let first = row(&heap);
+            let first = is_full_after_two(&heap);
             if heap.is_armed() {
-                assert!(rt; first == Ok(true));
-                break;
+                assert!(rt; met && first == Ok(true));
+                return;
             }
+            met = true;
             assert!(rt; first == Err(NoMemory));
-            refused = nth;
-            assert!(rt; row(&heap) == Ok(true));
+            assert!(rt; is_full_after_two(&heap) == Ok(true));
         }
-        assert_eq!(rt; refused, 2);
+        assert!(rt; false, "no end");
     }
 
     #[test]
@@ -235,15 +236,24 @@ mod tests {
             assert!(rt; put(&mut queue, item).is_ok());
         }
         assert!(rt; queue.may_pick());
-        assert!(rt; queue.pick() == Some(Picked { number: 0, slot: 0 }));
+        let Some(first) = queue.pick() else {
+            assert!(rt; false, "nothing waits");
+            return Ok(());
+        };
+        assert_eq!(rt; first.number, 0);
         assert!(rt; !queue.may_pick());
-        assert!(rt; queue.slot_of(0) == Some(0));
-        assert!(rt; queue.finish(0, 1).is_none());
-        assert!(rt; queue.finish(0, 0) == Some(10));
+        assert!(rt; queue.slot_of(0) == Some(first.slot));
+        assert!(rt; queue.finish(first.slot, 1).is_none());
+        assert!(rt; queue.finish(first.slot, 0) == Some(10));
+        assert!(rt; queue.held(first.slot, 0).is_none());
         assert!(rt; queue.may_pick());
-        assert!(rt; queue.pick() == Some(Picked { number: 1, slot: 0 }));
-        assert!(rt; queue.held(0, 0).is_none());
-        assert!(rt; queue.held(0, 1).copied() == Some(11));
+        let Some(second) = queue.pick() else {
+            assert!(rt; false, "nothing waits");
+            return Ok(());
+        };
+        assert_eq!(rt; second.number, 1);
+        assert!(rt; queue.held(second.slot, 0).is_none());
+        assert!(rt; queue.held(second.slot, 1).copied() == Some(11));
         assert_eq!(rt; queue.waiting(), 1);
         assert!(rt; queue.waiting_at(0).copied() == Some(12));
         queue.laws();

@@ -40,8 +40,8 @@ pub trait Image: Sized + Drop {
             ≡ overwritten (bytes self.old) offset (length piece.now) piece.now) }
         ensures no_memory { OnErr result (bytes self.new ≡ bytes self.old) };
 
-    /// Makes a range zero. With `keep` the range is to have memory of its own afterwards, so that later writes to it
-    /// want none; without `keep` its memory may be given back, and the call takes none and succeeds.
+    /// Makes a range zero. With `keep` a form may keep memory for the range; without `keep` its memory may be given back,
+    /// and the call takes none and succeeds.
     fn zero(&mut self, offset: usize, count: usize, keep: bool) -> Result<(), NoMemory>
         requires { offset + count ≤ length (bytes self.old) }
         ensures gives_back { OnFalse keep (IsOk result) }

@@ -12,8 +12,8 @@ use std::marker::Model;
 
 /// Keys by id, and the least of them.
 ///
-/// `put`, `remove` and their kin take time by the logarithm of the number of ids, `least` none to speak of, and `shift`
-/// mostly one addition: every id stands in the heap at all times, one without a key behind all that have one.
+/// A change of a key takes O(log n), `least` O(1), and `shift` O(1) but for a rare fold of the offset into all keys. Every
+/// id stands in the heap at all times, one without a key behind all that have one.
 #[derive(Drop)]
 pub struct IndexHeap<A: Allocator + Copy> {
     /// By id, each key with the offset added.
@@ -150,18 +150,19 @@ mod tests {
     // Each growth of `new` is refused in turn, and nothing after it wants memory.
     #[test]
     fn new_alone_takes_memory(rt: HostRuntime) -> Result<(), Fail> {
-        let mut refused = 0u64;
+        let mut met = false;
         for nth in 1..100u64 {
             let memory = Refusing::new(rt.alloc(), nth);
             if let Ok(mut heap) = fresh(&memory) {
                 heap.put(1, Some(4));
                 assert_eq!(rt; heap.least(), Some((1, 4)));
-                break;
+                assert!(rt; met);
+                return Ok(());
             }
-            refused = nth;
+            met = true;
             assert!(rt; fresh(&memory).is_ok());
         }
-        assert_eq!(rt; refused, 3);
+        assert!(rt; false, "no end");
         Ok(())
     }
 }

@@ -14,4 +14,6 @@ pub use settings::{
 };
 
 #[cfg(test)]
+mod config_tests;
+#[cfg(test)]
 mod tests;

@@ -88,8 +88,8 @@ fn zero<I: Image>(image: &mut I, offset: usize, count: usize, keep: bool) -> Don
 /// Performs a request that isn't refused.
 ///
 /// Where memory was refused the error is ENOMEM (12) and no byte changed; that is so of READ, WRITE and WRITE_ZEROES
-/// with NO_HOLE alone. A request that an export served when it was read-only is one that it serves at all, so the
-/// condition doesn't ask for that.
+/// with NO_HOLE alone. The condition is the verdict of an export that isn't read-only: what a read-only export serves,
+/// each export of its size serves.
 pub fn apply<I: Image>(
     alloc: I::Alloc,
     image: &mut I,

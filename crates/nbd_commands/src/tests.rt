@@ -45,10 +45,9 @@ fn write_of<A: Allocator + Copy>(
 }
 
 // Of a request that brings nothing, on an export of 4,096 bytes.
-fn told(read_only: bool, kind: u16, flags: u16, offset: u64, length: u32) -> u32 {
-    if kind == WRITE {
-        return 0;
-    }
+fn told(read_only: bool, kind: u16, flags: u16, offset: u64, length: u32) -> u32
+    requires { kind ≢ 1 }
+{
     let request: Request<Global> = asked(kind, flags, offset, length);
     let info = ExportInfo {
         size: 4096,
@@ -128,7 +127,7 @@ fn insist<I: Image>(alloc: I::Alloc, image: &mut I, request: &Request<I::Alloc>)
 }
 
 // What is read after a write, a trim and two zeroings.
-fn row<A: Allocator + Copy>(alloc: A) -> Result<Bytes<A>, NoMemory> {
+fn read_after_changes<A: Allocator + Copy>(alloc: A) -> Result<Bytes<A>, NoMemory> {
     let mut image: Flat<A> = match Flat::zeros(alloc, 4096) {
         Ok(image) => image,
         Err(NoMemory) => Flat::zeros(alloc, 4096)?,
@@ -146,7 +145,7 @@ fn each_growth_of_the_requests_is_refused_in_turn(rt: HostRuntime) -> Result<(),
     let mut refused = 0u64;
     for nth in 1..100u64 {
         let heap = Refusing::new(rt.alloc(), nth);
-        let content = row(&heap)?;
+        let content = read_after_changes(&heap)?;
         assert_eq!(rt; content.as_slice(), [1, 0, 0, 4, 0].as_slice(), "at {nth}");
         if heap.is_armed() {
             break;
@@ -155,170 +154,4 @@ fn each_growth_of_the_requests_is_refused_in_turn(rt: HostRuntime) -> Result<(),
     }
     assert!(rt; refused > 3);
     Ok(())
-}
-
-fn code_of<A: Allocator + Copy>(list: &mut ExportList<A>, settings: &ExportSettings<'_>) -> u8 {
-    match list.add(settings) {
-        Ok(()) => 0,
-        Err(ConfigError::Refused(refusal)) => refusal.code(),
-        Err(ConfigError::NoMemory) => 1,
-    }
-}
-
-#[test]
-fn the_first_bad_value_is_told(rt: HostRuntime) {
-    let mut list = ExportList::new(rt.alloc());
-    let a = ExportSettings::new(b"a", 4096);
-    assert_eq!(rt; code_of(&mut list, &a), 0);
-    assert_eq!(rt;
-        code_of(&mut list, &ExportSettings { size: 0, ..a }),
-        4,
-        "repeated"
-    );
-    let b = ExportSettings { name: b"b", ..a };
-    assert_eq!(rt; code_of(&mut list, &ExportSettings { name: b"", ..b }), 4);
-    assert_eq!(rt;
-        code_of(
-            &mut list,
-            &ExportSettings {
-                name: &[97; 256],
-                ..b
-            }
-        ),
-        4
-    );
-    assert_eq!(rt;
-        code_of(
-            &mut list,
-            &ExportSettings {
-                description: Some(&[97; 4097]),
-                ..b
-            }
-        ),
-        4
-    );
-    assert_eq!(rt;
-        code_of(
-            &mut list,
-            &ExportSettings {
-                size: 268_435_457,
-                ..b
-            }
-        ),
-        5
-    );
-    assert_eq!(rt;
-        code_of(
-            &mut list,
-            &ExportSettings {
-                size: 0,
-                weight: 0,
-                ..b
-            }
-        ),
-        5
-    );
-    assert_eq!(rt;
-        code_of(
-            &mut list,
-            &ExportSettings {
-                reservation: 1_000_001,
-                ..b
-            }
-        ),
-        6
-    );
-    assert_eq!(rt;
-        code_of(
-            &mut list,
-            &ExportSettings {
-                limit: 1_000_001,
-                ..b
-            }
-        ),
-        6
-    );
-    assert_eq!(rt;
-        code_of(
-            &mut list,
-            &ExportSettings {
-                weight: 0,
-                depth: 0,
-                ..b
-            }
-        ),
-        7
-    );
-    assert_eq!(rt; code_of(&mut list, &ExportSettings { depth: 4097, ..b }), 8);
-    assert_eq!(rt;
-        code_of(
-            &mut list,
-            &ExportSettings {
-                window: 0,
-                reservation: 11,
-                limit: 10,
-                ..b
-            }
-        ),
-        8
-    );
-    assert_eq!(rt;
-        code_of(
-            &mut list,
-            &ExportSettings {
-                reservation: 11,
-                limit: 10,
-                ..b
-            }
-        ),
-        9
-    );
-    assert_eq!(rt;
-        code_of(
-            &mut list,
-            &ExportSettings {
-                reservation: 11,
-                read_only: true,
-                ..b
-            }
-        ),
-        0
-    );
-    assert_eq!(rt;
-        Config::new(ExportList::new(rt.alloc()), 1).err(),
-        Some(Refusal::ExportCount)
-    );
-    assert!(rt; !is_inflight(4097) && is_inflight(DEFAULT_INFLIGHT));
-    if let Ok(config) = Config::new(list, 8) {
-        assert_eq!(rt; config.inflight(), 8);
-        for export in config.exports() {
-            let flags = if export.is_read_only() {
-                0x010f
-            } else {
-                0x016d
-            };
-            assert_eq!(rt; export.flags(), flags);
-            assert_eq!(rt; export.window(), 256);
-        }
-    }
-}
-
-#[test]
-fn each_growth_of_the_exports_is_refused_in_turn(rt: HostRuntime) {
-    let mut refused = 0u64;
-    for nth in 1..100u64 {
-        let heap = Refusing::new(rt.alloc(), nth);
-        let mut list = ExportList::new(&heap);
-        let mut a = ExportSettings::new(b"a", 4096);
-        a.description = Some(b"the first");
-        let first = code_of(&mut list, &a);
-        if heap.is_armed() {
-            assert_eq!(rt; first, 0);
-            break;
-        }
-        assert_eq!(rt; first, 1);
-        assert_eq!(rt; code_of(&mut list, &a), 0);
-        refused = nth;
-    }
-    assert!(rt; refused > 2);
 }

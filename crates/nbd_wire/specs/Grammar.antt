@@ -1,5 +1,6 @@
 -- How heads, requests, replies and options are spelled (NBD protocol, "Values" and "Message format"). Numbers are
--- big-endian. A value has one spelling, and no spelling begins another of its kind.
+-- big-endian. A value has one spelling. No spelling of a head, a request, an option or a reply to an option begins another
+-- of its kind; where a simple reply's data ends, the length of its READ says.
 use Rattle.std.specs.Prelude.{◌≡◌, ◌≢◌, ℕ, ◌<◌, ◌≤◌, ◌^◌, ◌⊎◌, List, [], ◌++◌, length, take}
 use Rattle.std.specs.Int.{w16, w32, w64, to_be_bytes}
 use Rattle.nbd_wire.specs.declared.requests.RequestHead.{RequestHead}
@@ -76,6 +77,12 @@ option_reply_head_text option kind count = to_be_bytes w64 0x0003e889045565a9 ++
 
 abbrev pub option_reply_text : ℕ → ℕ → List ℕ → List ℕ
 option_reply_text option kind content = option_reply_head_text option kind (length content) ++ content
+
+-- each number fits its place
+pub record IsOptionReply (o k : ℕ) (content : List ℕ) : Type 0 where
+  pub option : o < 2 ^ 32
+  pub kind : k < 2 ^ 32
+  pub count : length content < 2 ^ 32
 
 -- ---- what stands at a request's place, where no whole request stands there
 

@@ -6,7 +6,7 @@ use std::marker::Model;
 
 /// The requests of a stream that comes in pieces of any size (NBD protocol, "Request message").
 ///
-/// It holds the bytes of a request that isn't whole yet. No piece brings it back once a call failed.
+/// It holds the bytes of a request that isn't whole yet. Once a call failed it takes no more pieces, and each call answers `Failed`.
 #[derive(Drop)]
 pub struct Decoder<A: Allocator + Copy> {
     held: Vec<u8, A>,

@@ -1,6 +1,13 @@
-//! Each value has one spelling, and no spelling begins another of its kind.
+//! Each value has one spelling, and no spelling begins another of its kind, but for the data of a simple reply.
 ghost use Rattle.std.specs.Prelude.{◌≡◌, ℕ, List, ◌++◌, ◌<◌, ◌^◌, length};
-ghost use Rattle.nbd_wire.specs.Grammar.{IsRequest, RequestMessage, ReplyMessage, IsReply, request_text, reply_text, option_head_text};
+ghost use Rattle.nbd_wire.specs.declared.requests.RequestHead.{RequestHead};
+ghost use Rattle.nbd_wire.specs.Grammar.{IsHead, IsRequest, RequestMessage, ReplyMessage, IsReply, IsOptionReply, head_text, request_text, reply_text, option_head_text, option_reply_text};
+
+/// Where the head of a request begins some bytes, they tell which, and where it ends.
+pub fn one_head()
+    ensures { (a b : RequestHead) (x y : List ℕ) → IsHead a → IsHead b
+        → head_text a ++ x ≡ head_text b ++ y → (a ≡ b) × (x ≡ y) }
+{}
 
 /// Where a request begins some bytes, they tell which, and where it ends.
 pub fn one_request()
@@ -18,4 +25,10 @@ pub fn one_option_head()
 pub fn one_reply()
     ensures { (a b : ReplyMessage) (x y : List ℕ) → IsReply a → IsReply b → length a.content ≡ length b.content
         → reply_text a ++ x ≡ reply_text b ++ y → (a ≡ b) × (x ≡ y) }
+{}
+
+/// Where a reply to an option begins some bytes, they tell its option, its kind and its data, and where it ends.
+pub fn one_option_reply()
+    ensures { (o k p l : ℕ) (c d x y : List ℕ) → IsOptionReply o k c → IsOptionReply p l d
+        → option_reply_text o k c ++ x ≡ option_reply_text p l d ++ y → (o ≡ p) × (k ≡ l) × (c ≡ d) × (x ≡ y) }
 {}

@@ -209,3 +209,13 @@ fn option_replies_with_each_growth_refused(rt: HostRuntime) -> Result<(), Fail> 
     assert!(rt; refused >= 2);
     Ok(())
 }
+
+// Each law holds, so it can be called anywhere.
+#[test]
+fn laws_of_spelling(_rt: HostRuntime) {
+    one_head();
+    one_request();
+    one_option_head();
+    one_reply();
+    one_option_reply();
+}

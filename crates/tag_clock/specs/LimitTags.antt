@@ -1,4 +1,4 @@
--- Limit tags without recursion: what those of one export are, by the moments of its accepted arrivals alone.
+-- The limit tags of one export, from the moments of its accepted arrivals alone, without an earlier tag.
 use Rattle.std.specs.Prelude.{ℕ, ◌+◌, ◌*◌, max, ℤ, pos, List, [], ◌∷◌, length, map}
 use Rattle.tag_clock.specs.Clocks.{Limit, limit_tag, limit_after}
 

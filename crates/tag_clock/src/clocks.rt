@@ -153,6 +153,7 @@ mod tests {
         let mut clock = LimitClock::new(100_000_000);
         assert_eq!(rt; clock.admit(at(10)?), 10);
         assert_eq!(rt; clock.admit(at(0)?), 100_000_010);
+        limit_tags_unrolled();
         Ok(())
     }
 

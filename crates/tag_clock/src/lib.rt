@@ -13,7 +13,7 @@ pub use tuning::Tuning;
 
 /// The tags of a request, in nanoseconds (mClock, tag assignment).
 ///
-/// By `r`, there where the export has a reservation, the request is due to be served whatever the others ask.
+/// From `r` on, which is there where the export has a reservation, the request goes before any that is chosen by weight.
 /// Before `l` it isn't served by weight. Among those within their limits the least `p` goes first.
 #[derive(Clone, Copy, Debug, PartialEq, Eq, Drop)]
 pub struct Tags {

@@ -22,7 +22,7 @@ impl Model for Moment {
 }
 
 impl Moment {
-    /// None where the moment would be too late.
+    /// None from 2^62 nanoseconds on.
     pub fn new(nanoseconds: u64) -> Option<Moment>
         ensures valid { IsSome result ↔ (nanoseconds < 2 ^ 62) }
         ensures value { IfSome result (λ moment. moment ≡ nanoseconds) }
