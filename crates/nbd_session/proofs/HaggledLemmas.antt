@@ -4,7 +4,9 @@ use Rattle.std.specs.Prelude.{if◌then◌else◌, not}
 use Rattle.std.specs.Str.{bytes_eq}
 use Rattle.std.specs.List.{AllByRecursion, flat_map}
 use Rattle.std.proofs.lemmas.Bool.{lt-ltb, le-ltb, false_from_ne_true}
-use Rattle.std.proofs.lemmas.List.{append-nil, take_at, take-take}
+use Rattle.std.specs.Int.{w32, to_be_bytes}
+use Rattle.std.proofs.lemmas.Grind.{flat_map-append}
+use Rattle.std.proofs.lemmas.List.{append-nil, append_assoc, length-append, take_at, take-take}
 use Rattle.std.proofs.lemmas.Slice.Eq.{bytes_eq-Decides}
 use Rattle.nbd_base.specs.Words.{when_some}
 use Rattle.nbd_wire.specs.Grammar.{option_head_text, option_magic}
@@ -22,9 +24,9 @@ use Rattle.nbd_session.specs.declared.talking.End.{End}
 use Rattle.nbd_session.specs.declared.talking.End.TheVariants as ends
 use Rattle.nbd_session.specs.declared.talking.Entry.{Entry}
 use Rattle.nbd_session.specs.declared.talking.Entry.TheVariants as entries
-use Rattle.nbd_session.specs.Options.{text_to, GoesOn, OptionStops, StopsAt, Leaves, Haggles, entry_after}
+use Rattle.nbd_session.specs.Options.{asked_text, text_to, IsAsked, GoesOn, OptionStops, StopsAt, Leaves, Haggles, entry_after}
 use Rattle.nbd_session.specs.Conversation.{FlagsStop, HasFlags, Greeted, Shaken}
-use Rattle.nbd_session.specs.Haggled.{EndsAs, IsHaggled, HandshakeIsHaggled}
+use Rattle.nbd_session.specs.Haggled.{EndsAs, IsSent, IsHaggled, HandshakeIsHaggled}
 
 -- ---- a refused head
 
@@ -53,22 +55,36 @@ long_fault : (seen number count : ℕ) → count < 2 ^ 32 → seen < 1000 → 65
 long_fault seen number count small few long =
     faulty seen (option_head_text number count) true false true (magic_of number count) (le-ltb _ _ (omega arith)) (ap (nat_lt 65536) (length_told number count small) ∙ lt-ltb _ _ long)
 
+-- the head, if one is looked at, stands first behind the options
+abbrev StandsFirst : List ℕ → Option (List ℕ) → Type 0
+StandsFirst behind head = (h : List ℕ) → head ≡ Some h → h ≡ take 16 behind
+
+no_head : (behind : List ℕ) → StandsFirst behind None
+no_head behind h is = absurd (cc)
+
+first_head : (bytes behind : List ℕ) → bytes ≡ take 16 behind → StandsFirst behind (Some bytes)
+first_head bytes behind first h is = sym (ap (λ (o : Option (List ℕ)). when_some o (λ text. text) []) is) ∙ first
+
 -- what stops the options is the end of the input, or a head that is refused
-record Stopped (seen : ℕ) (end : End) : Type 0 where
+record Stopped (seen : ℕ) (behind : List ℕ) (end : End) : Type 0 where
   pub head : Option (List ℕ)
   pub by : Option HaggleEnd
+  pub headed : StandsFirst behind head
   pub said : said_to_head seen head ≡ record { text = []; end = by }
   pub ends : EndsAs by (entries.Out end)
 
-by_head : (seen : ℕ) (bytes : List ℕ) (fault : HeadFault) (end : End) → head_fault seen bytes ≡ Some fault → entries.Out end ≡ entry_after (haggle_ends.BadHead fault) → Stopped seen end
-by_head seen bytes fault end is as_end = record { head = Some bytes; by = Some (haggle_ends.BadHead fault); said = rw is refl; ends = as_end }
+by_head : (seen : ℕ) (bytes behind : List ℕ) (fault : HeadFault) (end : End) → bytes ≡ take 16 behind → head_fault seen bytes ≡ Some fault → entries.Out end ≡ entry_after (haggle_ends.BadHead fault) → Stopped seen behind end
+by_head seen bytes behind fault end first is as_end = record { head = Some bytes; by = Some (haggle_ends.BadHead fault); headed = first_head bytes behind first; said = rw is refl; ends = as_end }
 
-stopped : (seen : ℕ) (behind : List ℕ) (end : End) → OptionStops seen behind end → Stopped seen end
-stopped seen behind ends.Over h = record { head = None; by = None; said = refl; ends = inl refl }
-stopped seen behind ends.Cut h = record { head = None; by = None; said = refl; ends = inr refl }
-stopped seen behind ends.BadMagic h = by_head seen (take 16 behind) head_faults.BadMagic ends.BadMagic (other_fault seen behind h.1) refl
-stopped seen behind ends.TooMany (number, count, more, is, fits, small, many) = by_head seen (option_head_text number count) head_faults.TooMany ends.TooMany (many_fault seen number count many) refl
-stopped seen behind ends.TooLong (number, count, more, is, fits, small, few, long) = by_head seen (option_head_text number count) head_faults.TooLong ends.TooLong (long_fault seen number count small few long) refl
+spelled_first : (number count : ℕ) (more behind : List ℕ) → behind ≡ option_head_text number count ++ more → option_head_text number count ≡ take 16 behind
+spelled_first number count more behind is = sym (ap (λ (t : List ℕ). take 16 t) is ∙ whole_head number count more)
+
+stopped : (seen : ℕ) (behind : List ℕ) (end : End) → OptionStops seen behind end → Stopped seen behind end
+stopped seen behind ends.Over h = record { head = None; by = None; headed = no_head behind; said = refl; ends = inl refl }
+stopped seen behind ends.Cut h = record { head = None; by = None; headed = no_head behind; said = refl; ends = inr refl }
+stopped seen behind ends.BadMagic h = by_head seen (take 16 behind) behind head_faults.BadMagic ends.BadMagic refl (other_fault seen behind h.1) refl
+stopped seen behind ends.TooMany (number, count, more, is, fits, small, many) = by_head seen (option_head_text number count) behind head_faults.TooMany ends.TooMany (spelled_first number count more behind is) (many_fault seen number count many) refl
+stopped seen behind ends.TooLong (number, count, more, is, fits, small, few, long) = by_head seen (option_head_text number count) behind head_faults.TooLong ends.TooLong (spelled_first number count more behind is) (long_fault seen number count small few long) refl
 stopped seen behind ends.Disc h = absurd h
 stopped seen behind ends.Abort h = absurd h
 stopped seen behind ends.NoExport h = absurd h
@@ -85,15 +101,38 @@ module _ (may : ℕ → Attached → Type 0) (table : List ExportFacts) where
   known_flags : (flags : ℕ) (bare : Bool) (asked : List Asked) (head : Option (List ℕ)) → wants_no_zeroes flags ≡ Some bare → haggled table flags asked head ≡ said_from table bare 0 asked head
   known_flags flags bare asked head known = ap (λ (o : Option Bool). when_some o (λ b. said_from table b 0 asked head) (ends_by [] haggle_ends.BadFlags)) known
 
+  all_asked : (bare : Bool) (os : List Asked) → AllByRecursion (GoesOn may table bare) os → AllByRecursion (IsAsked may table) os
+  all_asked bare [] h = tt
+  all_asked bare (o ∷ os) h = (h.0.asked, all_asked bare os h.1)
+
+  and_last : (os : List Asked) (last : Asked) → AllByRecursion (IsAsked may table) os → IsAsked may table last → AllByRecursion (IsAsked may table) (os ++ last ∷ [])
+  and_last [] last h l = (l, tt)
+  and_last (o ∷ os) last h l = (h.0, and_last os last h.1 l)
+
+  -- the client's flags, and the bytes behind them
+  record Flags (bytes more : List ℕ) (flags : ℕ) (bare : Bool) : Type 0 where
+    pub spelled : bytes ≡ to_be_bytes w32 flags ++ more
+    pub fits : flags < 2 ^ 32
+    pub known : wants_no_zeroes flags ≡ Some bare
+
   -- options behind each of which haggling goes on, and then no more
-  to_stop : (flags : ℕ) (bare : Bool) (os : List Asked) (text : List ℕ) (entry : Entry) (end : End) → wants_no_zeroes flags ≡ Some bare → AllByRecursion (GoesOn may table bare) os
-      → text ≡ flat_map (text_to table bare) os ++ [] → entry ≡ entries.Out end → Stopped (0 + length os) end → IsHaggled table text entry
-  to_stop flags bare os text entry end known each said is stop = record {
+  to_stop : (bytes more : List ℕ) (flags : ℕ) (bare : Bool) (os : List Asked) (text behind : List ℕ) (entry : Entry) (end : End) → Flags bytes more flags bare → AllByRecursion (GoesOn may table bare) os
+      → more ≡ flat_map asked_text os ++ behind → length os ≤ 1000
+      → text ≡ flat_map (text_to table bare) os ++ [] → entry ≡ entries.Out end → Stopped (0 + length os) behind end → IsHaggled may table bytes text entry
+  to_stop bytes more flags bare os text behind entry end f each spelled few said is stop = record {
     flags = flags;
     asked = os ++ [];
     head = stop.head;
     end = stop.by;
-    is = known_flags flags bare (os ++ []) stop.head known
+    sent = record {
+      behind = behind;
+      spelled = rw (append-nil os) (f.spelled ∙ ap (λ (t : List ℕ). to_be_bytes w32 flags ++ t) spelled);
+      fits = f.fits;
+      each = rw (append-nil os) (all_asked bare os each);
+      few = rw (append-nil os) few;
+      headed = stop.headed;
+    };
+    is = known_flags flags bare (os ++ []) stop.head f.known
         ∙ (options_in_turn table bare 0 os [] stop.head (open_all bare os each)
         ∙ (ap (λ (s : Said). and_then (texts_to table bare os) None s) stop.said
         ∙ ap (λ (t : List ℕ). record { text = t; end = stop.by }) (sym said)));
@@ -101,44 +140,65 @@ module _ (may : ℕ → Attached → Type 0) (table : List ExportFacts) where
   }
 
   -- and then one that ends haggling
-  to_last : (flags : ℕ) (bare : Bool) (os : List Asked) (last : Asked) (text later : List ℕ) (entry : Entry) (end : HaggleEnd) → wants_no_zeroes flags ≡ Some bare → AllByRecursion (GoesOn may table bare) os
-      → text ≡ flat_map (text_to table bare) os ++ later → said_to table bare last ≡ ends_by later end → entry ≡ entry_after end → IsHaggled table text entry
-  to_last flags bare os last text later entry end known each said ended is = record {
+  to_last : (bytes more : List ℕ) (flags : ℕ) (bare : Bool) (os : List Asked) (text behind later : List ℕ) (entry : Entry) (rest : List ℕ) → Flags bytes more flags bare → AllByRecursion (GoesOn may table bare) os
+      → more ≡ flat_map asked_text os ++ behind
+      → text ≡ flat_map (text_to table bare) os ++ later → Leaves may table bare (0 + length os) behind later entry rest → IsHaggled may table bytes text entry
+  to_last bytes more flags bare os text behind later entry rest f each spelled said l = record {
     flags = flags;
-    asked = os ++ last ∷ [];
+    asked = os ++ l.last ∷ [];
     head = None;
-    end = Some end;
-    is = known_flags flags bare (os ++ last ∷ []) None known
-        ∙ (options_in_turn table bare 0 os (last ∷ []) None (open_all bare os each)
-        ∙ (ap (λ (s : Said). and_then (texts_to table bare os) None (and_then s.text s.end (said_from table bare (0 + length os + 1) [] None))) ended
-        ∙ ap (λ (t : List ℕ). record { text = t; end = Some end }) (sym said)));
-    ends = is;
+    end = Some l.end;
+    sent = record {
+      behind = rest;
+      spelled = f.spelled ∙ ap (λ (t : List ℕ). to_be_bytes w32 flags ++ t) (spelled ∙ all_spelled);
+      fits = f.fits;
+      each = and_last os l.last (all_asked bare os each) l.asked;
+      few = few;
+      headed = no_head rest;
+    };
+    is = known_flags flags bare (os ++ l.last ∷ []) None f.known
+        ∙ (options_in_turn table bare 0 os (l.last ∷ []) None (open_all bare os each)
+        ∙ (ap (λ (s : Said). and_then (texts_to table bare os) None (and_then s.text s.end (said_from table bare (0 + length os + 1) [] None))) l.said
+        ∙ ap (λ (t : List ℕ). record { text = t; end = Some l.end }) (sym said)));
+    ends = l.is;
   }
+    where
+      all_spelled : flat_map asked_text os ++ behind ≡ flat_map asked_text (os ++ l.last ∷ []) ++ rest
+      all_spelled =
+          ap (λ (t : List ℕ). flat_map asked_text os ++ t) (l.spelled ∙ ap (λ (t : List ℕ). t ++ rest) (sym (append-nil (asked_text l.last))))
+          ∙ (sym (append_assoc (flat_map asked_text os) (asked_text l.last ++ []) rest)
+          ∙ ap (λ (t : List ℕ). t ++ rest) (sym (flat_map-append asked_text os (l.last ∷ []))))
 
-  at_stop : (flags : ℕ) (bare : Bool) (os : List Asked) (text behind : List ℕ) (entry : Entry) → wants_no_zeroes flags ≡ Some bare → AllByRecursion (GoesOn may table bare) os
-      → text ≡ flat_map (text_to table bare) os ++ [] → StopsAt (0 + length os) behind entry → IsHaggled table text entry
-  at_stop flags bare os text behind (entries.Out end) known each said h = to_stop flags bare os text (entries.Out end) end known each said refl (stopped (0 + length os) behind end h)
-  at_stop flags bare os text behind (entries.In n) known each said h = absurd h
-  at_stop flags bare os text behind entries.Refused known each said h = absurd h
+      few : length (os ++ l.last ∷ []) ≤ 1000
+      few = let lt : 0 + length os < 1000 = l.few in omega (arith, length-append os (l.last ∷ []))
 
-  of_options : (flags : ℕ) (bare : Bool) (bytes text : List ℕ) (entry : Entry) (rest : List ℕ) → wants_no_zeroes flags ≡ Some bare → Haggles may table bare 0 bytes text entry rest → IsHaggled table text entry
-  of_options flags bare bytes text entry rest known h =
+  at_stop : (bytes more : List ℕ) (flags : ℕ) (bare : Bool) (os : List Asked) (text behind : List ℕ) (entry : Entry) → Flags bytes more flags bare → AllByRecursion (GoesOn may table bare) os
+      → more ≡ flat_map asked_text os ++ behind → length os ≤ 1000
+      → text ≡ flat_map (text_to table bare) os ++ [] → StopsAt (0 + length os) behind entry → IsHaggled may table bytes text entry
+  at_stop bytes more flags bare os text behind (entries.Out end) f each spelled few said h = to_stop bytes more flags bare os text behind (entries.Out end) end f each spelled few said refl (stopped (0 + length os) behind end h)
+  at_stop bytes more flags bare os text behind (entries.In n) f each spelled few said h = absurd h
+  at_stop bytes more flags bare os text behind entries.Refused f each spelled few said h = absurd h
+
+  of_options : (bytes more : List ℕ) (flags : ℕ) (bare : Bool) (text : List ℕ) (entry : Entry) (rest : List ℕ) → Flags bytes more flags bare → Haggles may table bare 0 more text entry rest → IsHaggled may table bytes text entry
+  of_options bytes more flags bare text entry rest f h =
+      let count : 0 + length h.options ≤ 1000 = h.few in let few : length h.options ≤ 1000 = omega arith in
       elim h.ends [
-        | inl (none, left, stop) ↦ at_stop flags bare h.options text h.behind entry known h.each (h.said ∙ ap (λ (t : List ℕ). flat_map (text_to table bare) h.options ++ t) none) stop
-        | inr l ↦ to_last flags bare h.options l.last text h.later entry l.end known h.each h.said l.said l.is
+        | inl (none, left, stop) ↦ at_stop bytes more flags bare h.options text h.behind entry f h.each h.spelled few (h.said ∙ ap (λ (t : List ℕ). flat_map (text_to table bare) h.options ++ t) none) stop
+        | inr l ↦ to_last bytes more flags bare h.options text h.behind h.later entry rest f h.each h.spelled h.said l
       ]
 
-  abbrev Told : List ℕ → Entry → Type 0
-  Told later entry = ((later ≡ []) × EndsAs None entry) ⊎ IsHaggled table later entry
+  abbrev Told : List ℕ → List ℕ → Entry → Type 0
+  Told bytes later entry = ((later ≡ []) × (length bytes < 4) × EndsAs None entry) ⊎ IsHaggled may table bytes later entry
 
-  of_flags : (bytes later : List ℕ) (entry : Entry) → later ≡ [] → FlagsStop bytes entry → Told later entry
-  of_flags bytes later (entries.Out ends.Over) none h = inl (none, inl refl)
-  of_flags bytes later (entries.Out ends.Cut) none h = inl (none, inr refl)
+  of_flags : (bytes later : List ℕ) (entry : Entry) → later ≡ [] → FlagsStop bytes entry → Told bytes later entry
+  of_flags bytes later (entries.Out ends.Over) none h = inl (none, rw h (omega arith), inl refl)
+  of_flags bytes later (entries.Out ends.Cut) none h = inl (none, h.1, inr refl)
   of_flags bytes later (entries.Out ends.BadFlags) none (flags, more, is, fits, unknown) = inr (record {
     flags = flags;
     asked = [];
     head = None;
     end = Some haggle_ends.BadFlags;
+    sent = record { behind = more; spelled = is; fits = fits; each = tt; few = omega arith; headed = no_head more };
     is = ap (λ (o : Option Bool). when_some o (λ b. said_from table b 0 [] None) (ends_by [] haggle_ends.BadFlags)) unknown ∙ ap (λ (t : List ℕ). ends_by t haggle_ends.BadFlags) (sym none);
     ends = refl;
   })
@@ -152,9 +212,9 @@ module _ (may : ℕ → Attached → Type 0) (table : List ExportFacts) where
   of_flags bytes later (entries.In n) none h = absurd h
   of_flags bytes later entries.Refused none h = absurd h
 
-  of_greeted : (bytes later : List ℕ) (entry : Entry) (rest : List ℕ) → Greeted may table bytes later entry rest → Told later entry
+  of_greeted : (bytes later : List ℕ) (entry : Entry) (rest : List ℕ) → Greeted may table bytes later entry rest → Told bytes later entry
   of_greeted bytes later entry rest (inl h) = of_flags bytes later entry h.0 h.2
-  of_greeted bytes later entry rest (inr h) = inr (of_options h.flags h.bare h.more later entry rest h.known h.haggles)
+  of_greeted bytes later entry rest (inr h) = inr (of_options bytes h.more h.flags h.bare later entry rest (record { spelled = h.spelled; fits = h.fits; known = h.known }) h.haggles)
 
   pub handshake_is_haggled : HandshakeIsHaggled may table
   handshake_is_haggled bytes text entry rest (later, said, h) = (later, said, of_greeted bytes later entry rest h)
