@@ -6,9 +6,9 @@ use Rattle.std.proofs.lemmas.Option.{same_Some, none-some, slice_get-get_or}
 use Rattle.server_table.specs.declared.event.Event.{Event}
 use Rattle.nbd_base.specs.Words.{when_some}
 use Rattle.nbd_commands.specs.Terms.{Terms}
-use Rattle.server_table.specs.Table.{Row, Table, Setup, waits_in, is_due_by_reservation, is_due_by_limit, precedes, foremost, r_key, p_key, choice, opening_table}
+use Rattle.server_table.specs.Table.{Row, Table, Setup, waits_in, is_due_by_reservation, is_due_by_limit, precedes, foremost, r_key, p_key, choice, opening_table, choice_with}
 use Rattle.server_table.specs.Steps.{step, table_after, last_table}
-use Rattle.core_laws.specs.Heads.{first_rows, choice_among}
+use Rattle.core_laws.specs.Heads.{first_rows}
 use Rattle.core_laws.specs.Runs.{Run}
 use Rattle.core_laws.proofs.Order.{before, Mem, mem_filter, mem_all, mem_of_filter, mem_passes, foremost_mem, foremost_first}
 use Rattle.core_laws.proofs.Tidy.{Sorted, rows_of, Lowers, chosen_first, Tidy}
@@ -126,7 +126,7 @@ foremost_of_first key due low setup table ordered = go (foremost key (filter due
         let same : Some c ≡ Some d = sym first ∙ ap (λ k. slice_get (filter (waits_in k) table.rows) 0) exports ∙ d_head.0 in
         is ∙ same ∙ sym other.1
 
-pub same_choice : (setup : Setup) (table : Table) → Ordered setup table → choice setup.inflight table ≡ choice_among setup.inflight (length (filter (λ row. row.out) table.rows)) table.now (first_rows (length setup.exports) table.rows)
+pub same_choice : (setup : Setup) (table : Table) → Ordered setup table → choice setup.inflight table ≡ choice_with setup.inflight (length (filter (λ row. row.out) table.rows)) (record table { rows = first_rows (length setup.exports) table.rows })
 same_choice setup table ordered = rw (← foremost_of_first r_key (is_due_by_reservation table.now) (lowers_r table.now) setup table ordered, ← foremost_of_first p_key (is_due_by_limit table.now) (lowers_p table.now) setup table ordered) refl
 
 module _ {A : Type 0} where
@@ -151,7 +151,7 @@ module _ {A : Type 0} where
           blank = record { size = 0; read_only = false; depth = 0; window = 0; r_interval = None; l_interval = 0; p_interval = 0 }
       go e (Some terms) is lt = (tidy_all run.setup terms e is run.events (opening_table run.setup) run.marks (opening_tidy run.setup terms e is)).sorted
 
-  pub heads_are_enough : (run : Run A) (t : ℕ) → choice run.setup.inflight (record (last_table run.setup run.events run.marks) { now = t }) ≡ choice_among run.setup.inflight (length (filter (λ row. row.out) (last_table run.setup run.events run.marks).rows)) t (first_rows (length run.setup.exports) (last_table run.setup run.events run.marks).rows)
+  pub heads_are_enough : (run : Run A) (t : ℕ) → choice run.setup.inflight (record (last_table run.setup run.events run.marks) { now = t }) ≡ choice_with run.setup.inflight (length (filter (λ row. row.out) (last_table run.setup run.events run.marks).rows)) (record (last_table run.setup run.events run.marks) { now = t; rows = first_rows (length run.setup.exports) (last_table run.setup run.events run.marks).rows })
   heads_are_enough run t =
       let last : Ordered run.setup (last_table run.setup run.events run.marks) = ordered_last run in
       same_choice run.setup (record (last_table run.setup run.events run.marks) { now = t }) (record { there = record { rows = last.there.rows }; sorted = last.sorted })

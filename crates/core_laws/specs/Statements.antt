@@ -13,12 +13,12 @@ use Rattle.lone_export.specs.LimitTags.{given_tags, accepted_moments}
 use Rattle.server_table.specs.declared.event.Event.{Event}
 use Rattle.server_table.specs.declared.event.Event.TheVariants.{Arrive, Dispatch}
 use Rattle.server_table.specs.declared.event.Answer.TheVariants.{Answered, Picked, Nothing}
-use Rattle.server_table.specs.Table.{Row, Table, Setup, part, side, waits_in, choice}
+use Rattle.server_table.specs.Table.{Row, Table, Setup, part, side, waits_in, choice, choice_with}
 use Rattle.server_table.specs.Steps.{step, outstanding_in}
 use Rattle.server_table.specs.Shares.{named, is_made}
 use Rattle.core_laws.specs.Runs.{Run, answers_in, table_in, own_steps, told_answers, last_part, HasExport}
 use Rattle.core_laws.specs.Counts.{choices_by, first_moment}
-use Rattle.core_laws.specs.Heads.{first_rows, choice_among}
+use Rattle.core_laws.specs.Heads.{first_rows}
 use Rattle.core_laws.specs.Made.{made_events, made_marks}
 
 module _ {A : Type 0} where
@@ -52,11 +52,11 @@ module _ {A : Type 0} where
   HasUnrolledTags run = (e : ℕ) (terms : Terms) → HasExport run e terms →
       given_tags (told_answers e run) ≡ limit_tags terms.l_interval (accepted_moments (own_steps e run) (told_answers e run))
 
-  -- in the last table, whatever the moment, the choice is that among the first waiting row of each export
+  -- in the last table, whatever the moment, the choice is that among the first waiting row of each export, with as many out
   abbrev pub HeadsSuffice : Run A → Type 0
   HeadsSuffice run = (table : Table) (now : ℕ) → table ≡ table_in run →
       choice run.setup.inflight (record table { now = now }) ≡
-      choice_among run.setup.inflight (length (filter (λ row. row.out) table.rows)) now (first_rows (length run.setup.exports) table.rows)
+      choice_with run.setup.inflight (length (filter (λ row. row.out) table.rows)) (record table { now = now; rows = first_rows (length run.setup.exports) table.rows })
 
   -- of an export's requests none is chosen while the greatest moment of a dispatch is below its first accepted arrival
   abbrev pub ChoosesNoneBefore : Run A → Type 0

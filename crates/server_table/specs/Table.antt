@@ -49,10 +49,11 @@ opening_side terms = record { image = replicate terms.size 0; sessions = []; nex
 abbrev pub opening_table : Setup → Table
 opening_table setup = record { rows = []; sides = map opening_side setup.exports; now = 0 }
 
--- the side of an export that is there
+-- what stands for the side of an export that isn't there
 abbrev pub no_side : Side
 no_side = record { image = []; sessions = []; next = 0; last_r = None; last_l = None; last_p = None; count = 0 }
 
+-- the side of export e
 abbrev pub side : Table → ℕ → Side
 side table e = get_or table.sides e no_side
 
@@ -114,12 +115,16 @@ pub record Choice : Type 0 where
   pub row : Row
   pub phase : Phase
 
--- none where as many are out as may be; else the least R that is due; else the least P whose limit allows it
-abbrev pub choice : ℕ → Table → Option Choice
-choice inflight table =
-    if nat_le inflight (length (filter (λ row. row.out) table.rows)) then None
+-- with so many out: none where as many are out as may be; else the least R that is due; else the least P whose limit
+-- allows it
+abbrev pub choice_with : ℕ → ℕ → Table → Option Choice
+choice_with inflight out table =
+    if nat_le inflight out then None
     else when_some (foremost r_key (due_by_reservation table)) (λ row. Some (record { row = row; phase = Reservation }))
     (when_some (foremost p_key (due_by_limit table)) (λ row. Some (record { row = row; phase = Weight })) None)
+
+abbrev pub choice : ℕ → Table → Option Choice
+choice inflight table = choice_with inflight (length (filter (λ row. row.out) table.rows)) table
 
 -- ---- shift and credit (mClock, tag adjustment)
 
