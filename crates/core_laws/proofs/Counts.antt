@@ -21,7 +21,8 @@ use Rattle.tag_clock.specs.Tags.{later}
 use Rattle.server_table.specs.Steps.{Outcome, step, with_sessions, is_out_row, outstanding_in, accepted_in, new_row, with_last, done_side, undone_side, done_in, undone_in, send, sent, is_by_weight, with_credit, answers_of, run_answers, entered_in, seated, outcome}
 use Rattle.core_laws.specs.Counts.{choices_by, is_phase, now_after, is_choice_in, choices, accepted_at, first_accepted}
 use Rattle.lone_export.proofs.Cases.{if_one, some_one, some_told}
-use Rattle.core_laws.proofs.Lists.{length-change_at, unseen-change_at, unseen-change_each, get_or-change_at, get_or-change_at_other, filter-map, filter_swap}
+use Rattle.nbd_base.proofs.Words.{length-change_at}
+use Rattle.core_laws.proofs.Lists.{unseen-change_at, unseen-change_each, get_or-change_at, get_or-change_at_other, filter-map, filter_swap}
 use Rattle.core_laws.proofs.Order.{Mem, mem_filter, mem_all, mem_of_filter, mem_passes, foremost_mem}
 use Rattle.core_laws.proofs.Tidy.{is_of, rows_of, filter-and, IsKept, latest, Tidy}
 use Rattle.core_laws.proofs.Chosen.{IsChosen, is_chosen, choice_first, and_left, and_right, not_true, tidy_step, same_record, tidy_now}

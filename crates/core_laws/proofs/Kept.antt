@@ -15,7 +15,8 @@ use Rattle.tag_clock.specs.Tags.{later}
 use Rattle.server_table.specs.Steps.{Outcome, outcome, with_sessions, is_out_row, new_row, with_last, accepted_in, done_side, undone_side, done_in, undone_in, send, sent, entered_in, seated}
 use Rattle.server_table.specs.Order.{TagBefore}
 use Rattle.lone_export.proofs.Cases.{if_one, some_one}
-use Rattle.core_laws.proofs.Lists.{all_here, all-append, length-change_at, length-change_each, get_or-change_at, get_or-change_at_other, get_or-change_each, unseen-change_at}
+use Rattle.nbd_base.proofs.Words.{length-change_at}
+use Rattle.core_laws.proofs.Lists.{all_here, all-append, length-change_each, get_or-change_at, get_or-change_at_other, get_or-change_each, unseen-change_at}
 use Rattle.core_laws.proofs.Order.{larger, lowered_le}
 use Rattle.core_laws.proofs.Parts.{put_own, put_other}
 use Rattle.core_laws.proofs.Tidy.{IsBefore, Latest, latest, IsKept, Sorted, is_of, rows_of, is_of_all, Sorted-push, all_both, Tidy, tidy_same, tidy_filter, tidy_map}

@@ -7,11 +7,6 @@ use Rattle.lone_export.proofs.Cases.{if_one, if_told, if_both}
 
 -- ---- one element changed
 
-pub length-change_at : {A : Type 0} (f : A → A) (k : ℕ) (xs : List A) → length (change_at f k xs) ≡ length xs
-length-change_at f k [] = refl
-length-change_at f zero (x ∷ xs) = refl
-length-change_at f (suc k) (x ∷ xs) = ap suc (length-change_at f k xs)
-
 pub get_or-change_at : {A : Type 0} (f : A → A) (k : ℕ) (xs : List A) (d : A) → k < length xs → get_or (change_at f k xs) k d ≡ f (get_or xs k d)
 get_or-change_at f k [] d lt = absurd (omega arith)
 get_or-change_at f zero (x ∷ xs) d lt = refl

@@ -4,17 +4,12 @@ use Rattle.std.proofs.lemmas.Bool.{cases_eq, cases_lt, eq-eqb, eqb-true, ne_eqb}
 use Rattle.std.specs.Ordering.{nat_cmp, eq_by_cmp}
 use Rattle.std.specs.Cmp.{nat_cmp_total, unsigned_tied}
 use Rattle.std.specs.FinMap as fin
+use Rattle.nbd_base.proofs.Numbers.{tied_same, tied_other}
 use Rattle.slab.specs.Slab.{Slab, get, slab_len, entries, entries_from, Updates}
 use Rattle.slab.proofs.SlabLemmas.{Contains-cons, Contains-cons_cases, Contains-entries}
 use Rattle.export_queue.specs.declared.Numbered.{Numbered}
 use Rattle.export_queue.specs.Queue.{numbered, by_number, rows_of, item_if, view_of, after_push, after_pick, after_finish, item_of, IsFreshFrom, IsFree, IsNumberedFrom, IsInOrder, IsOnce, IsQueue}
 use Rattle.circular_buffer.specs.Buffer.{Buffer, buffer}
-
-tied_same : (m n : ℕ) → m ≡ n → eq_by_cmp nat_cmp m n ≡ true
-tied_same m n e = unsigned_tied m n ∙ eq-eqb m n e
-
-tied_other : (m n : ℕ) → m ≢ n → eq_by_cmp nat_cmp m n ≡ false
-tied_other m n e = unsigned_tied m n ∙ ne_eqb m n e
 
 -- two options that hold the same values are equal
 pub same_option : {X : Type 0} (a b : Option X) → ((x : X) → a ≡ Some x → b ≡ Some x) → ((x : X) → b ≡ Some x → a ≡ Some x) → a ≡ b

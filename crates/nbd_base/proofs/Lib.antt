@@ -1,1 +1,3 @@
 pub mod Least
+pub mod Numbers
+pub mod Words

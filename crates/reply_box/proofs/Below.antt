@@ -1,7 +1,9 @@
 -- Lists of what stands at each number below another.
 use Rattle.std.proofs.Common.{◌≡◌, ◌≢◌, ℕ, zero, suc, ◌+◌, ◌<◌, ◌≤◌, Bool, true, false, List, [], ◌∷◌, ◌++◌, length, filter, slice_get, Some, None, if◌then◌else◌, refl, sym, ap, ◌∙◌, inl, inr, arith, length-append}
 use Rattle.std.proofs.lemmas.Bool.{cases_eq, cases_lt}
+use Rattle.std.proofs.lemmas.Option.{slice_get_past}
 use Rattle.nbd_base.specs.Words.{change_at}
+use Rattle.nbd_base.proofs.Words.{change-inside, change-last, change-past}
 use Rattle.reply_box.specs.Seats.{each_below}
 
 module _ {X : Type 0} where
@@ -20,11 +22,6 @@ module _ {X : Type 0} where
   get-last (y ∷ xs) x zero h = absurd (omega arith)
   get-last (y ∷ xs) x (suc s) h = get-last xs x s (omega arith)
 
-  get-past : (xs : List X) (s : ℕ) → length xs ≤ s → slice_get xs s ≡ None
-  get-past [] s h = refl
-  get-past (x ∷ xs) zero h = absurd (omega arith)
-  get-past (x ∷ xs) (suc s) h = get-past xs s (omega arith)
-
   -- what stands at a number below n
   pub get-each_below : (f : ℕ → X) (n s : ℕ) → s < n → slice_get (each_below f n) s ≡ Some (f s)
   get-each_below f zero s h = absurd (omega arith)
@@ -36,28 +33,12 @@ module _ {X : Type 0} where
       ]
 
   pub past-each_below : (f : ℕ → X) (n s : ℕ) → n ≤ s → slice_get (each_below f n) s ≡ None
-  past-each_below f n s h = get-past (each_below f n) s (let a = length-each_below f n in omega arith)
+  past-each_below f n s h = slice_get_past (each_below f n) s (let a = length-each_below f n in omega arith)
 
   -- what is alike below n
   pub each_below-alike : (n : ℕ) (f g : ℕ → X) → ((k : ℕ) → k < n → g k ≡ f k) → each_below g n ≡ each_below f n
   each_below-alike zero f g alike = refl
   each_below-alike (suc n) f g alike = rw (each_below-alike n f g (λ k h. alike k (omega arith)), alike n (omega arith)) refl
-
-  change-inside : (h : X → X) (xs : List X) (x : X) (s : ℕ) → s < length xs → change_at h s (xs ++ x ∷ []) ≡ change_at h s xs ++ x ∷ []
-  change-inside h [] x s l = absurd (omega arith)
-  change-inside h (y ∷ xs) x zero l = refl
-  change-inside h (y ∷ xs) x (suc s) l = ap (λ zs. y ∷ zs) (change-inside h xs x s (omega arith))
-
-  change-last : (h : X → X) (xs : List X) (x : X) (s : ℕ) → s ≡ length xs → change_at h s (xs ++ x ∷ []) ≡ xs ++ h x ∷ []
-  change-last h [] x zero l = refl
-  change-last h [] x (suc s) l = absurd (omega arith)
-  change-last h (y ∷ xs) x zero l = absurd (omega arith)
-  change-last h (y ∷ xs) x (suc s) l = ap (λ zs. y ∷ zs) (change-last h xs x s (omega arith))
-
-  change-past : (h : X → X) (s : ℕ) (xs : List X) → length xs ≤ s → change_at h s xs ≡ xs
-  change-past h s [] l = refl
-  change-past h zero (x ∷ xs) l = absurd (omega arith)
-  change-past h (suc s) (x ∷ xs) l = ap (λ ys. x ∷ ys) (change-past h s xs (omega arith))
 
   -- one number has another value
   pub each_below-change : (h : X → X) (n s : ℕ) (f g : ℕ → X) → g s ≡ h (f s) → ((k : ℕ) → k ≢ s → g k ≡ f k) → each_below g n ≡ change_at h s (each_below f n)
@@ -79,35 +60,6 @@ module _ {X : Type 0} where
       ]
 
   -- ---- how many pass a test
-
-  pub filter-change_same : (p : X → Bool) (h : X → X) (s : ℕ) (xs : List X) → ((x : X) → slice_get xs s ≡ Some x → p (h x) ≡ p x) → length (filter p (change_at h s xs)) ≡ length (filter p xs)
-  filter-change_same p h s [] same = refl
-  filter-change_same p h zero (x ∷ xs) same = by (p x) (p (h x)) (same x refl)
-    where
-      by : (a b : Bool) → b ≡ a → length (if b then h x ∷ filter p xs else filter p xs) ≡ length (if a then x ∷ filter p xs else filter p xs)
-      by true true e = refl
-      by true false e = absurd (cc)
-      by false true e = absurd (cc)
-      by false false e = refl
-  filter-change_same p h (suc s) (x ∷ xs) same = by (p x) (filter-change_same p h s xs same)
-    where
-      by : (b : Bool) → length (filter p (change_at h s xs)) ≡ length (filter p xs)
-          → length (if b then x ∷ filter p (change_at h s xs) else filter p (change_at h s xs)) ≡ length (if b then x ∷ filter p xs else filter p xs)
-      by true again = ap suc again
-      by false again = again
-
-  -- one that passed does no longer
-  pub filter-change_less : (p : X → Bool) (h : X → X) (s : ℕ) (xs : List X) (x : X) → slice_get xs s ≡ Some x → p x ≡ true → p (h x) ≡ false → length (filter p (change_at h s xs)) + 1 ≡ length (filter p xs)
-  filter-change_less p h s [] x here was is = absurd (cc)
-  filter-change_less p h zero (y ∷ xs) x here was is =
-      let e : y ≡ x = cc in
-      rw (ap p e ∙ was, ap (λ z. p (h z)) e ∙ is) (omega arith)
-  filter-change_less p h (suc s) (y ∷ xs) x here was is = by (p y) (filter-change_less p h s xs x here was is)
-    where
-      by : (b : Bool) → length (filter p (change_at h s xs)) + 1 ≡ length (filter p xs)
-          → length (if b then y ∷ filter p (change_at h s xs) else filter p (change_at h s xs)) + 1 ≡ length (if b then y ∷ filter p xs else filter p xs)
-      by true again = omega arith
-      by false again = again
 
   -- one more that passes, at the end
   pub filter-append_one : (p : X → Bool) (xs : List X) (x : X) → p x ≡ true → length (filter p (xs ++ x ∷ [])) ≡ length (filter p xs) + 1

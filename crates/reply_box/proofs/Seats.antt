@@ -6,6 +6,8 @@ use Rattle.std.specs.Map.{lookup}
 use Rattle.std.specs.Cmp.{unsigned_tied}
 use Rattle.std.specs.BTreeMap.{BTreeMap, get, btree_map_len, Updates}
 use Rattle.circular_buffer.specs.Buffer.{Buffer, buffer, keep_last}
+use Rattle.nbd_base.proofs.Numbers.{tied_same, tied_other}
+use Rattle.nbd_base.proofs.Words.{filter-change_same, filter-change_less}
 use Rattle.nbd_base.specs.Words.{change_at, when_some}
 use Rattle.nbd_wire.specs.Grammar.{ReplyMessage}
 use Rattle.reply_box.specs.declared.seat.Seat.{Seat}
@@ -14,13 +16,7 @@ use Rattle.reply_box.specs.declared.seat.SessionState.TheVariants.{Open, Left, G
 use Rattle.reply_box.specs.Sessions.{Session, posted, is_here, is_open_state, is_left_state, is_here_state, is_open_at, is_left_at, is_here_at, outbox_at, state_at, new_session}
 use Rattle.reply_box.specs.Box.{Box, is_full, after_attach, after_admit, after_put, after_take, after_leave, after_gone, owed_at, outstanding_at, Takes, IsInBounds}
 use Rattle.reply_box.specs.Seats.{each_below, state_of, quiet, session_of, owed_of, sessions_of, box_of, IsSeat, IsBox}
-use Rattle.reply_box.proofs.Below.{length-each_below, get-each_below, past-each_below, each_below-alike, each_below-change, filter-change_same, filter-change_less, filter-append_one}
-
-tied_same : (m n : ℕ) → m ≡ n → eq_by_cmp nat_cmp m n ≡ true
-tied_same m n e = unsigned_tied m n ∙ eq-eqb m n e
-
-tied_other : (m n : ℕ) → m ≢ n → eq_by_cmp nat_cmp m n ≡ false
-tied_other m n e = unsigned_tied m n ∙ ne_eqb m n e
+use Rattle.reply_box.proofs.Below.{length-each_below, get-each_below, past-each_below, each_below-alike, each_below-change, filter-append_one}
 
 each_below-next : {X : Type 0} (f : ℕ → X) (n : ℕ) → each_below f (n + 1) ≡ each_below f n ++ f n ∷ []
 each_below-next f n = let e : n + 1 ≡ suc n = omega arith in ap (each_below f) e
