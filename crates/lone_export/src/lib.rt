@@ -5,6 +5,7 @@ mod laws;
 mod lone;
 mod refusal;
 mod row;
+mod said;
 mod step;
 
 pub use laws::steps_to_come;
