@@ -6,3 +6,4 @@ pub mod Asked
 pub mod Done
 pub mod Opening
 pub mod Again
+pub mod Tags

@@ -83,10 +83,9 @@ module _ {A : Type 0} where
   DoesOr old new step None = new ≡ old
   DoesOr old new step (Some answer) = Does old new step answer
 
-  -- whether a step may be made again: a pick asks that fewer be out than may
+  -- a step may be made again; for a pick fewer are out than may be
   abbrev pub MayReplay : Whole → Step A → Type 0
-  MayReplay w Pick = length w.state.out < w.inflight
-  MayReplay w step = Unit {0}
+  MayReplay w step = step ≡ Pick → length w.state.out < w.inflight
 
   abbrev pub attach_refusal_said : AttachRefusal → StepAnswer A
   attach_refusal_said attaching.Worn = said.Worn
