@@ -1,4 +1,4 @@
--- Limit tags: what a choice by weight asks, and what they are in a run of one export alone.
+-- Limit tags: what a choice by weight asks.
 use Rattle.std.proofs.Common.{◌≡◌, ◌⊎◌, ℕ, suc, ◌^◌, max, Bool, true, false, not, ◌&&◌, nat_le, ◌==◌, List, [], ◌∷◌, ◌++◌, length, map, filter, find, slice_get, Some, None, ℤ, pos, ◌≤ℤ◌, int_le, refl, sym, ap, ap₂, ◌∙◌, arith, inl, inr}
 use Rattle.std.proofs.lemmas.Int.{ints}
 use Rattle.tag_clock.specs.declared.Phase.{Phase}
@@ -36,10 +36,6 @@ credit_now setup chosen table =
     P : Table → Type 0
     P a = a.now ≡ table.now
 
--- the tag of one arrival more
-next_tag : (terms : Terms) (state : Alone) (before : List ℕ) (t : ℕ) → state.last ≡ last_of terms.l_interval before → limit_tag terms state t ≡ pos (unrolled terms.l_interval (before ++ t ∷ []))
-next_tag terms state before t is = rw is (later-last_of terms.l_interval before t)
-
 module _ {A : Type 0} where
   pub weight_waits : (setup : Setup) (table : Table) (e n t : ℕ) (memory : Bool) → (step {A = A} setup table (Dispatch t) memory).answer ≡ said.Picked e n Weight →
       (k : ℕ) × (row : Row) × (slice_get table.rows k ≡ Some row) × (row.export ≡ e) × (row.number ≡ n) × (row.out ≡ false) × (row.l ≤ℤ pos (step {A = A} setup table (Dispatch t) memory).table.now)
@@ -72,54 +68,3 @@ module _ {A : Type 0} where
           let due : is_due_by_limit now.now chosen.row ≡ true = mem_passes (is_due_by_limit now.now) chosen.row table.rows m in
           let f : (chosen.row.export ≡ e) × (chosen.row.number ≡ n) × (chosen.phase ≡ Weight) = fields chosen.row.export chosen.row.number chosen.phase answer in
           (at.0, chosen.row, at.1, f.0, f.1, not_true chosen.row.out (and_left (not chosen.row.out) _ due), rw (credit_now setup chosen (sent chosen.row now)) (under chosen.row.l now.now (and_right (not chosen.row.out) _ due)))
-
-  -- ---- limit tags unrolled
-
-  -- a step gives no tag and leaves the last one, or is an arrival that is given the next one
-  record Tags (terms : Terms) (state : Alone) (one : Step A) (moved : Moved A) : Type 0 where
-    tags : ((tag_of moved.answer ≡ None) × (moved.state.last ≡ state.last)) ⊎ ((t : ℕ) × (arrived one ≡ Some t) × (tag_of moved.answer ≡ Some (limit_tag terms state t)) × (moved.state.last ≡ Some (limit_tag terms state t)))
-
-  no_tag : (terms : Terms) (state : Alone) (one : Step A) (moved : Moved A) → tag_of moved.answer ≡ None → moved.state.last ≡ state.last → Tags terms state one moved
-  no_tag terms state one moved h k = record { tags = inl (h, k) }
-
-  tags_of_step : (terms : Terms) (state : Alone) (one : Step A) → Tags terms state one (own_step terms state one)
-  tags_of_step terms state Attach =
-      let P = Tags terms state Attach in
-      if_one P (nat_le (2 ^ 56) state.count) (no_tag terms state Attach _ refl refl) (if_one P (length (filter is_here state.sessions) == 64) (no_tag terms state Attach _ refl refl) (no_tag terms state Attach _ refl refl))
-  tags_of_step terms state (Arrive s t q) =
-      let P = Tags terms state (Arrive s t q) in
-      if_one P (not (is_open_at state.sessions s)) (no_tag terms state (Arrive s t q) _ refl refl)
-      (if_one P (nat_le (2 ^ 56) state.count) (no_tag terms state (Arrive s t q) _ refl refl)
-      (if_one P (outstanding state s == terms.window) (no_tag terms state (Arrive s t q) _ refl refl)
-      (if_one P (not (verdict_of terms q == 0)) (no_tag terms state (Arrive s t q) _ refl refl)
-      (if_one P (length state.waiting == terms.depth) (no_tag terms state (Arrive s t q) _ refl refl)
-      (record { tags = inr (t, refl, refl, refl) })))))
-  tags_of_step terms state Pick = some_one (Tags terms state Pick) (slice_get state.waiting 0) (λ job h. no_tag terms state Pick _ refl refl) (no_tag terms state Pick _ refl refl)
-  tags_of_step terms state (Perform n memory) =
-      let P = Tags terms state (Perform n memory) in
-      some_one P (find (λ job. job.number == n) state.out) (λ job h. if_one P (not memory && may_want_memory job.request) (no_tag terms state (Perform n memory) _ refl refl) (no_tag terms state (Perform n memory) _ refl refl)) (no_tag terms state (Perform n memory) _ refl refl)
-  tags_of_step terms state (Take s) =
-      let P = Tags terms state (Take s) in
-      if_one P (not (is_here_at state.sessions s)) (no_tag terms state (Take s) _ refl refl)
-      (some_one P (slice_get (outbox_at state.sessions s) 0) (λ reply h. no_tag terms state (Take s) _ refl refl)
-      (if_one P (is_left_at state.sessions s && outstanding state s == 0) (no_tag terms state (Take s) _ refl refl) (no_tag terms state (Take s) _ refl refl)))
-  tags_of_step terms state (Leave s) = if_one (Tags terms state (Leave s)) (not (is_open_at state.sessions s)) (no_tag terms state (Leave s) _ refl refl) (no_tag terms state (Leave s) _ refl refl)
-  tags_of_step terms state (Gone s) = if_one (Tags terms state (Gone s)) (not (is_here_at state.sessions s)) (no_tag terms state (Gone s) _ refl refl) (no_tag terms state (Gone s) _ refl refl)
-
-  tags_from : (terms : Terms) (steps : List (Step A)) (state : Alone) (before : List ℕ) → state.last ≡ last_of terms.l_interval before →
-      given_tags (answers_alone terms state steps) ≡ map (λ begun. pos (unrolled terms.l_interval (before ++ begun))) (beginnings (accepted_moments steps (answers_alone terms state steps)))
-  tags_from terms [] state before is = refl
-  tags_from terms (one ∷ steps) state before is = go (own_step terms state one) (tags_of_step terms state one).tags (λ next begun. tags_from terms steps next begun)
-    where
-      go : (moved : Moved A) → ((tag_of moved.answer ≡ None) × (moved.state.last ≡ state.last)) ⊎ ((t : ℕ) × (arrived one ≡ Some t) × (tag_of moved.answer ≡ Some (limit_tag terms state t)) × (moved.state.last ≡ Some (limit_tag terms state t))) →
-          ((next : Alone) (begun : List ℕ) → next.last ≡ last_of terms.l_interval begun → given_tags (answers_alone terms next steps) ≡ map (λ more. pos (unrolled terms.l_interval (begun ++ more))) (beginnings (accepted_moments steps (answers_alone terms next steps)))) →
-          given_tags (moved.answer ∷ answers_alone terms moved.state steps) ≡ map (λ begun. pos (unrolled terms.l_interval (before ++ begun))) (beginnings (accepted_moments (one ∷ steps) (moved.answer ∷ answers_alone terms moved.state steps)))
-      go moved (inl h) ih = rw h.0 (ih moved.state before (h.1 ∙ is))
-      go moved (inr h) ih =
-          let tag : limit_tag terms state h.0 ≡ pos (unrolled terms.l_interval (before ++ h.0 ∷ [])) = next_tag terms state before h.0 is in
-          rw (h.2, h.1) (ap₂ (λ x xs. x ∷ xs) tag
-          (ih moved.state (before ++ h.0 ∷ []) (h.3 ∙ ap Some tag ∙ sym (last_of-push terms.l_interval before h.0))
-          ∙ sym (begun_on terms.l_interval before h.0 (beginnings (accepted_moments steps (answers_alone terms moved.state steps))))))
-
-  pub unrolled_tags : (terms : Terms) (steps : List (Step A)) → given_tags (answers_alone terms (opening terms) steps) ≡ limit_tags terms.l_interval (accepted_moments steps (answers_alone terms (opening terms) steps))
-  unrolled_tags terms steps = tags_from terms steps (opening terms) [] refl

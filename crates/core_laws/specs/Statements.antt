@@ -116,9 +116,3 @@ WeightWaitsForItsLimit A setup table t memory = (e n : ℕ) →
     (step {A = A} setup table (Dispatch t) memory).answer ≡ Picked e n Weight →
     (k : ℕ) × (row : Row) × (slice_get table.rows k ≡ Some row) × (row.export ≡ e) × (row.number ≡ n) × (row.out ≡ false) ×
     (row.l ≤ℤ pos (step {A = A} setup table (Dispatch t) memory).table.now)
-
--- the limit tags that an export alone gives are those of the moments of its accepted arrivals
-abbrev pub GivesUnrolledTags : {A : Type 0} → Terms → List (Step A) → Type 0
-GivesUnrolledTags terms steps =
-    given_tags (answers_alone terms (opening terms) steps) ≡
-    limit_tags terms.l_interval (accepted_moments steps (answers_alone terms (opening terms) steps))

@@ -1,11 +1,12 @@
 //! The laws.
 ghost use Rattle.std.specs.Prelude.{ℕ, Bool, List};
 ghost use Rattle.nbd_commands.specs.Terms.{Terms};
+ghost use Rattle.lone_export.specs.LimitTags.{GivesUnrolledTags};
 ghost use Rattle.lone_export.specs.declared.step.Step.{Step};
 ghost use Rattle.server_table.specs.declared.event.Event.{Event};
 ghost use Rattle.server_table.specs.Table.{Table, Setup};
 ghost use Rattle.core_laws.specs.Runs.{Run};
-ghost use Rattle.core_laws.specs.Statements.{IsToldAsAlone, EndsAsAlone, IsToldTheSame, EndsTheSame, LeavesOthers, LeavesUnchosen, LeavesAll, QueueCountsItsOwn, WeightWaitsForItsLimit, GivesUnrolledTags, HasUnrolledTags, HeadsSuffice, ChoosesNoneBefore, ChoosesByLimit, ChoosesByReservation, KeepsOtherAnswers, KeepsLastTable};
+ghost use Rattle.core_laws.specs.Statements.{IsToldAsAlone, EndsAsAlone, IsToldTheSame, EndsTheSame, LeavesOthers, LeavesUnchosen, LeavesAll, QueueCountsItsOwn, WeightWaitsForItsLimit, HasUnrolledTags, HeadsSuffice, ChoosesNoneBefore, ChoosesByLimit, ChoosesByReservation, KeepsOtherAnswers, KeepsLastTable};
 
 use std::alloc::Allocator;
 

@@ -86,11 +86,18 @@ impl<T: Drop, A: Allocator + Copy> ExportQueue<T, A> {
         self.ring.is_full()
     }
 
+    /// How many items are out.
+    pub fn in_service(&self) -> usize
+        ensures { result ≡ fin.len self.now.out }
+    {
+        self.out.len()
+    }
+
     /// Whether fewer items are out than may be, so that one may be picked.
     pub fn may_pick(&self) -> bool
         ensures { IsTrue result ↔ (fin.len self.now.out < self.now.inflight) }
     {
-        self.out.len() < self.inflight
+        self.in_service() < self.inflight
     }
 
     /// The number that the next item gets. The first waiting item's is less by as many as wait.
@@ -242,6 +249,7 @@ mod tests {
         };
         assert_eq!(rt; first.number, 0);
         assert!(rt; !queue.may_pick());
+        assert_eq!(rt; queue.in_service(), 1);
         assert!(rt; queue.slot_of(0) == Some(first.slot));
         assert!(rt; queue.finish(first.slot, 1).is_none());
         assert!(rt; queue.finish(first.slot, 0) == Some(10));

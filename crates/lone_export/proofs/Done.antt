@@ -149,6 +149,16 @@ module _ {A : Type 0} where
           let rest : fin.find nat_cmp n es ≡ Some v = rw (tied_other n e.0 other) at h in
           rw (ne_eqb e.0 n (λ s. other (sym s))) (ih rest)
 
+  pub missing_job : (n : ℕ) (es : List (ℕ × (ℕ × Row A))) → fin.find nat_cmp n es ≡ None → find (λ job. job.number == n) (map out_job es) ≡ None
+  missing_job n [] h = refl
+  missing_job n (e ∷ es) h = by (cases_eq n e.0) h (λ k. missing_job n es k)
+    where
+      by : ((n ≡ e.0) ⊎ (n ≢ e.0)) → fin.find nat_cmp n (e ∷ es) ≡ None → (fin.find nat_cmp n es ≡ None → find (λ job. job.number == n) (map out_job es) ≡ None) → find (λ job. job.number == n) (map out_job (e ∷ es)) ≡ None
+      by (inl same) h ih = let here : Some e.1 ≡ None = rw (tied_same n e.0 same) at h in absurd (cc)
+      by (inr other) h ih =
+          let rest : fin.find nat_cmp n es ≡ None = rw (tied_other n e.0 other) at h in
+          rw (ne_eqb e.0 n (λ s. other (sym s))) (ih rest)
+
   map-filter : (k : ℕ) (es : List (ℕ × (ℕ × Row A))) → map out_job (filter (λ e. not (e.0 == k)) es) ≡ filter (λ job. not (job.number == k)) (map out_job es)
   map-filter k [] = refl
   map-filter k (e ∷ es) = by (e.0 == k) (map-filter k es)
@@ -178,7 +188,7 @@ module _ {A : Type 0} where
           at true e h = let same : r.0 ≡ slot = eqb-true r.0 slot e in let value : r.1 ≡ row = cc in λ i. Some (same i, value i)
           at false e h = absurd (cc)
 
-  found_held : (p : Parts A) (slot n : ℕ) (row : Row A) → item_held p.queue slot n ≡ Some row → find (λ job. job.number == n) (map out_job (fin.entries p.queue.out)) ≡ Some (out_job (n, (slot, row)))
+  pub found_held : (p : Parts A) (slot n : ℕ) (row : Row A) → item_held p.queue slot n ≡ Some row → find (λ job. job.number == n) (map out_job (fin.entries p.queue.out)) ≡ Some (out_job (n, (slot, row)))
   found_held p slot n row h = found_job n (fin.entries p.queue.out) (slot, row) (sym (fin.get-entries p.queue.out n) ∙ held_get p.queue slot n row h)
 
   -- a request that is out may be performed

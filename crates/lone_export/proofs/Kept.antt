@@ -1,5 +1,5 @@
 -- What is true of an export's parts is kept by each step.
-use Rattle.std.proofs.Common.{◌≡◌, ◌≢◌, ℕ, zero, suc, ◌+◌, ◌<◌, ◌≤◌, Bool, true, false, not, ◌==◌, ◌&&◌, IsTrue, ◌↔◌, List, [], ◌∷◌, ◌++◌, length, map, filter, drop, slice_get, Option, Some, None, if◌then◌else◌, refl, sym, ap, subst, ◌∙◌, inl, inr, arith, length-append, append_assoc}
+use Rattle.std.proofs.Common.{◌≡◌, ◌≢◌, ℕ, zero, suc, ◌+◌, ◌*◌, ◌<◌, ◌≤◌, ◌^◌, Bool, true, false, not, ◌==◌, ◌&&◌, IsTrue, ◌↔◌, List, [], ◌∷◌, ◌++◌, length, map, filter, drop, slice_get, Option, Some, None, if◌then◌else◌, refl, sym, ap, subst, ◌∙◌, inl, inr, arith, length-append, append_assoc}
 use Rattle.std.proofs.lemmas.Bool.{cases_eq}
 use Rattle.std.specs.FinMap as fin
 use Rattle.nbd_base.specs.Words.{when_some, change_at}
@@ -7,11 +7,11 @@ use Rattle.nbd_wire.specs.Grammar.{ReplyMessage}
 use Rattle.nbd_commands.specs.Terms.{Terms}
 use Rattle.reply_box.specs.declared.seat.SessionState.{SessionState}
 use Rattle.reply_box.specs.declared.seat.SessionState.TheVariants as place
-use Rattle.reply_box.specs.Sessions.{Session, is_here, is_here_state, is_open_state, is_open_at, is_here_at, is_left_at, outbox_at, take_at}
+use Rattle.reply_box.specs.Sessions.{Session, is_here, is_here_state, is_open_state, is_open_at, is_here_at, is_left_at, outbox_at, take_at, sessions_worth}
 use Rattle.reply_box.specs.Box.{Box, after_leave, after_gone, after_take, owed_at, outstanding_at, IsQuiet}
 use Rattle.export_queue.specs.Queue.{Queue, after_pick, after_pick_from, first_number}
 use Rattle.lone_export.specs.Alone.{Alone, Job, outstanding, moves, stays}
-use Rattle.lone_export.specs.Calls.{to_come, sessions_worth}
+use Rattle.lone_export.specs.Calls.{to_come}
 use Rattle.lone_export.specs.Lone.{Whole, Does}
 use Rattle.lone_export.specs.Parts.{Parts, jobs, jobs_of, AreAbove, AreJobs, AreOwed, IsTag, IsBounded, job_of, out_job, slot_of, terms_at, state_at, whole_of, IsLone}
 use Rattle.lone_export.specs.declared.row.Row.{Row}
@@ -247,3 +247,21 @@ module _ {A : Type 0} where
   may_pick_is p w b is e h =
       let long : length (map out_job (fin.entries p.queue.out)) ≡ fin.len p.queue.out = length-map out_job (fin.entries p.queue.out) ∙ sym (fin.len-entries p.queue.out) in
       subst (λ (v : Whole). IsTrue b ↔ (length v.state.out < v.inflight)) e (subst (λ n. IsTrue b ↔ (n < p.queue.inflight)) (sym long) h)
+
+  -- what is still to come, from the parts
+  come_of : (p : Parts A) → 3 * length p.queue.waiting + 2 * fin.len p.queue.out + sessions_worth p.sessions.sessions ≡ to_come (state_at p)
+  come_of p =
+      let a = length-map job_of p.queue.waiting in
+      let b = length-map out_job (fin.entries p.queue.out) in
+      let c = fin.len-entries p.queue.out in
+      omega arith
+
+  pub come_is : (p : Parts A) (w : Whole) → IsLone p → whole_of p ≡ w → 3 * length p.queue.waiting + 2 * fin.len p.queue.out + sessions_worth p.sessions.sessions ≡ to_come w.state
+  come_is p w is e = come_of p ∙ ap (λ (v : Whole). to_come v.state) e
+
+  pub come_few : (p : Parts A) → IsLone p → 3 * length p.queue.waiting + 2 * fin.len p.queue.out + sessions_worth p.sessions.sessions ≤ 2 ^ 58
+  come_few p is =
+      let a = come_of p in
+      let b = is.bounded.budget in
+      let c = is.bounded.asked_few in
+      omega arith

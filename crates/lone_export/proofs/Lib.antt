@@ -5,3 +5,5 @@ pub mod Kept
 pub mod Asked
 pub mod Done
 pub mod Opening
+pub mod Again
+pub mod Tags

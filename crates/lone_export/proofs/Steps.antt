@@ -7,9 +7,9 @@ use Rattle.nbd_commands.specs.Verdict.{verdict_of}
 use Rattle.nbd_commands.specs.Meaning.{may_want_memory}
 use Rattle.reply_box.specs.declared.seat.SessionState.{SessionState}
 use Rattle.reply_box.specs.declared.seat.SessionState.TheVariants as place
-use Rattle.reply_box.specs.Sessions.{Session, is_here, is_here_state, is_open_state, is_open_at, is_left_at, is_here_at, outbox_at, posted, post_at, take_at, leave_at, drop_at, new_session}
+use Rattle.reply_box.specs.Sessions.{Session, is_here, is_here_state, is_open_state, is_open_at, is_left_at, is_here_at, outbox_at, posted, post_at, take_at, leave_at, drop_at, new_session, session_worth, sessions_worth}
 use Rattle.lone_export.specs.Alone.{Alone, Job, own_step, outstanding, stays, moves}
-use Rattle.lone_export.specs.Calls.{is_counted, brought, to_come, session_worth, sessions_worth, IsOneStep}
+use Rattle.lone_export.specs.Calls.{is_counted, brought, to_come, IsOneStep}
 use Rattle.lone_export.specs.declared.step.Step.{Step}
 use Rattle.lone_export.specs.declared.step.Step.TheVariants.{Attach, Arrive, Pick, Perform, Take, Leave, Gone}
 use Rattle.lone_export.specs.declared.step.StepAnswer.{StepAnswer}

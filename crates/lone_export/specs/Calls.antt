@@ -1,24 +1,12 @@
 -- Which steps are counted, and how many can still follow from what is there.
-use Rattle.std.specs.Prelude.{◌≡◌, ℕ, ◌+◌, ◌*◌, ◌≤◌, Bool, true, false, List, [], ◌∷◌, length}
+use Rattle.std.specs.Prelude.{◌≡◌, ℕ, ◌+◌, ◌*◌, ◌≤◌, Bool, true, false, length}
 use Rattle.nbd_commands.specs.Terms.{Terms}
-use Rattle.reply_box.specs.declared.seat.SessionState.{SessionState}
-use Rattle.reply_box.specs.declared.seat.SessionState.TheVariants as place
-use Rattle.reply_box.specs.Sessions.{Session}
+use Rattle.reply_box.specs.Sessions.{sessions_worth}
 use Rattle.lone_export.specs.Alone.{Alone, Moved, own_step}
 use Rattle.lone_export.specs.declared.step.Step.{Step}
 use Rattle.lone_export.specs.declared.step.Step.TheVariants.{Attach, Arrive, Pick, Perform, Take, Leave, Gone}
 use Rattle.lone_export.specs.declared.step.StepAnswer.{StepAnswer}
 use Rattle.lone_export.specs.declared.step.StepAnswer.TheVariants as said
-
--- a session can still leave and be gone; each of its replies can be taken
-abbrev pub session_worth : SessionState → ℕ
-session_worth place.Open = 2
-session_worth place.Left = 1
-session_worth place.Gone = 0
-
-abbrev pub sessions_worth : List Session → ℕ
-sessions_worth [] = 0
-sessions_worth (session ∷ sessions) = length session.outbox + session_worth session.state + sessions_worth sessions
 
 -- the most steps that what is there can still bring: a request that waits is picked and performed and its reply is taken
 abbrev pub to_come : Alone → ℕ

@@ -1,6 +1,8 @@
 -- What a contract sees of a `Lone`, and what its calls answer, as steps.
-use Rattle.std.specs.Prelude.{◌≡◌, ℕ, ◌^◌, ◌==◌, nat_le, true, false, not, List, [], ◌∷◌, ◌++◌, length, filter, if◌then◌else◌, Option, Some, None, Result, Ok, Err}
+use Rattle.std.specs.Prelude.{◌≡◌, ℕ, ◌<◌, ◌^◌, ◌==◌, nat_le, ◌&&◌, Bool, true, false, not, List, [], ◌∷◌, ◌++◌, length, filter, if◌then◌else◌, Option, Some, None, Result, Ok, Err}
+use Rattle.nbd_wire.specs.Grammar.{RequestMessage}
 use Rattle.nbd_commands.specs.Terms.{Terms}
+use Rattle.nbd_commands.specs.Meaning.{may_want_memory}
 use Rattle.reply_box.specs.Sessions.{is_open_at, is_here}
 use Rattle.reply_box.specs.declared.fault.NotOpen.{NotOpen}
 use Rattle.reply_box.specs.declared.seat.Taken.{Taken}
@@ -8,6 +10,7 @@ use Rattle.reply_box.specs.declared.seat.Taken.TheVariants as taking
 use Rattle.export_queue.specs.declared.Picked.{Picked}
 use Rattle.lone_export.specs.Alone.{Alone, Job, own_step, outstanding, opening}
 use Rattle.lone_export.specs.declared.step.Step.{Step}
+use Rattle.lone_export.specs.declared.step.Step.TheVariants.{Pick}
 use Rattle.lone_export.specs.declared.step.StepAnswer.{StepAnswer}
 use Rattle.lone_export.specs.declared.step.StepAnswer.TheVariants as said
 use Rattle.lone_export.specs.declared.refusal.AttachRefusal.{AttachRefusal}
@@ -64,6 +67,10 @@ MayArrive w s (Err arriving.NotOpen) = is_open_at w.state.sessions s ≡ false
 MayArrive w s (Err arriving.Worn) = (is_open_at w.state.sessions s ≡ true) × (nat_le (2 ^ 56) w.state.count ≡ true)
 MayArrive w s (Err arriving.Hold) = (is_open_at w.state.sessions s ≡ true) × (nat_le (2 ^ 56) w.state.count ≡ false) × ((outstanding w.state s == w.terms.window) ≡ true)
 
+-- whether a request that is performed by this mark has memory: one that wants none has
+abbrev pub mark_again : Bool → RequestMessage → Bool
+mark_again memory request = not (not memory && may_want_memory request)
+
 module _ {A : Type 0} where
   -- a call is this step, with this answer
   pub record Does (old new : Whole) (step : Step A) (answer : StepAnswer A) : Type 0 where
@@ -75,6 +82,10 @@ module _ {A : Type 0} where
   abbrev pub DoesOr : Whole → Whole → Step A → Option (StepAnswer A) → Type 0
   DoesOr old new step None = new ≡ old
   DoesOr old new step (Some answer) = Does old new step answer
+
+  -- a step may be made again; for a pick fewer are out than may be
+  abbrev pub MayReplay : Whole → Step A → Type 0
+  MayReplay w step = step ≡ Pick → length w.state.out < w.inflight
 
   abbrev pub attach_refusal_said : AttachRefusal → StepAnswer A
   attach_refusal_said attaching.Worn = said.Worn

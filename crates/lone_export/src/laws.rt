@@ -1,5 +1,9 @@
-//! What every step of one export does to its count.
+//! What is true of the steps of every export.
+ghost use Rattle.std.specs.Prelude.{List};
+ghost use Rattle.nbd_commands.specs.Terms.{Terms};
 ghost use Rattle.lone_export.specs.Calls.{StepsToCome};
+ghost use Rattle.lone_export.specs.LimitTags.{GivesUnrolledTags};
+ghost use Rattle.lone_export.specs.declared.step.Step.{Step};
 
 use std::alloc::Allocator;
 
@@ -9,6 +13,12 @@ pub fn steps_to_come<A: Allocator>()
     ensures { StepsToCome A }
 {}
 
+/// An export's limit tags follow from the moments of its accepted arrivals: that of the k-th is the greatest, over the
+/// arrivals j up to it, of its moment and k - j intervals.
+pub fn limit_tags_unrolled<A: Allocator>()
+    ensures { (terms : Terms) (steps : List (Step A)) → GivesUnrolledTags terms steps }
+{}
+
 #[cfg(test)]
 mod tests {
     use super::*;
@@ -16,8 +26,9 @@ mod tests {
     use std::test::Fail;
 
     #[test]
-    fn law_of_the_global_allocator(_rt: HostRuntime) -> Result<(), Fail> {
+    fn laws_of_the_global_allocator(_rt: HostRuntime) -> Result<(), Fail> {
         steps_to_come::<Global>();
+        limit_tags_unrolled::<Global>();
         Ok(())
     }
 }

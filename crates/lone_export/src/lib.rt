@@ -5,9 +5,10 @@ mod laws;
 mod lone;
 mod refusal;
 mod row;
+mod said;
 mod step;
 
-pub use laws::steps_to_come;
+pub use laws::{limit_tags_unrolled, steps_to_come};
 pub use lone::Lone;
 pub use refusal::{ArriveRefusal, Arrived, AttachRefusal, NotArrived, NotAttached};
 pub use step::{Step, StepAnswer};

@@ -3,7 +3,10 @@ ghost use Rattle.std.specs.Prelude.{◌≡◌, ◌≢◌, ◌<◌, [], length, �
 ghost use Rattle.std.specs.Bool.{OnTrue, OnFalse};
 ghost use Rattle.nbd_commands.specs.Terms.{terms_of};
 ghost use Rattle.nbd_commands.specs.Exports.{IsWithin};
+ghost use Rattle.lone_export.specs.Calls.{to_come};
 ghost use Rattle.lone_export.specs.Lone.{opening_of, Does, DoesOr, pick_said, leave_said, gone_said, take_said, attach_said, arrived_said, slots_picked, slots_without, slot_at, MayAttach, MayArrive};
+
+mod replaying;
 
 use crate::refusal::{ArriveRefusal, Arrived, AttachRefusal, NotArrived, NotAttached};
 use crate::row::Row;
@@ -180,6 +183,16 @@ impl<I: Image> Lone<I> {
         ensures { result ≡ slot_at self.now number }
     {
         self.queue.slot_of(number)
+    }
+
+    /// How many counted steps can still come of what is here, without another attach or arrival: a request that waits
+    /// is picked and performed and its reply is taken, and each session leaves and is gone.
+    pub fn to_come(&self) -> u64
+        ensures { result ≡ to_come self.now.state }
+    {
+        let waiting = self.queue.waiting() as u64;
+        let out = self.queue.in_service() as u64;
+        3 * waiting + 2 * out + self.sessions.steps_to_come()
     }
 
     /// The bytes that are served.

@@ -85,6 +85,20 @@ fn zero<I: Image>(image: &mut I, offset: usize, count: usize, keep: bool) -> Don
     }
 }
 
+/// Whether the request may want memory when it is performed: a READ, a WRITE, or a WRITE_ZEROES with NO_HOLE.
+///
+/// No other is ever answered ENOMEM.
+pub fn may_want_memory<A: Allocator>(request: &Request<A>) -> bool
+    ensures { result ≡ may_want_memory request.now }
+{
+    let head = request.head();
+    match head.kind {
+        READ | WRITE => true,
+        WRITE_ZEROES => head.flags / NO_HOLE % 2 == 1,
+        _ => false,
+    }
+}
+
 /// Performs a request that isn't refused.
 ///
 /// Where memory was refused the error is ENOMEM (12) and no byte changed; that is so of READ, WRITE and WRITE_ZEROES

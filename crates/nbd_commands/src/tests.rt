@@ -118,6 +118,24 @@ fn serve<I: Image>(alloc: I::Alloc, image: &mut I, request: &Request<I::Alloc>) 
     apply(alloc, image, request)
 }
 
+// Of a request that brings nothing.
+fn wants(kind: u16, flags: u16) -> bool {
+    if kind == WRITE {
+        return false;
+    }
+    let request: Request<Global> = asked(kind, flags, 0, 1);
+    may_want_memory(&request)
+}
+
+#[test]
+fn some_requests_want_memory(rt: HostRuntime) -> Result<(), NoMemory> {
+    assert!(rt; wants(0, 1) && wants(6, 2) && wants(6, 3));
+    assert!(rt; !wants(3, 0) && !wants(4, 2) && !wants(6, 0) && !wants(6, 1));
+    let write = write_of(rt.alloc(), 0, 0, &[1])?;
+    assert!(rt; may_want_memory(&write));
+    Ok(())
+}
+
 fn insist<I: Image>(alloc: I::Alloc, image: &mut I, request: &Request<I::Alloc>) -> Done<I::Alloc> {
     let done = serve(alloc, image, request);
     if done.memory {

@@ -6,7 +6,7 @@ use crate::fault::WireFault;
 use crate::fields::{u16_at, u32_at, u64_at};
 use crate::protocol::WRITE;
 use bytes::Bytes;
-use std::alloc::Allocator;
+use std::alloc::{AllocError, Allocator};
 use std::marker::Model;
 
 const REQUEST_MAGIC: u32 = 0x2560_9513;
@@ -69,6 +69,20 @@ impl<A: Allocator> Request<A> {
         ensures fits { IsRequest self.now }
     {
         &self.payload
+    }
+}
+
+impl<A: Allocator> Clone for Request<A> {
+    ghost is_clone = { λ request copy. copy ≡ request };
+
+    fn clone(&self) -> Result<Request<A>, AllocError> {
+        let Ok(payload) = self.payload.clone() else {
+            return Err(AllocError);
+        };
+        Ok(Request {
+            head: self.head,
+            payload,
+        })
     }
 }
 

@@ -3,7 +3,7 @@ use crate::*;
 use bytes::Bytes;
 use nbd_base::NoMemory;
 use refusing::Refusing;
-use std::alloc::{Allocator, Global};
+use std::alloc::{AllocError, Allocator, Global};
 use std::test::Fail;
 
 // A WRITE of `deadbeef` at 4092, a READ of it, and a DISC.
@@ -161,6 +161,36 @@ fn feed_with_each_growth_refused(rt: HostRuntime) {
         refused = nth;
     }
     assert!(rt; refused >= 3);
+}
+
+#[test]
+fn a_request_is_cloned(rt: HostRuntime) -> Result<(), Fail> {
+    for nth in 1..100u64 {
+        let heap = Refusing::new(rt.alloc(), 0);
+        let payload = Bytes::copy_from_slice(&heap, b"\xde\xad\xbe\xef")?;
+        let request = Request::new(WRITE_HEAD, payload);
+        heap.arm(nth);
+        let first: Result<Request<_>, AllocError> = request.clone();
+        let copy = match first {
+            Ok(copy) => copy,
+            Err(_) => request.clone()?,
+        };
+        assert_eq!(rt; copy.head(), WRITE_HEAD, "at {nth}");
+        assert_eq!(rt;
+            copy.payload().as_slice(),
+            b"\xde\xad\xbe\xef".as_slice(),
+            "at {nth}"
+        );
+        assert_eq!(rt;
+            request.payload().as_slice(),
+            b"\xde\xad\xbe\xef".as_slice(),
+            "at {nth}"
+        );
+        if heap.is_armed() {
+            break;
+        }
+    }
+    Ok(())
 }
 
 #[test]

@@ -1,2 +1,3 @@
 pub mod Below
 pub mod Seats
+pub mod Worth

@@ -2,7 +2,7 @@
 use Rattle.std.specs.Prelude.{◌≡◌, ℕ, zero, suc, ◌+◌, ◌<◌, ◌≤◌, ◌^◌, ◌==◌, ◌&&◌, List, [], ◌∷◌, ◌++◌, length, filter, Option, Some, None, if◌then◌else◌}
 use Rattle.std.specs.Ordering.{nat_cmp}
 use Rattle.std.specs.BTreeMap.{BTreeMap, get, btree_map_len}
-use Rattle.reply_box.specs.Sessions.{Session, is_here}
+use Rattle.reply_box.specs.Sessions.{Session, is_here, session_worth}
 use Rattle.reply_box.specs.Box.{Box}
 use Rattle.reply_box.specs.declared.seat.Seat.{Seat}
 use Rattle.reply_box.specs.declared.seat.SessionState.{SessionState}
@@ -22,6 +22,14 @@ module _ {A : Type 0} where
   -- what `take` answers where no reply waits
   abbrev pub quiet : Seat A → Taken A
   quiet seat = if seat.left && seat.owed == 0 then End else Empty
+
+  -- what can still come of the sessions that are kept
+  abbrev pub seat_worth : Seat A → ℕ
+  seat_worth seat = length seat.outbox.items + session_worth (state_of seat)
+
+  abbrev pub seats_worth : List (Seat A) → ℕ
+  seats_worth [] = 0
+  seats_worth (seat ∷ seats) = seat_worth seat + seats_worth seats
 
   -- a session that is not kept is gone, and owed nothing
   abbrev pub session_of : Option (Seat A) → Session

@@ -1,5 +1,5 @@
 -- The sessions of one export, by number, each with its outbox.
-use Rattle.std.specs.Prelude.{ℕ, Bool, true, false, List, [], ◌∷◌, ◌++◌, drop, slice_get, Option, Some, None, if◌then◌else◌}
+use Rattle.std.specs.Prelude.{ℕ, ◌+◌, Bool, true, false, List, [], ◌∷◌, ◌++◌, length, drop, slice_get, Option, Some, None, if◌then◌else◌}
 use Rattle.nbd_base.specs.Words.{when_some, change_at}
 use Rattle.nbd_wire.specs.Grammar.{ReplyMessage}
 use Rattle.reply_box.specs.declared.seat.SessionState.{SessionState}
@@ -65,3 +65,16 @@ leave_at s sessions = change_at (λ session. record { state = Left; outbox = ses
 
 abbrev pub drop_at : ℕ → List Session → List Session
 drop_at s sessions = change_at (λ session. record { state = Gone; outbox = [] }) s sessions
+
+-- ---- what can still come of sessions
+
+-- a session can still leave and be gone
+abbrev pub session_worth : SessionState → ℕ
+session_worth Open = 2
+session_worth Left = 1
+session_worth Gone = 0
+
+-- how many steps the sessions can still make at the most: each of their replies can be taken too
+abbrev pub sessions_worth : List Session → ℕ
+sessions_worth [] = 0
+sessions_worth (session ∷ sessions) = length session.outbox + session_worth session.state + sessions_worth sessions

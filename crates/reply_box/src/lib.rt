@@ -13,7 +13,7 @@ mod fault;
 mod seat;
 
 ghost use Rattle.std.specs.Prelude.{◌≡◌, ◌<◌, ◌^◌, length, IfOk, IfErr, false};
-ghost use Rattle.reply_box.specs.Sessions.{is_open_at, state_at};
+ghost use Rattle.reply_box.specs.Sessions.{is_open_at, state_at, sessions_worth};
 ghost use Rattle.reply_box.specs.Box.{empty_box, is_full, attach_fault, after_attach, owed_at, MayAdmit, Admits, IsOwed, after_put, Takes, Leaves, Goes, IsInBounds};
 
 use crate::seat::Seat;
@@ -108,6 +108,19 @@ impl<A: Allocator + Copy> ReplyBox<A> {
             return 0;
         };
         seat.owed
+    }
+
+    /// How many steps the sessions can still make at the most, with what waits for them now: each reply can be taken,
+    /// an open session can leave, and one that isn't gone can be gone.
+    pub fn steps_to_come(&self) -> u64
+        requires { self.now.window < 2 ^ 32 }
+        ensures { result ≡ sessions_worth self.now.sessions }
+    {
+        let mut steps = 0;
+        for seat in self.seats.values() {
+            steps += seat.steps_to_come();
+        }
+        steps
     }
 
     /// What `admit` answers.
@@ -231,6 +244,7 @@ impl<A: Allocator + Copy> ReplyBox<A> {
 mod tests {
     use super::*;
     use refusing::Refusing;
+    use std::test::Fail;
 
     fn attach<A: Allocator + Copy>(sessions: &mut ReplyBox<A>) -> Result<u64, AttachFault> {
         if sessions.next_session() < 1000 {
@@ -240,7 +254,9 @@ mod tests {
         }
     }
 
-    fn answer<A: Allocator + Copy>(sessions: &mut ReplyBox<A>, session: u64, cookie: u64) -> bool {
+    fn answer<A: Allocator + Copy>(sessions: &mut ReplyBox<A>, session: u64, cookie: u64) -> bool
+        ensures { sessions.new.window ≡ sessions.old.window }
+    {
         let is_owed = sessions.owed(session) > 0;
         if is_owed {
             sessions.put(session, Reply::bare(0, cookie));
@@ -280,6 +296,32 @@ mod tests {
         assert_eq!(rt; cookie(&mut sessions, 0), 102);
         assert!(rt; sessions.state(0) == Some(SessionState::Gone) && sessions.state(1).is_none());
         sessions.laws();
+    }
+
+    // Two steps for an open session, one for each reply that waits, and one for a session that has left.
+    #[test]
+    fn what_is_to_come(rt: HostRuntime) -> Result<(), Fail> {
+        let mut sessions = ReplyBox::new(rt.alloc(), 2);
+        assert_eq!(rt; sessions.steps_to_come(), 0);
+        let Ok(session) = sessions.attach() else {
+            return Err(Fail::from("attached"));
+        };
+        assert_eq!(rt; sessions.steps_to_come(), 2);
+        let Ok(()) = sessions.admit(session) else {
+            return Err(Fail::from("admitted"));
+        };
+        assert_eq!(rt; sessions.steps_to_come(), 2);
+        assert!(rt; answer(&mut sessions, session, 7));
+        assert_eq!(rt; sessions.steps_to_come(), 3);
+        let Ok(()) = sessions.leave(session) else {
+            return Err(Fail::from("left"));
+        };
+        assert_eq!(rt; sessions.steps_to_come(), 2);
+        let Ok(()) = sessions.gone(session) else {
+            return Err(Fail::from("gone"));
+        };
+        assert_eq!(rt; sessions.steps_to_come(), 0);
+        Ok(())
     }
 
     #[test]

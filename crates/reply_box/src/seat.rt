@@ -1,6 +1,6 @@
 //! A session that is not gone, as it is kept.
-ghost use Rattle.std.specs.Prelude.{◌≡◌};
-ghost use Rattle.reply_box.specs.Seats.{quiet, state_of};
+ghost use Rattle.std.specs.Prelude.{◌≡◌, ◌<◌, ◌^◌};
+ghost use Rattle.reply_box.specs.Seats.{quiet, state_of, seat_worth};
 
 use circular_buffer::HeapCircularBuffer;
 use nbd_wire::Reply;
@@ -46,6 +46,15 @@ impl<A: Allocator> Seat<A> {
         } else {
             SessionState::Open
         }
+    }
+
+    // How many steps can still come of it: its replies are taken, it leaves, and it is gone.
+    pub(crate) fn steps_to_come(&self) -> u64
+        requires { seat_worth self.now < 2 ^ 64 }
+        ensures { result ≡ seat_worth self.now }
+    {
+        let ends = if self.left { 1 } else { 2 };
+        self.outbox.len() as u64 + ends
     }
 
     // What `take` answers where the outbox is empty.

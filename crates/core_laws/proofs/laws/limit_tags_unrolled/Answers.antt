@@ -1,6 +1,6 @@
-use Rattle.core_laws.specs.Runs.{own_steps}
-use Rattle.core_laws.proofs.Limits.{unrolled_tags}
+use Rattle.lone_export.proofs.Tags.{unrolled_tags}
 use Rattle.core_laws.proofs.Runs.{told_alone}
+use Rattle.core_laws.specs.Runs.{own_steps}
 use Rattle.core_laws.proofs.laws.limit_tags_unrolled.Goals as goal
 
 pub returns-clause-alone : goal.returns-clause-alone

@@ -1,0 +1,67 @@
+-- The limit tags that an export gives are the unrolled form of the moments of its accepted arrivals.
+use Rattle.std.proofs.Common.{◌≡◌, ◌⊎◌, ℕ, ◌^◌, not, ◌&&◌, nat_le, ◌==◌, List, [], ◌∷◌, ◌++◌, length, map, filter, find, slice_get, Some, None, pos, refl, sym, ap, ap₂, ◌∙◌, inl, inr}
+use Rattle.nbd_commands.specs.Terms.{Terms}
+use Rattle.nbd_commands.specs.Verdict.{verdict_of}
+use Rattle.nbd_commands.specs.Meaning.{may_want_memory}
+use Rattle.reply_box.specs.Sessions.{is_here, is_open_at, is_left_at, is_here_at, outbox_at}
+use Rattle.tag_clock.specs.LimitTags.{unrolled, beginnings, limit_tags}
+use Rattle.tag_clock.proofs.Unrolled.{last_of, later-last_of, last_of-push, begun_on}
+use Rattle.lone_export.specs.Alone.{Alone, Moved, opening, own_step, answers_alone, outstanding, limit_tag}
+use Rattle.lone_export.specs.LimitTags.{tag_of, arrived, given_tags, accepted_moments, GivesUnrolledTags}
+use Rattle.lone_export.specs.declared.step.Step.{Step}
+use Rattle.lone_export.specs.declared.step.Step.TheVariants.{Attach, Arrive, Pick, Perform, Take, Leave, Gone}
+use Rattle.lone_export.proofs.Cases.{if_one, some_one}
+
+-- the tag of one arrival more
+next_tag : (terms : Terms) (state : Alone) (before : List ℕ) (t : ℕ) → state.last ≡ last_of terms.l_interval before → limit_tag terms state t ≡ pos (unrolled terms.l_interval (before ++ t ∷ []))
+next_tag terms state before t is = rw is (later-last_of terms.l_interval before t)
+
+module _ {A : Type 0} where
+  -- a step gives no tag and leaves the last one, or is an arrival that is given the next one
+  record Tags (terms : Terms) (state : Alone) (one : Step A) (moved : Moved A) : Type 0 where
+    tags : ((tag_of moved.answer ≡ None) × (moved.state.last ≡ state.last)) ⊎ ((t : ℕ) × (arrived one ≡ Some t) × (tag_of moved.answer ≡ Some (limit_tag terms state t)) × (moved.state.last ≡ Some (limit_tag terms state t)))
+
+  no_tag : (terms : Terms) (state : Alone) (one : Step A) (moved : Moved A) → tag_of moved.answer ≡ None → moved.state.last ≡ state.last → Tags terms state one moved
+  no_tag terms state one moved h k = record { tags = inl (h, k) }
+
+  tags_of_step : (terms : Terms) (state : Alone) (one : Step A) → Tags terms state one (own_step terms state one)
+  tags_of_step terms state Attach =
+      let P = Tags terms state Attach in
+      if_one P (nat_le (2 ^ 56) state.count) (no_tag terms state Attach _ refl refl) (if_one P (length (filter is_here state.sessions) == 64) (no_tag terms state Attach _ refl refl) (no_tag terms state Attach _ refl refl))
+  tags_of_step terms state (Arrive s t q) =
+      let P = Tags terms state (Arrive s t q) in
+      if_one P (not (is_open_at state.sessions s)) (no_tag terms state (Arrive s t q) _ refl refl)
+      (if_one P (nat_le (2 ^ 56) state.count) (no_tag terms state (Arrive s t q) _ refl refl)
+      (if_one P (outstanding state s == terms.window) (no_tag terms state (Arrive s t q) _ refl refl)
+      (if_one P (not (verdict_of terms q == 0)) (no_tag terms state (Arrive s t q) _ refl refl)
+      (if_one P (length state.waiting == terms.depth) (no_tag terms state (Arrive s t q) _ refl refl)
+      (record { tags = inr (t, refl, refl, refl) })))))
+  tags_of_step terms state Pick = some_one (Tags terms state Pick) (slice_get state.waiting 0) (λ job h. no_tag terms state Pick _ refl refl) (no_tag terms state Pick _ refl refl)
+  tags_of_step terms state (Perform n memory) =
+      let P = Tags terms state (Perform n memory) in
+      some_one P (find (λ job. job.number == n) state.out) (λ job h. if_one P (not memory && may_want_memory job.request) (no_tag terms state (Perform n memory) _ refl refl) (no_tag terms state (Perform n memory) _ refl refl)) (no_tag terms state (Perform n memory) _ refl refl)
+  tags_of_step terms state (Take s) =
+      let P = Tags terms state (Take s) in
+      if_one P (not (is_here_at state.sessions s)) (no_tag terms state (Take s) _ refl refl)
+      (some_one P (slice_get (outbox_at state.sessions s) 0) (λ reply h. no_tag terms state (Take s) _ refl refl)
+      (if_one P (is_left_at state.sessions s && outstanding state s == 0) (no_tag terms state (Take s) _ refl refl) (no_tag terms state (Take s) _ refl refl)))
+  tags_of_step terms state (Leave s) = if_one (Tags terms state (Leave s)) (not (is_open_at state.sessions s)) (no_tag terms state (Leave s) _ refl refl) (no_tag terms state (Leave s) _ refl refl)
+  tags_of_step terms state (Gone s) = if_one (Tags terms state (Gone s)) (not (is_here_at state.sessions s)) (no_tag terms state (Gone s) _ refl refl) (no_tag terms state (Gone s) _ refl refl)
+
+  tags_from : (terms : Terms) (steps : List (Step A)) (state : Alone) (before : List ℕ) → state.last ≡ last_of terms.l_interval before →
+      given_tags (answers_alone terms state steps) ≡ map (λ begun. pos (unrolled terms.l_interval (before ++ begun))) (beginnings (accepted_moments steps (answers_alone terms state steps)))
+  tags_from terms [] state before is = refl
+  tags_from terms (one ∷ steps) state before is = go (own_step terms state one) (tags_of_step terms state one).tags (λ next begun. tags_from terms steps next begun)
+    where
+      go : (moved : Moved A) → ((tag_of moved.answer ≡ None) × (moved.state.last ≡ state.last)) ⊎ ((t : ℕ) × (arrived one ≡ Some t) × (tag_of moved.answer ≡ Some (limit_tag terms state t)) × (moved.state.last ≡ Some (limit_tag terms state t))) →
+          ((next : Alone) (begun : List ℕ) → next.last ≡ last_of terms.l_interval begun → given_tags (answers_alone terms next steps) ≡ map (λ more. pos (unrolled terms.l_interval (begun ++ more))) (beginnings (accepted_moments steps (answers_alone terms next steps)))) →
+          given_tags (moved.answer ∷ answers_alone terms moved.state steps) ≡ map (λ begun. pos (unrolled terms.l_interval (before ++ begun))) (beginnings (accepted_moments (one ∷ steps) (moved.answer ∷ answers_alone terms moved.state steps)))
+      go moved (inl h) ih = rw h.0 (ih moved.state before (h.1 ∙ is))
+      go moved (inr h) ih =
+          let tag : limit_tag terms state h.0 ≡ pos (unrolled terms.l_interval (before ++ h.0 ∷ [])) = next_tag terms state before h.0 is in
+          rw (h.2, h.1) (ap₂ (λ x xs. x ∷ xs) tag
+          (ih moved.state (before ++ h.0 ∷ []) (h.3 ∙ ap Some tag ∙ sym (last_of-push terms.l_interval before h.0))
+          ∙ sym (begun_on terms.l_interval before h.0 (beginnings (accepted_moments steps (answers_alone terms moved.state steps))))))
+
+  pub unrolled_tags : (terms : Terms) (steps : List (Step A)) → GivesUnrolledTags terms steps
+  unrolled_tags terms steps = tags_from terms steps (opening terms) [] refl

@@ -1,0 +1,28 @@
+use Rattle.std.proofs.Common.{sym}
+use Rattle.lone_export.proofs.Done.{may_apply, done_owed, performed_lone, performed_does}
+use Rattle.lone_export.proofs.Again.{not_out, done_again}
+use Rattle.lone_export.proofs.lone.Lone.perform_again.Goals as goal
+
+pub returns-in_default-clause-ok : goal.returns-in_default-clause-ok
+returns-in_default-clause-ok g c = not_out _ c.args.number c.args.memory _ c.self.invariant c.self.view_is c.in_default.ensures
+
+pub apply_again-again-requires : goal.apply_again-again-requires
+apply_again-again-requires g c = may_apply _ c.in-Some.slot c.args.number _ c.self.invariant (sym c.in-Some-held.ensures)
+
+pub put-requires : goal.put-requires
+put-requires g c = done_owed _ c.in-Some.slot c.args.number _ c.self.invariant (sym c.in-Some-finish.ensures.item)
+
+pub invariant_of-self-2 : goal.invariant_of-self-2
+invariant_of-self-2 g c =
+    let d = c.in-Some-again in
+    performed_lone _ c.in-Some.slot c.args.number c.in-Some-held.row.now c.in-Some-finish.row _ d.done.content d.done.error d.done.memory _ c.head.result _ _ _
+    c.self.invariant c.self.view_is c.in-Some-held.ensures c.in-Some-finish.ensures.item c.head.ensures.value c.head.ensures.fits c.in-Some-finish.ensures.some c.put.ensures
+    d.ensures.done d.ensures.no_memory c.reply_of-reply.ensures.with c.reply_of-reply.ensures.without
+
+pub returns-clause-ok : goal.returns-clause-ok
+returns-clause-ok g c =
+    let d = c.in-Some-again in
+    done_again _ c.in-Some.slot c.args.number c.in-Some-held.row.now c.args.memory d.done.memory _ _ c.self.invariant c.self.view_is c.in-Some-held.ensures d.ensures.mark
+    (performed_does _ c.in-Some.slot c.args.number c.in-Some-held.row.now c.in-Some-finish.row _ d.done.content d.done.error d.done.memory _ c.head.result _ _ _
+    c.self.invariant c.self.view_is c.in-Some-held.ensures c.in-Some-finish.ensures.item c.head.ensures.value c.head.ensures.fits c.in-Some-finish.ensures.some c.put.ensures
+    d.ensures.done d.ensures.no_memory c.reply_of-reply.ensures.with c.reply_of-reply.ensures.without).1

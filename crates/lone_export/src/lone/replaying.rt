@@ -1,0 +1,106 @@
+//! Steps that were made before are made again.
+ghost use Rattle.std.specs.Prelude.{◌≡◌, [], length, false, IsTrue, IfOk, IfSome, IfNone, OnErr};
+ghost use Rattle.std.specs.Bool.{OnTrue, OnFalse};
+ghost use Rattle.nbd_commands.specs.Verdict.{verdict_at};
+ghost use Rattle.nbd_commands.specs.Meaning.{image_after, data_of, may_want_memory};
+ghost use Rattle.lone_export.specs.Lone.{Does, MayReplay, mark_again};
+
+use crate::lone::{Lone, reply_of};
+use crate::said::{arrived_said, attach_said, gone_said, leave_said, pick_said, take_said};
+use crate::step::{Step, StepAnswer};
+use bytes::Bytes;
+use export_store::Image;
+use nbd_base::NoMemory;
+use nbd_commands::{Done, apply, may_want_memory};
+use nbd_wire::Request;
+use nbd_wire::protocol::ENOMEM;
+
+impl<I: Image> Lone<I> {
+    /// Makes a step, as it was made before.
+    ///
+    /// A Perform has its own mark: where it says that no memory was there, a request that may want memory is told so
+    /// without trying. Want of memory of the replay itself is an error, after which all is as it was.
+    pub fn replay(&mut self, step: &Step<I::Alloc>) -> Result<StepAnswer<I::Alloc>, NoMemory>
+        requires { MayReplay self.old step.now }
+        ensures ok { IfOk result (λ answer. Does {A = I.Alloc} self.old self.new step.now answer) }
+        ensures err { OnErr result (self.new ≡ self.old) }
+    {
+        match step {
+            Step::Attach => {
+                let Some(answer) = attach_said(self.attach()) else {
+                    return Err(NoMemory);
+                };
+                Ok(answer)
+            }
+            Step::Arrive {
+                session,
+                moment,
+                request,
+            } => {
+                let Ok(request) = request.clone() else {
+                    return Err(NoMemory);
+                };
+                Ok(arrived_said(self.arrive(*session, *moment, request)))
+            }
+            Step::Pick => Ok(pick_said(self.pick())),
+            Step::Perform { number, memory } => self.perform_again(*number, *memory),
+            Step::Take { session } => Ok(take_said(self.take(*session))),
+            Step::Leave { session } => Ok(leave_said(self.leave(*session))),
+            Step::Gone { session } => Ok(gone_said(self.gone(*session))),
+        }
+    }
+
+    // The request of this number is done, or told that no memory was there, as the mark says.
+    fn perform_again(&mut self, number: u64, memory: bool) -> Result<StepAnswer<I::Alloc>, NoMemory>
+        ensures ok { IfOk result (λ answer. Does {A = I.Alloc} self.old self.new (Step.Perform number memory) answer) }
+        ensures err { OnErr result (self.new ≡ self.old) }
+    {
+        let Some(slot) = self.queue.slot_of(number) else {
+            return Ok(StepAnswer::NotOut);
+        };
+        let Some(row) = self.queue.held(slot, number) else {
+            return Ok(StepAnswer::NotOut);
+        };
+        let again = apply_again(self.alloc, &mut self.image, &row.request, memory);
+        let Some(done) = again else {
+            return Err(NoMemory);
+        };
+        let memory = done.memory;
+        let Some(row) = self.queue.finish(slot, number) else {
+            return Err(NoMemory);
+        };
+        let reply = reply_of(done, row.request.head().cookie);
+        self.sessions.put(row.session, reply);
+        self.count += 1;
+        Ok(StepAnswer::Performed { memory })
+    }
+}
+
+/// Performs a request as its mark says: with memory, or without where it may want some. None where memory is wanted
+/// and refused.
+fn apply_again<I: Image>(
+    alloc: I::Alloc,
+    image: &mut I,
+    request: &Request<I::Alloc>,
+    memory: bool,
+) -> Option<Done<I::Alloc>>
+    requires { verdict_at (length (I.bytes image.old)) false request.now ≡ 0 }
+    ensures mark { IfSome result (λ done. done.memory ≡ mark_again memory request.now) }
+    ensures done { IfSome result (λ done. OnTrue done.memory ((done.error ≡ 0)
+        × (done.content ≡ data_of (I.bytes image.old) request.now)
+        × (I.bytes image.new ≡ image_after (I.bytes image.old) request.now))) }
+    ensures no_memory { IfSome result (λ done. OnFalse done.memory ((done.error ≡ 12) × (done.content ≡ [])
+        × (I.bytes image.new ≡ I.bytes image.old)
+        × IsTrue (may_want_memory request.now))) }
+    ensures none { IfNone result (I.bytes image.new ≡ I.bytes image.old) }
+{
+    if !memory && may_want_memory(request) {
+        return Some(Done {
+            error: ENOMEM,
+            content: Bytes::new(),
+            memory: false,
+        });
+    }
+    let done = apply(alloc, image, request);
+    if done.memory { Some(done) } else { None }
+}
