@@ -1,11 +1,11 @@
 -- Settings that aren't refused are in range.
 use Rattle.std.proofs.Common.{◌≡◌, ℕ, List, length, arith}
-use Rattle.std.specs.Prelude.{Bool, true, false, Option, Some, None, ◌<◌, ◌≤◌, ◌&&◌, nat_lt, nat_le, if◌then◌else◌, refl}
+use Rattle.std.specs.Prelude.{Bool, true, false, Option, Some, None, ◌<◌, ◌≤◌, ◌&&◌, nat_lt, if◌then◌else◌, refl}
 use Rattle.std.specs.Option.{option_map_or}
 use Rattle.nbd_commands.specs.Exports.{Export, IsExport, IsWithin}
 use Rattle.nbd_commands.specs.Refusals.{is_outside, is_name_taken, number_refusal, first_refusal}
 use Rattle.nbd_commands.specs.declared.settings.Refusal.{Refusal}
-use Rattle.nbd_commands.specs.declared.settings.Refusal.TheVariants.{ExportCount, BadName, RepeatedName, BadDescription, BadSize, BadReservation, BadLimit, BadWeight, BadDepth, BadWindow, ReservationAboveLimit}
+use Rattle.nbd_commands.specs.declared.settings.Refusal.TheVariants.{BadName, RepeatedName, BadDescription, BadSize, BadReservation, BadLimit, BadWeight, BadDepth, BadWindow, ReservationAboveLimit}
 
 -- a case that was passed by
 pub passed : (b : Bool) (refusal : Refusal) (rest : Option Refusal) → (if b then Some refusal else rest) ≡ None → (b ≡ false) × (rest ≡ None)
@@ -23,8 +23,7 @@ not_above_limit limit reservation h some = grind arith
 
 pub not_refused : (exports : List Export) (e : Export) → first_refusal exports e ≡ None → IsExport e
 not_refused exports e h =
-    let a = passed (nat_le 64 (length exports)) ExportCount _ h in
-    let b = passed (is_outside 255 (length e.name)) BadName _ a.1 in
+    let b = passed (is_outside 255 (length e.name)) BadName _ h in
     let c = passed (is_name_taken exports e.name) RepeatedName _ b.1 in
     let d = passed (nat_lt 4096 (option_map_or length e.description 0)) BadDescription _ c.1 in
     let s = passed (is_outside 268435456 e.size) BadSize _ d.1 in
@@ -49,12 +48,3 @@ not_refused exports e h =
       window = within 4096 e.window v.0;
       reserved = not_above_limit e.limit e.reservation z.0;
     }
-
--- there is room for one more
-pub not_full : (exports : List Export) (e : Export) → first_refusal exports e ≡ None → length exports < 64
-not_full exports e h =
-    let a = passed (nat_le 64 (length exports)) ExportCount _ h in
-    below (length exports) a.0
-  where
-    below : (n : ℕ) → nat_le 64 n ≡ false → n < 64
-    below n full = grind arith

@@ -1,5 +1,5 @@
 -- Why settings are refused: the first case that fits.
-use Rattle.std.specs.Prelude.{ℕ, Bool, ◌||◌, ◌&&◌, nat_lt, nat_le, if◌then◌else◌, List, length, Option, Some, None, Result, Ok, Err}
+use Rattle.std.specs.Prelude.{ℕ, Bool, ◌||◌, ◌&&◌, nat_lt, if◌then◌else◌, List, length, Option, Some, None, Result, Ok, Err}
 use Rattle.std.specs.List.{list_any}
 use Rattle.std.specs.Option.{option_copied, option_map_or}
 use Rattle.std.specs.Str.{bytes_eq}
@@ -35,16 +35,15 @@ number_refusal e =
 -- of an export that comes after those that there are
 abbrev pub first_refusal : List Export → Export → Option Refusal
 first_refusal exports e =
-    if nat_le 64 (length exports) then Some ExportCount
-    else (if is_outside 255 (length e.name) then Some BadName
+    if is_outside 255 (length e.name) then Some BadName
     else (if is_name_taken exports e.name then Some RepeatedName
     else (if nat_lt 4096 (option_map_or length e.description 0) then Some BadDescription
-    else number_refusal e)))
+    else number_refusal e))
 
--- of the whole: no exports, or a bad number in service
+-- of the whole: a bad number of exports, or of requests in service
 abbrev pub whole_refusal : List Export → ℕ → Option Refusal
 whole_refusal exports inflight =
-    if nat_lt (length exports) 1 then Some ExportCount
+    if is_outside 64 (length exports) then Some ExportCount
     else (if is_outside 4096 inflight then Some BadInflight
     else None)
 

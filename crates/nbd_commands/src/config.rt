@@ -1,4 +1,4 @@
-ghost use Rattle.std.specs.Prelude.{◌≡◌, ◌<◌, ◌≤◌, ◌&&◌, nat_lt, nat_le, ◌++◌, ◌∷◌, [], length, IfOk, IfErr, OnOk, OnErr};
+ghost use Rattle.std.specs.Prelude.{◌≡◌, ◌&&◌, nat_lt, ◌++◌, ◌∷◌, [], length, IfOk, IfErr, OnOk, OnErr};
 ghost use Rattle.std.specs.Option.{option_copied, option_map_or};
 ghost use Rattle.nbd_commands.specs.Exports.{IsExport, IsOffer, flags_of};
 ghost use Rattle.nbd_commands.specs.Refusals.{asked, number_refusal, first_refusal, whole_refusal, refusal_told, is_outside, is_name_taken};
@@ -243,10 +243,10 @@ fn number_refusal(settings: &ExportSettings<'_>) -> Option<Refusal>
     }
 }
 
-fn is_full<A: Allocator + Copy>(exports: &[ExportConfig<A>]) -> bool
-    ensures { result ≡ nat_le 64 (length exports.now) }
+fn is_bad_count<A: Allocator + Copy>(exports: &[ExportConfig<A>]) -> bool
+    ensures { result ≡ is_outside 64 (length exports.now) }
 {
-    exports.len() >= MAX_EXPORTS
+    exports.len() < 1 || exports.len() > MAX_EXPORTS
 }
 
 fn is_bad_name(name: &[u8]) -> bool
@@ -271,9 +271,7 @@ fn first_refusal<A: Allocator + Copy>(
 ) -> Option<Refusal>
     ensures { result ≡ first_refusal exports.now (asked settings.now) }
 {
-    if is_full(exports) {
-        Some(Refusal::ExportCount)
-    } else if is_bad_name(settings.name) {
+    if is_bad_name(settings.name) {
         Some(Refusal::BadName)
     } else if is_name_taken(exports, settings.name) {
         Some(Refusal::RepeatedName)
@@ -289,9 +287,7 @@ fn put<A: Allocator + Copy>(
     exports: &mut Vec<ExportConfig<A>, A>,
     settings: &ExportSettings<'_>,
 ) -> Result<(), NoMemory>
-    requires valid { IsExport (asked settings.now) }
-    requires room { length exports.old.items < 64 }
-    ensures few { length exports.new.items ≤ 64 }
+    requires { IsExport (asked settings.now) }
     ensures added { OnOk result (exports.new.items ≡ exports.old.items ++ asked settings.now ∷ []) }
     ensures unchanged { OnErr result (exports.new.items ≡ exports.old.items) }
 {
@@ -300,21 +296,20 @@ fn put<A: Allocator + Copy>(
     Ok(())
 }
 
-/// At most 64 exports, in the order in which they were added. `add` refuses a name that an earlier one has.
+/// Exports in the order in which they were added. `add` refuses a name that an earlier one has. How many there may be is
+/// asked of the whole, by `Config::new`.
 #[derive(Drop)]
 pub struct ExportList<A: Allocator + Copy> {
     exports: Vec<ExportConfig<A>, A>,
 }
 
 impl<A: Allocator + Copy> Model for ExportList<A> {
-    ghost use Rattle.std.specs.Prelude.{◌≤◌, List, length};
+    ghost use Rattle.std.specs.Prelude.{List};
     ghost use Rattle.nbd_commands.specs.Exports.{Export};
 
     ghost Value = { List Export };
 
     ghost view = { λ list. list.exports.items };
-
-    ghost invariant = { λ list. length list.exports.items ≤ 64 };
 }
 
 impl<A: Allocator + Copy> ExportList<A> {
@@ -360,13 +355,14 @@ impl<A: Allocator + Copy> Model for Config<A> {
 }
 
 impl<A: Allocator + Copy> Config<A> {
-    /// An empty list is refused first (`ExportCount`), and then a number that isn't 1 to 4,096 (`BadInflight`).
+    /// A list that hasn't 1 to 64 exports is refused first (`ExportCount`), and then a number that isn't 1 to 4,096
+    /// (`BadInflight`).
     pub fn new(list: ExportList<A>, inflight: u64) -> Result<Config<A>, Refusal>
         ensures made { IfOk result (λ c. (c ≡ record { exports = list; inflight = inflight })
             × (whole_refusal list inflight ≡ None)) }
         ensures refused { IfErr result (λ refusal. whole_refusal list inflight ≡ Some refusal) }
     {
-        if list.exports.is_empty() {
+        if is_bad_count(&list.exports) {
             return Err(Refusal::ExportCount);
         }
         if !is_inflight(inflight) {

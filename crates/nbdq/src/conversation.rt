@@ -2,14 +2,21 @@
 
 use crate::outcome::Outcome;
 use crate::script::{Head, LineFault, read_head};
+use nbd_base::NoMemory;
 use nbd_commands::Config;
 use nbd_session::{Counted, End, TalkFault, talk};
-use std::alloc::Global;
+use std::alloc::Allocator;
 use std::io;
 use std::io::{Read, Write};
 
 /// Reads a script, holds its conversation, and writes what the server says.
-pub fn talk_script<R: Read, W: Write>(alloc: Global, input: &mut R, output: &mut W) -> Outcome {
+///
+/// Where memory is refused, nothing of what the server says is written.
+pub fn talk_script<A: Allocator + Copy, R: Read, W: Write>(
+    alloc: A,
+    input: &mut R,
+    output: &mut W,
+) -> Outcome {
     let mut script = Vec::new(alloc);
     if let Err(error) = input.read_to_end(&mut script) {
         return if error.kind() == io::ErrorKind::OutOfMemory {
@@ -32,9 +39,9 @@ pub fn talk_script<R: Read, W: Write>(alloc: Global, input: &mut R, output: &mut
 }
 
 /// Holds the conversation in which a client sends the bytes that the hex spells.
-fn converse<W: Write>(
-    alloc: Global,
-    config: &Config<Global>,
+fn converse<A: Allocator + Copy, W: Write>(
+    alloc: A,
+    config: &Config<A>,
     text: &[u8],
     output: &mut W,
 ) -> Outcome {
@@ -57,10 +64,10 @@ fn converse<W: Write>(
         Err(TalkFault::ReadFailed) => return Outcome::ReadFailed,
         Err(TalkFault::WriteFailed | TalkFault::NoMemory) => return Outcome::NoMemory,
     };
-    Outcome::of_write(
-        print(alloc, &writer.into_inner(), end, output),
-        Outcome::Done,
-    )
+    match spelled(alloc, &writer.into_inner(), end) {
+        Ok(text) => Outcome::of_write(output.write_all(&text), Outcome::Done),
+        Err(NoMemory) => Outcome::NoMemory,
+    }
 }
 
 /// Whether a byte stands between digits.
@@ -68,14 +75,18 @@ fn is_gap(byte: u8) -> bool {
     matches!(byte, b' ' | b'\t' | b'\r' | b'\n')
 }
 
-/// Writes what the server said in lines of 16 bytes, and how the conversation ended.
-fn print<W: Write>(alloc: Global, said: &[u8], end: End, output: &mut W) -> io::Result<()> {
+/// The whole text of the output: what the server said in lines of 16 bytes, and how the conversation ended.
+fn spelled<A: Allocator + Copy>(alloc: A, said: &[u8], end: End) -> Result<Vec<u8, A>, NoMemory> {
+    let mut text = Vec::new(alloc);
     for row in said.chunks(16) {
         let digits = hex::encode(alloc, row)?;
-        writeln!(output, "{digits}")?;
+        text.extend_from_slice(digits.as_bytes())?;
+        text.push(b'\n')?;
     }
-    let word = end_word(end);
-    writeln!(output, "end {word}")
+    text.extend_from_slice(b"end ")?;
+    text.extend_from_slice(end_word(end).as_bytes())?;
+    text.push(b'\n')?;
+    Ok(text)
 }
 
 fn end_word(end: End) -> &'static str {

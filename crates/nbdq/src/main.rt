@@ -1,6 +1,7 @@
 //! nbdq: a Network Block Device server. See README.md.
 #![tactic(auto)]
 
+mod command_line;
 mod conversation;
 #[cfg(test)]
 mod faults;
@@ -11,10 +12,10 @@ mod script;
 #[cfg(test)]
 mod tests;
 
-use clap::{Command, Error};
+use clap::error::ErrorKind;
+use command_line::read_command_line;
 use conversation::talk_script;
 use outcome::Outcome;
-use std::alloc::Global;
 use std::io;
 use std::io::{BufReader, BufWriter, Write};
 use std::process::ExitCode;
@@ -22,40 +23,33 @@ use std::process::ExitCode;
 /// The status of a command line that is refused or asks for help.
 const USAGE: u8 = 2;
 
-/// Whether the command line asks for `talk`, the one command.
-fn asks_talk(alloc: Global, words: &[String]) -> Result<bool, Error> {
-    let command = Command::new(alloc, "nbdq")
-        .subcommand_required(true)
-        .subcommand(Command::new(alloc, "talk"))?;
-    let matches = command.try_get_matches_from(words)?;
-    Ok(matches.subcommand_name() == Some("talk"))
-}
-
-fn run_talk(rt: &(impl Input + Print + AllocGlobal)) -> io::Result<Outcome> {
+fn run_talk(rt: &(impl Input + Print + AllocGlobal)) -> Outcome {
     let alloc = rt.alloc();
-    let mut input = BufReader::new(alloc, rt.reader())?;
-    let mut output = BufWriter::new(alloc, io::writer(rt))?;
+    let Ok(mut input) = BufReader::new(alloc, rt.reader()) else {
+        return Outcome::NoMemory;
+    };
+    let Ok(mut output) = BufWriter::new(alloc, io::writer(rt)) else {
+        return Outcome::NoMemory;
+    };
     let outcome = talk_script(alloc, &mut input, &mut output);
-    if output.flush().is_err() {
-        return Ok(Outcome::WriteFailed);
+    match output.flush() {
+        Ok(()) => outcome,
+        Err(_) => Outcome::WriteFailed,
     }
-    Ok(outcome)
 }
 
-fn main(rt: HostRuntime) -> anyhow::Result<ExitCode> {
-    let alloc = rt.alloc();
-    let words: Vec<String> = std::env::args(&rt)?.collect(alloc)?;
-    match asks_talk(alloc, words.as_slice()) {
-        Ok(true) => {}
-        Ok(false) => return Ok(ExitCode::from(USAGE)),
+// A standard error that fails changes no status.
+fn main(rt: HostRuntime) -> ExitCode {
+    let outcome = match read_command_line(&rt) {
+        Ok(()) => run_talk(&rt),
+        Err(error) if error.kind() == ErrorKind::OutOfMemory => Outcome::NoMemory,
         Err(error) => {
-            rt.eprintln(&format!(in alloc; "{error}")?)?;
-            return Ok(ExitCode::from(USAGE));
+            let _ = rt.eprint(&error);
+            return ExitCode::from(USAGE);
         }
-    }
-    let outcome = run_talk(&rt).unwrap_or(Outcome::NoMemory);
+    };
     if let Some(text) = outcome.text() {
-        rt.eprintln(text)?;
+        let _ = rt.eprintln(text);
     }
-    Ok(ExitCode::from(outcome.status()))
+    ExitCode::from(outcome.status())
 }

@@ -1,4 +1,12 @@
+//! How a command of the program went, and what the shell is told of it.
+
+ghost use Rattle.std.specs.Prelude.{◌≡◌, ◌≢◌, OnOk, IfErr};
+ghost use Rattle.std.specs.Option.{option_copied};
+ghost use Rattle.std.specs.IoError.{error_kind};
+ghost use Rattle.nbdq.specs.Outcomes.{status_of, text_of};
+
 use std::io;
+use std::io::ErrorKind;
 
 /// How a command of the program went.
 #[derive(Clone, Copy, Debug, PartialEq, Eq)]
@@ -13,7 +21,9 @@ pub enum Outcome {
 
 impl Outcome {
     /// The exit status of the program.
-    pub fn status(self) -> u8 {
+    pub fn status(self) -> u8
+        ensures { result ≡ status_of self }
+    {
         match self {
             Outcome::Done => 0,
             Outcome::Refused => 1,
@@ -23,7 +33,9 @@ impl Outcome {
     }
 
     /// What standard error is told.
-    pub fn text(self) -> Option<&'static str> {
+    pub fn text(self) -> Option<&'static str>
+        ensures { option_copied result ≡ text_of self }
+    {
         match self {
             Outcome::Done | Outcome::Refused => None,
             Outcome::NoMemory => Some("no memory"),
@@ -33,10 +45,14 @@ impl Outcome {
     }
 
     /// What a write of the output came to, where all went well before it.
-    pub fn of_write(written: io::Result<()>, well: Outcome) -> Outcome {
+    pub fn of_write(written: io::Result<()>, well: Outcome) -> Outcome
+        ensures written { OnOk written (result ≡ well) }
+        ensures no_memory { IfErr written (λ e. error_kind e ≡ ErrorKind.OutOfMemory → result ≡ Outcome.NoMemory) }
+        ensures failed { IfErr written (λ e. error_kind e ≢ ErrorKind.OutOfMemory → result ≡ Outcome.WriteFailed) }
+    {
         match written {
             Ok(()) => well,
-            Err(error) if error.kind() == io::ErrorKind::OutOfMemory => Outcome::NoMemory,
+            Err(error) if error.kind() == ErrorKind::OutOfMemory => Outcome::NoMemory,
             Err(_) => Outcome::WriteFailed,
         }
     }

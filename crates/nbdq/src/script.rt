@@ -6,7 +6,7 @@ use nbd_base::NoMemory;
 use nbd_commands::{
     Config, ConfigError, DEFAULT_INFLIGHT, ExportList, ExportSettings, Refusal, is_inflight,
 };
-use std::alloc::{AllocError, AllocFailed, Global};
+use std::alloc::{AllocError, AllocFailed, Allocator};
 
 /// Why a line of the head is refused.
 pub enum LineFault {
@@ -51,15 +51,15 @@ impl From<ConfigError> for LineFault {
 }
 
 /// What reading the head of a script gives.
-pub enum Head<'a> {
+pub enum Head<'a, A: Allocator + Copy> {
     /// What is configured, and the bytes behind the head.
-    Read(Config<Global>, &'a [u8]),
+    Read(Config<A>, &'a [u8]),
     /// The first refused line, counted from 1.
     Refused(usize, LineFault),
 }
 
 /// Reads the head at the front of a script.
-pub fn read_head(alloc: Global, script: &[u8]) -> Head<'_> {
+pub fn read_head<A: Allocator + Copy>(alloc: A, script: &[u8]) -> Head<'_, A> {
     let mut draft = Draft::new(alloc);
     let mut rest = script;
     let mut count = 0usize;
@@ -93,13 +93,13 @@ fn first_line(bytes: &[u8]) -> (&[u8], &[u8])
 
 /// What the lines before have configured.
 #[derive(Drop)]
-struct Draft {
-    exports: ExportList<Global>,
+struct Draft<A: Allocator + Copy> {
+    exports: ExportList<A>,
     inflight: Option<u64>,
 }
 
-impl Draft {
-    fn new(alloc: Global) -> Draft {
+impl<A: Allocator + Copy> Draft<A> {
+    fn new(alloc: A) -> Draft<A> {
         Draft {
             exports: ExportList::new(alloc),
             inflight: None,
@@ -107,14 +107,14 @@ impl Draft {
     }
 
     /// Takes one line. One without fields, or that begins with `#`, is passed over.
-    fn line(&mut self, alloc: Global, line: &[u8]) -> Result<(), LineFault> {
+    fn line(&mut self, alloc: A, line: &[u8]) -> Result<(), LineFault> {
         if line.first() == Some(&b'#') {
             return Ok(());
         }
         let fields = fields_of(alloc, line)?;
         match fields.as_slice() {
             [] => Ok(()),
-            [b"export", name, settings @ ..] => self.export(name, settings),
+            [b"export", name, size, settings @ ..] => self.export(name, size, settings),
             [b"inflight", count] => self.inflight(count),
             _ => Err(LineFault::Form),
         }
@@ -132,27 +132,30 @@ impl Draft {
         Ok(())
     }
 
-    fn export(&mut self, name: &[u8], fields: &[&[u8]]) -> Result<(), LineFault> {
+    fn export(&mut self, name: &[u8], size: &[u8], fields: &[&[u8]]) -> Result<(), LineFault> {
+        let Some(size) = size.strip_prefix(b"size=") else {
+            return Err(LineFault::Form);
+        };
+        let plain = ExportSettings::new(name, number(size)?);
         let mut written = Written::new();
         for field in fields {
             written.field(field)?;
         }
-        self.exports.add(&written.settings(name)?)?;
+        self.exports.add(&written.settings(plain))?;
         Ok(())
     }
 
-    fn config(self) -> Result<Config<Global>, Refusal> {
+    fn config(self) -> Result<Config<A>, Refusal> {
         let Draft { exports, inflight } = self;
         Config::new(exports, inflight.unwrap_or(DEFAULT_INFLIGHT))
     }
 }
 
-/// The settings that an export's line has written so far.
+/// The settings that an export's line has written behind its size so far.
 #[derive(Clone, Copy)]
 struct Written<'a> {
     description: Option<&'a [u8]>,
     read_only: Option<bool>,
-    size: Option<u64>,
     reservation: Option<u64>,
     limit: Option<u64>,
     weight: Option<u64>,
@@ -165,7 +168,6 @@ impl<'a> Written<'a> {
         Written {
             description: None,
             read_only: None,
-            size: None,
             reservation: None,
             limit: None,
             weight: None,
@@ -185,7 +187,6 @@ impl<'a> Written<'a> {
         let value = &field[at + 1..];
         match &field[..at] {
             b"desc" => once(&mut self.description, value),
-            b"size" => once(&mut self.size, number(value)?),
             b"r" => once(&mut self.reservation, number(value)?),
             b"l" => once(&mut self.limit, number(value)?),
             b"w" => once(&mut self.weight, number(value)?),
@@ -195,23 +196,18 @@ impl<'a> Written<'a> {
         }
     }
 
-    /// The settings, with the defaults for what isn't written. The size has none.
-    fn settings(self, name: &'a [u8]) -> Result<ExportSettings<'a>, LineFault> {
-        let Some(size) = self.size else {
-            return Err(LineFault::Form);
-        };
-        let plain = ExportSettings::new(name, size);
-        Ok(ExportSettings {
-            name,
+    /// The settings, each by its default where it isn't written.
+    fn settings(self, plain: ExportSettings<'a>) -> ExportSettings<'a> {
+        ExportSettings {
             description: self.description,
-            size,
             read_only: self.read_only.unwrap_or(plain.read_only),
             reservation: self.reservation.unwrap_or(plain.reservation),
             limit: self.limit.unwrap_or(plain.limit),
             weight: self.weight.unwrap_or(plain.weight),
             depth: self.depth.unwrap_or(plain.depth),
             window: self.window.unwrap_or(plain.window),
-        })
+            ..plain
+        }
     }
 }
 
@@ -246,7 +242,7 @@ fn number(digits: &[u8]) -> Result<u64, LineFault> {
 }
 
 /// The fields of a line, which one or more spaces part.
-fn fields_of(alloc: Global, line: &[u8]) -> Result<Vec<&[u8]>, AllocError> {
+fn fields_of<A: Allocator>(alloc: A, line: &[u8]) -> Result<Vec<&[u8], A>, AllocError> {
     let mut fields = Vec::new(alloc);
     for field in line.split(|byte| *byte == b' ') {
         if !field.is_empty() {

@@ -1,13 +1,10 @@
-use Rattle.std.proofs.Common.{◌≡◌, sym, ap, ◌∙◌, length, arith}
+use Rattle.std.proofs.Common.{◌≡◌, sym, ◌∙◌}
 use Rattle.std.specs.Prelude.{None}
 use Rattle.nbd_commands.specs.Refusals.{asked, first_refusal}
-use Rattle.nbd_commands.proofs.ExportLemmas.{not_refused, not_full}
+use Rattle.nbd_commands.proofs.ExportLemmas.{not_refused}
 use Rattle.nbd_commands.proofs.config.ExportList.add.Goals as goal
 
 pub put-requires : goal.put-requires
 put-requires g c =
     let none : first_refusal c.deref.result.now (asked c.args.settings.now) ≡ None = sym c.first_refusal.ensures ∙ c.in_default.is in
-    record {
-      valid = not_refused c.deref.result.now (asked c.args.settings.now) none;
-      room = omega (arith, not_full c.deref.result.now (asked c.args.settings.now) none, ap length c.deref.ensures.value);
-    }
+    not_refused c.deref.result.now (asked c.args.settings.now) none

@@ -1,0 +1,20 @@
+-- What the shell is told of how a command went.
+use Rattle.std.specs.Prelude.{ℕ, List, Option, Some, None, codes}
+use Rattle.nbdq.specs.declared.outcome.Outcome.{Outcome}
+use Rattle.nbdq.specs.declared.outcome.Outcome.TheVariants.{Done, Refused, NoMemory, ReadFailed, WriteFailed}
+
+-- the exit status
+abbrev pub status_of : Outcome → ℕ
+status_of Done = 0
+status_of Refused = 1
+status_of NoMemory = 3
+status_of ReadFailed = 4
+status_of WriteFailed = 4
+
+-- the line on standard error. A refusal is told on standard output
+abbrev pub text_of : Outcome → Option (List ℕ)
+text_of Done = None
+text_of Refused = None
+text_of NoMemory = Some (codes "no memory")
+text_of ReadFailed = Some (codes "read failed")
+text_of WriteFailed = Some (codes "write failed")
