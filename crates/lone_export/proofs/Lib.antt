@@ -7,3 +7,5 @@ pub mod Done
 pub mod Opening
 pub mod Again
 pub mod Tags
+pub mod Replays
+pub mod Bounds

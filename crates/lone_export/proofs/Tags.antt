@@ -4,7 +4,7 @@ use Rattle.nbd_commands.specs.Terms.{Terms}
 use Rattle.nbd_commands.specs.Verdict.{verdict_of}
 use Rattle.nbd_commands.specs.Meaning.{may_want_memory}
 use Rattle.reply_box.specs.Sessions.{is_here, is_open_at, is_left_at, is_here_at, outbox_at}
-use Rattle.tag_clock.specs.LimitTags.{unrolled, beginnings, limit_tags}
+use Rattle.tag_clock.specs.LimitTags.{unrolled, beginnings}
 use Rattle.tag_clock.proofs.Unrolled.{last_of, later-last_of, last_of-push, begun_on}
 use Rattle.lone_export.specs.Alone.{Alone, Moved, opening, own_step, answers_alone, outstanding, limit_tag}
 use Rattle.lone_export.specs.LimitTags.{tag_of, arrived, given_tags, accepted_moments, GivesUnrolledTags}

@@ -1,14 +1,15 @@
 -- What a contract sees of a `Lone`, and what its calls answer, as steps.
-use Rattle.std.specs.Prelude.{◌≡◌, ℕ, ◌<◌, ◌^◌, ◌==◌, nat_le, ◌&&◌, Bool, true, false, not, List, [], ◌∷◌, ◌++◌, length, filter, if◌then◌else◌, Option, Some, None, Result, Ok, Err}
+use Rattle.std.specs.Prelude.{◌≡◌, ℕ, ◌+◌, ◌<◌, ◌≤◌, ◌^◌, ◌==◌, nat_le, ◌&&◌, Bool, true, false, not, List, [], ◌∷◌, ◌++◌, length, filter, if◌then◌else◌, Option, Some, None, Result, Ok, Err}
 use Rattle.nbd_wire.specs.Grammar.{RequestMessage}
 use Rattle.nbd_commands.specs.Terms.{Terms}
 use Rattle.nbd_commands.specs.Meaning.{may_want_memory}
-use Rattle.reply_box.specs.Sessions.{is_open_at, is_here}
+use Rattle.reply_box.specs.Sessions.{is_open_at, is_here, is_here_at}
 use Rattle.reply_box.specs.declared.fault.NotOpen.{NotOpen}
 use Rattle.reply_box.specs.declared.seat.Taken.{Taken}
 use Rattle.reply_box.specs.declared.seat.Taken.TheVariants as taking
 use Rattle.export_queue.specs.declared.Picked.{Picked}
-use Rattle.lone_export.specs.Alone.{Alone, Job, own_step, outstanding, opening}
+use Rattle.lone_export.specs.Alone.{Alone, Job, own_step, alone, answers_alone, outstanding, opening}
+use Rattle.lone_export.specs.Calls.{to_come}
 use Rattle.lone_export.specs.declared.step.Step.{Step}
 use Rattle.lone_export.specs.declared.step.Step.TheVariants.{Pick}
 use Rattle.lone_export.specs.declared.step.StepAnswer.{StepAnswer}
@@ -54,6 +55,18 @@ abbrev pub slots_picked : List ℕ → Option Picked → List ℕ
 slots_picked slots None = slots
 slots_picked slots (Some p) = slots ++ p.slot ∷ []
 
+-- what is true of every export: each request in service has a slot of its own, no more wait or are in service than may,
+-- no session has more outstanding than the window, and counts and steps to come leave room in 64 bits
+pub record IsInBounds (w : Whole) : Type 0 where
+  pub slotted : length w.slots ≡ length w.state.out
+  pub slots_differ : (m n slot : ℕ) → slot_at w m ≡ Some slot → slot_at w n ≡ Some slot → m ≡ n
+  pub sized : length w.state.image ≡ w.terms.size
+  pub few_wait : length w.state.waiting ≤ w.terms.depth
+  pub few_out : length w.state.out ≤ w.inflight
+  pub few_outstanding : (s : ℕ) → is_here_at w.state.sessions s ≡ true → outstanding w.state s ≤ w.terms.window
+  pub few_here : length (filter is_here w.state.sessions) ≤ 64
+  pub few_steps : w.state.count + to_come w.state ≤ 2 ^ 58
+
 -- what is so where a session may be opened, or is refused
 abbrev pub MayAttach : Whole → Result (Unit {0}) AttachRefusal → Type 0
 MayAttach w (Ok done) = (nat_le (2 ^ 56) w.state.count ≡ false) × ((length (filter is_here w.state.sessions) == 64) ≡ false)
@@ -86,6 +99,13 @@ module _ {A : Type 0} where
   -- a step may be made again; for a pick fewer are out than may be
   abbrev pub MayReplay : Whole → Step A → Type 0
   MayReplay w step = step ≡ Pick → length w.state.out < w.inflight
+
+  -- the steps were made one after another, and their answers follow those that were there before
+  pub record IsReplayed (old new : Whole) (steps : List (Step A)) (before after : List (StepAnswer A)) : Type 0 where
+    pub state : new.state ≡ alone old.terms old.state steps
+    pub answers : after ≡ before ++ answers_alone old.terms old.state steps
+    pub terms : new.terms ≡ old.terms
+    pub inflight : new.inflight ≡ old.inflight
 
   abbrev pub attach_refusal_said : AttachRefusal → StepAnswer A
   attach_refusal_said attaching.Worn = said.Worn

@@ -4,7 +4,7 @@ ghost use Rattle.std.specs.Bool.{OnTrue, OnFalse};
 ghost use Rattle.nbd_commands.specs.Terms.{terms_of};
 ghost use Rattle.nbd_commands.specs.Exports.{IsWithin};
 ghost use Rattle.lone_export.specs.Calls.{to_come};
-ghost use Rattle.lone_export.specs.Lone.{opening_of, Does, DoesOr, pick_said, leave_said, gone_said, take_said, attach_said, arrived_said, slots_picked, slots_without, slot_at, MayAttach, MayArrive};
+ghost use Rattle.lone_export.specs.Lone.{opening_of, Does, DoesOr, pick_said, leave_said, gone_said, take_said, attach_said, arrived_said, slots_picked, slots_without, slot_at, MayAttach, MayArrive, IsInBounds};
 
 mod replaying;
 
@@ -200,6 +200,17 @@ impl<I: Image> Lone<I> {
         ensures { I.bytes result.now ≡ self.now.state.image }
     {
         &self.image
+    }
+
+    /// Does nothing: its contract says what is true of every export.
+    ///
+    /// Each request in service has a slot of its own; no more wait and no more are in service than may; no session has
+    /// more outstanding than its window, and 64 at most are not gone.
+    pub fn laws(&self)
+        ensures { IsInBounds self.now }
+    {
+        self.queue.laws();
+        self.sessions.laws();
     }
 
     /// A request of a session arrives at a moment. One that is refused is handed back.

@@ -1,84 +1,160 @@
+ghost use Rattle.std.specs.Prelude.{◌≡◌, ◌≤◌, length};
+
+use crate::said::{arrived_said, attach_said, gone_said, leave_said, pick_said, take_said};
 use crate::*;
 use bytes::Bytes;
 use export_store::{Flat, Image};
+use nbd_base::NoMemory;
 use nbd_commands::{Config, ExportList, ExportSettings};
-use nbd_wire::protocol::READ;
+use nbd_wire::protocol::{READ, WRITE};
 use nbd_wire::{Request, RequestHead};
-use reply_box::Taken;
-use std::alloc::Global;
-use std::test::Fail;
+use std::alloc::Allocator;
 use tag_clock::Moment;
 
-fn read_of(cookie: u64, offset: u64, length: u32) -> Request<Global> {
-    let head = RequestHead {
+mod memory;
+mod runs;
+
+fn head_of(kind: u16, cookie: u64, offset: u64, length: u32) -> RequestHead
+    ensures { result.kind ≡ kind }
+{
+    RequestHead {
         flags: 0,
-        kind: READ,
+        kind,
         cookie,
         offset,
         length,
+    }
+}
+
+fn read_of<A: Allocator>(cookie: u64, offset: u64, length: u32) -> Request<A> {
+    Request::new(head_of(READ, cookie, offset, length), Bytes::new())
+}
+
+fn write_of<A: Allocator + Copy>(
+    alloc: A,
+    cookie: u64,
+    bytes: &[u8],
+) -> Result<Request<A>, NoMemory>
+    requires { length bytes.now ≤ 4096 }
+{
+    let payload = match Bytes::copy_from_slice(alloc, bytes) {
+        Ok(payload) => payload,
+        Err(_) => Bytes::copy_from_slice(alloc, bytes)?,
     };
-    Request::new(head, Bytes::new())
+    let head = RequestHead {
+        flags: 0,
+        kind: WRITE,
+        cookie,
+        offset: 0,
+        length: bytes.len() as u32,
+    };
+    Ok(Request::new(head, payload))
 }
 
-// The cookie of the reply that is taken; 100 for Empty, 101 for End, 102 where the session isn't open.
-fn cookie(lone: &mut Lone<Flat<Global>>, session: u64) -> u64 {
-    match lone.take(session) {
-        Ok(Taken::Reply(first)) => first.cookie(),
-        Ok(Taken::Empty) => 100,
-        Ok(Taken::End) => 101,
-        Err(_) => 102,
+// A request of a session at a moment, which is 0 where it is out of range.
+fn arrival<A: Allocator>(session: u64, nanoseconds: u64, request: Request<A>) -> Step<A> {
+    Step::Arrive {
+        session,
+        moment: Moment::new(nanoseconds).unwrap_or(Moment::zero()),
+        request,
     }
 }
 
-// The error of an arrival that is answered; 100 where it waits, and 101 to 103 where it is refused.
-fn arrival(lone: &mut Lone<Flat<Global>>, session: u64, request: Request<Global>) -> u32 {
-    match lone.arrive(session, Moment::zero(), request) {
-        Ok(
-            Arrived::Accepted {
-                number: _,
-                limit_tag: _,
-            },
-        ) => 100,
-        Ok(Arrived::Answered(error)) => error,
-        Err(back) => match back.refusal {
-            ArriveRefusal::NotOpen => 101,
-            ArriveRefusal::Worn => 102,
-            ArriveRefusal::Hold => 103,
+fn perform<A: Allocator>(number: u64) -> Step<A> {
+    Step::Perform {
+        number,
+        memory: true,
+    }
+}
+
+// A configuration of this one export, in which 32 requests may be in service.
+fn configured<A: Allocator + Copy>(
+    alloc: A,
+    settings: &ExportSettings<'_>,
+) -> Result<Config<A>, NoMemory> {
+    let mut list = ExportList::new(alloc);
+    if list.add(settings).is_err() {
+        return Err(NoMemory);
+    }
+    Config::new(list, 32).map_err(|_refusal| NoMemory)
+}
+
+fn opened<A: Allocator + Copy>(
+    alloc: A,
+    settings: &ExportSettings<'_>,
+) -> Result<Lone<Flat<A>>, NoMemory> {
+    let config = configured(alloc, settings)?;
+    let Some(export) = config.exports().first() else {
+        return Err(NoMemory);
+    };
+    Lone::new(alloc, export, 32)
+}
+
+// The step by its own call. None where memory was refused, or for a pick as many are in service as may be.
+fn made<A: Allocator + Copy>(lone: &mut Lone<Flat<A>>, step: Step<A>) -> Option<StepAnswer<A>> {
+    match step {
+        Step::Attach => attach_said(lone.attach()),
+        Step::Arrive {
+            session,
+            moment,
+            request,
+        } => Some(arrived_said(lone.arrive(session, moment, request))),
+        Step::Pick => {
+            if lone.may_pick() {
+                Some(pick_said(lone.pick()))
+            } else {
+                None
+            }
+        }
+        Step::Perform { number, memory: _ } => match lone.slot_of(number) {
+            Some(slot) => {
+                let memory = lone.perform(slot, number)?;
+                Some(StepAnswer::Performed { memory })
+            }
+            None => Some(StepAnswer::NotOut),
         },
+        Step::Take { session } => Some(take_said(lone.take(session))),
+        Step::Leave { session } => Some(leave_said(lone.leave(session))),
+        Step::Gone { session } => Some(gone_said(lone.gone(session))),
     }
 }
 
-// An export of 8 bytes in which one request may wait and two of a session be outstanding.
-#[test]
-fn one_request_is_served(rt: HostRuntime) -> Result<(), Fail> {
-    let mut list = ExportList::new(rt.alloc());
-    let mut settings = ExportSettings::new(b"a", 8);
-    settings.depth = 1;
-    settings.window = 2;
-    assert!(rt; list.add(&settings).is_ok());
-    let config = Config::new(list, 4).ok().ok_or("configured")?;
-    let export = config.exports().first().ok_or("an export")?;
-    let mut lone: Lone<Flat<Global>> = Lone::new(rt.alloc(), export, 4).ok().ok_or("memory")?;
-    assert!(rt; lone.may_attach().is_ok() && lone.may_arrive(0).is_err());
-    assert_eq!(rt; lone.attach(), Ok(0));
-    assert!(rt; lone.may_arrive(0).is_ok());
-    assert_eq!(rt; arrival(&mut lone, 0, read_of(7, 0, 8)), 100);
-    assert_eq!(rt; arrival(&mut lone, 0, read_of(8, 1, 8)), 22);
-    assert_eq!(rt; arrival(&mut lone, 0, read_of(9, 0, 8)), 103);
-    assert_eq!(rt; cookie(&mut lone, 0), 8);
-    assert_eq!(rt; arrival(&mut lone, 0, read_of(9, 0, 8)), 5);
-    assert_eq!(rt; lone.waiting(), 1);
-    let picked = if lone.may_pick() { lone.pick() } else { None };
-    assert!(rt; picked.is_some() && lone.slot_of(0) == Some(0));
-    assert!(rt; lone.perform(0, 1).is_none() && lone.perform(0, 0) == Some(true));
-    assert!(rt; lone.leave(0).is_ok());
-    assert_eq!(rt; arrival(&mut lone, 0, read_of(9, 0, 8)), 101);
-    assert_eq!(rt; cookie(&mut lone, 0), 9);
-    assert_eq!(rt; cookie(&mut lone, 0), 7);
-    assert_eq!(rt; cookie(&mut lone, 0), 101);
-    assert!(rt; lone.gone(0).is_ok());
-    assert_eq!(rt; cookie(&mut lone, 0), 102);
-    assert_eq!(rt; lone.steps(), 11);
-    assert_eq!(rt; lone.image().size(), 8);
-    Ok(())
+// The step by a replay.
+fn remade<A: Allocator + Copy>(lone: &mut Lone<Flat<A>>, step: &Step<A>) -> Option<StepAnswer<A>> {
+    if lone.may_replay(step) {
+        lone.replay(step).ok()
+    } else {
+        None
+    }
+}
+
+// What is written of an answer.
+fn text<A: Allocator, B: Allocator + Copy>(
+    alloc: B,
+    answer: &StepAnswer<A>,
+) -> Result<String<B>, NoMemory> {
+    let text = match answer {
+        StepAnswer::Session(number) => format!(in alloc; "session {number}")?,
+        StepAnswer::Accepted { number, limit_tag } => {
+            format!(in alloc; "accepted {number} {limit_tag}")?
+        }
+        StepAnswer::Answered(error) => format!(in alloc; "answered {error}")?,
+        StepAnswer::Picked(number) => format!(in alloc; "request {number}")?,
+        StepAnswer::Nothing => format!(in alloc; "none")?,
+        StepAnswer::Performed { memory } => format!(in alloc; "performed {memory}")?,
+        StepAnswer::Reply(reply) => {
+            let content = reply.content().as_slice();
+            format!(in alloc; "reply {} {} {content:?}", reply.cookie(), reply.error())?
+        }
+        StepAnswer::Empty => format!(in alloc; "empty")?,
+        StepAnswer::End => format!(in alloc; "end")?,
+        StepAnswer::Left => format!(in alloc; "left")?,
+        StepAnswer::Dropped => format!(in alloc; "gone")?,
+        StepAnswer::NotOpen => format!(in alloc; "not open")?,
+        StepAnswer::Worn => format!(in alloc; "worn")?,
+        StepAnswer::Full => format!(in alloc; "full")?,
+        StepAnswer::Hold => format!(in alloc; "hold")?,
+        StepAnswer::NotOut => format!(in alloc; "not out")?,
+    };
+    Ok(text)
 }

@@ -1,9 +1,9 @@
 //! Steps that were made before are made again.
-ghost use Rattle.std.specs.Prelude.{◌≡◌, [], length, false, IsTrue, IfOk, IfSome, IfNone, OnErr};
+ghost use Rattle.std.specs.Prelude.{◌≡◌, ◌≤◌, ◌↔◌, [], length, take, false, IsTrue, IfOk, IfSome, IfNone, OnErr};
 ghost use Rattle.std.specs.Bool.{OnTrue, OnFalse};
 ghost use Rattle.nbd_commands.specs.Verdict.{verdict_at};
 ghost use Rattle.nbd_commands.specs.Meaning.{image_after, data_of, may_want_memory};
-ghost use Rattle.lone_export.specs.Lone.{Does, MayReplay, mark_again};
+ghost use Rattle.lone_export.specs.Lone.{Does, MayReplay, IsReplayed, mark_again};
 
 use crate::lone::{Lone, reply_of};
 use crate::said::{arrived_said, attach_said, gone_said, leave_said, pick_said, take_said};
@@ -14,6 +14,7 @@ use nbd_base::NoMemory;
 use nbd_commands::{Done, apply, may_want_memory};
 use nbd_wire::Request;
 use nbd_wire::protocol::ENOMEM;
+use std::alloc::Allocator;
 
 impl<I: Image> Lone<I> {
     /// Makes a step, as it was made before.
@@ -48,6 +49,43 @@ impl<I: Image> Lone<I> {
             Step::Leave { session } => Ok(leave_said(self.leave(*session))),
             Step::Gone { session } => Ok(gone_said(self.gone(*session))),
         }
+    }
+
+    /// Whether the step may be made by `replay`: a pick may where fewer requests are in service than may be at once.
+    pub fn may_replay(&self, step: &Step<I::Alloc>) -> bool
+        ensures { IsTrue result ↔ MayReplay {A = I.Alloc} self.now step.now }
+    {
+        match step {
+            Step::Pick => self.may_pick(),
+            _ => true,
+        }
+    }
+
+    /// Makes the steps one after another, up to the first that finds no memory or may not be made. Their answers go
+    /// behind the others of `answers`, and the result is how many were made.
+    pub fn replay_all<B: Allocator>(
+        &mut self,
+        steps: &[Step<I::Alloc>],
+        answers: &mut Vec<StepAnswer<I::Alloc>, B>,
+    ) -> usize
+        ensures few { result ≤ length steps.now }
+        ensures made { IsReplayed {A = I.Alloc} self.old self.new (take result steps.now) answers.old.items answers.new.items }
+    {
+        let mut made = 0;
+        for step in steps {
+            if !self.may_replay(step) {
+                return made;
+            }
+            if answers.reserve(1).is_err() {
+                return made;
+            }
+            let Ok(answer) = self.replay(step) else {
+                return made;
+            };
+            answers.push_reserved(answer);
+            made += 1;
+        }
+        made
     }
 
     // The request of this number is done, or told that no memory was there, as the mark says.

@@ -1,0 +1,221 @@
+//! Each growth is refused in turn: a call that finds no memory leaves all as it was, and succeeds when it is made again.
+
+use super::*;
+use nbd_commands::ExportConfig;
+use refusing::Refusing;
+use reply_box::Taken;
+use std::alloc::Global;
+
+// An export that is made again where it found no memory.
+fn insisted<A: Allocator + Copy>(
+    alloc: A,
+    export: &ExportConfig<A>,
+) -> Result<Lone<Flat<A>>, NoMemory> {
+    match Lone::new(alloc, export, 4) {
+        Ok(lone) => Ok(lone),
+        Err(NoMemory) => Lone::new(alloc, export, 4),
+    }
+}
+
+// Whether a session of this number is attached, at the second time where the first found no memory and changed nothing.
+fn attaches<A: Allocator + Copy>(lone: &mut Lone<Flat<A>>, number: u64) -> bool {
+    let steps = lone.steps();
+    match lone.attach() {
+        Ok(session) => session == number,
+        Err(NotAttached::NoMemory) => {
+            let kept = lone.steps() == steps && lone.take(number).is_err();
+            kept && lone.attach() == Ok(number)
+        }
+        Err(NotAttached::Refused(_)) => false,
+    }
+}
+
+// The next request is served: whether memory was there for it.
+fn serves<A: Allocator + Copy>(
+    lone: &mut Lone<Flat<A>>,
+    number: u64,
+    request: Request<A>,
+) -> Option<bool> {
+    if lone.arrive(0, Moment::zero(), request).is_err() || !lone.may_pick() {
+        return None;
+    }
+    let picked = lone.pick()?;
+    if picked.number == number {
+        lone.perform(picked.slot, number)
+    } else {
+        None
+    }
+}
+
+// Whether the oldest reply of session 0 has this error and this content.
+fn replies<A: Allocator + Copy>(lone: &mut Lone<Flat<A>>, error: u32, content: &[u8]) -> bool {
+    match lone.take(0) {
+        Ok(Taken::Reply(reply)) => {
+            reply.error() == error && reply.content().as_slice() == content
+        }
+        _ => false,
+    }
+}
+
+// Whether a WRITE and a READ of its bytes are served. A READ that finds no memory is answered 12 (ENOMEM), and the next
+// one brings the bytes.
+fn is_whole<A: Allocator + Copy>(alloc: A, export: &ExportConfig<A>) -> Result<bool, NoMemory> {
+    let bytes = b"\xde\xad\xbe\xef";
+    let mut lone = insisted(alloc, export)?;
+    let attached = attaches(&mut lone, 0) && attaches(&mut lone, 1);
+    let write = write_of(alloc, 1, bytes)?;
+    let written = serves(&mut lone, 0, write) == Some(true) && replies(&mut lone, 0, b"");
+    let read = match serves(&mut lone, 1, read_of(2, 0, 4)) {
+        Some(true) => replies(&mut lone, 0, bytes),
+        Some(false) => {
+            replies(&mut lone, 12, b"")
+                && serves(&mut lone, 2, read_of(3, 0, 4)) == Some(true)
+                && replies(&mut lone, 0, bytes)
+        }
+        None => false,
+    };
+    Ok(attached && written && read)
+}
+
+#[test]
+fn each_growth_is_refused_in_turn(rt: HostRuntime) -> Result<(), NoMemory> {
+    let settings = ExportSettings {
+        depth: 2,
+        window: 2,
+        ..ExportSettings::new(b"a", 8)
+    };
+    let mut refused = 0u64;
+    for nth in 1..1000u64 {
+        let heap = Refusing::new(rt.alloc(), 0);
+        let config = configured(&heap, &settings)?;
+        let export = config.exports().first().ok_or(NoMemory)?;
+        heap.arm(nth);
+        let whole = is_whole(&heap, export)?;
+        assert!(rt; whole, "at {nth}");
+        if heap.is_armed() {
+            break;
+        }
+        refused = nth;
+    }
+    assert!(rt; refused >= 7);
+    Ok(())
+}
+
+// Whether a replay answers this, at the second time where the first found no memory and changed nothing.
+fn repeats<A: Allocator + Copy>(
+    lone: &mut Lone<Flat<A>>,
+    step: &Step<A>,
+    wanted: &str,
+    plain: Global,
+) -> Result<bool, NoMemory> {
+    let before = (lone.steps(), lone.waiting(), lone.to_come());
+    let answer = match remade(lone, step) {
+        Some(answer) => answer,
+        None => {
+            if (lone.steps(), lone.waiting(), lone.to_come()) != before {
+                return Ok(false);
+            }
+            remade(lone, step).ok_or(NoMemory)?
+        }
+    };
+    Ok(text(plain, &answer)?.as_str() == wanted)
+}
+
+fn is_repeated<A: Allocator + Copy>(
+    alloc: A,
+    export: &ExportConfig<A>,
+    plain: Global,
+) -> Result<bool, NoMemory> {
+    let mut lone = insisted(alloc, export)?;
+    let write = arrival(0, 0, write_of(alloc, 1, b"\xde\xad\xbe\xef")?);
+    let read = arrival(0, 0, read_of(2, 0, 4));
+    let take = Step::Take { session: 0 };
+    Ok(
+        repeats(&mut lone, &Step::Attach, "session 0", plain)?
+            && repeats(&mut lone, &write, "accepted 0 0", plain)?
+            && repeats(&mut lone, &read, "accepted 1 0", plain)?
+            && repeats(&mut lone, &Step::Pick, "request 0", plain)?
+            && repeats(&mut lone, &Step::Pick, "request 1", plain)?
+            && repeats(&mut lone, &perform(0), "performed true", plain)?
+            && repeats(&mut lone, &perform(1), "performed true", plain)?
+            && repeats(&mut lone, &take, "reply 1 0 []", plain)?
+            && repeats(&mut lone, &take, "reply 2 0 [222, 173, 190, 239]", plain)?,
+    )
+}
+
+#[test]
+fn each_growth_of_a_replay_is_refused_in_turn(rt: HostRuntime) -> Result<(), NoMemory> {
+    let settings = ExportSettings {
+        depth: 2,
+        window: 2,
+        ..ExportSettings::new(b"a", 8)
+    };
+    let mut refused = 0u64;
+    for nth in 1..1000u64 {
+        let heap = Refusing::new(rt.alloc(), 0);
+        let config = configured(&heap, &settings)?;
+        let export = config.exports().first().ok_or(NoMemory)?;
+        heap.arm(nth);
+        let whole = is_repeated(&heap, export, rt.alloc())?;
+        assert!(rt; whole, "at {nth}");
+        if heap.is_armed() {
+            break;
+        }
+        refused = nth;
+    }
+    assert!(rt; refused >= 8);
+    Ok(())
+}
+
+// Whether a list of steps is replayed in two goes at most: the second makes those that the first left.
+fn is_resumed<A: Allocator + Copy>(
+    alloc: A,
+    export: &ExportConfig<A>,
+    plain: Global,
+) -> Result<bool, NoMemory> {
+    let mut lone = insisted(alloc, export)?;
+    let steps = [
+        Step::Attach,
+        arrival(0, 0, write_of(alloc, 1, b"\xde\xad\xbe\xef")?),
+        Step::Pick,
+        perform(0),
+        arrival(0, 0, read_of(2, 0, 4)),
+        Step::Pick,
+        perform(1),
+        Step::Take { session: 0 },
+        Step::Take { session: 0 },
+    ];
+    let mut answers = Vec::new(alloc);
+    let first = lone.replay_all(&steps, &mut answers);
+    let rest = lone.replay_all(&steps[first..], &mut answers);
+    let last = answers.last().ok_or(NoMemory)?;
+    Ok(
+        first + rest == 9
+            && answers.len() == 9
+            && text(plain, last)?.as_str() == "reply 2 0 [222, 173, 190, 239]",
+    )
+}
+
+#[test]
+fn each_growth_of_a_list_is_refused_in_turn(rt: HostRuntime) -> Result<(), NoMemory> {
+    let settings = ExportSettings {
+        depth: 2,
+        window: 2,
+        ..ExportSettings::new(b"a", 8)
+    };
+    let mut refused = 0u64;
+    for nth in 1..1000u64 {
+        let heap = Refusing::new(rt.alloc(), 0);
+        let config = configured(&heap, &settings)?;
+        let export = config.exports().first().ok_or(NoMemory)?;
+        heap.arm(nth);
+        let whole = is_resumed(&heap, export, rt.alloc())?;
+        assert!(rt; whole, "at {nth}");
+        if heap.is_armed() {
+            break;
+        }
+        refused = nth;
+    }
+    assert!(rt; refused >= 8);
+    Ok(())
+}
