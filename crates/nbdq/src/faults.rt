@@ -1,5 +1,7 @@
-//! One conversation, cut at each of its places, and with each read and write failing in turn.
+//! One conversation, cut at each of its places, and with each read, write and growth failing in turn; and so one script.
 
+use crate::conversation::talk_script;
+use crate::outcome::Outcome;
 use nbd_commands::{Config, ExportList, ExportSettings};
 use nbd_session::{Counted, End, TalkFault, talk};
 use refusing::Refusing;
@@ -15,6 +17,14 @@ const SENT: &[u8; 109] =
 /// The greeting, the answer to EXPORT_NAME, and two replies.
 const SAID: &[u8; 64] =
     b"\x4e\x42\x44\x4d\x41\x47\x49\x43\x49\x48\x41\x56\x45\x4f\x50\x54\x00\x03\x00\x00\x00\x00\x00\x00\x10\x00\x01\x6d\x67\x44\x66\x98\x00\x00\x00\x00\x00\x00\x00\x00\x00\x00\x00\x01\x67\x44\x66\x98\x00\x00\x00\x00\x00\x00\x00\x00\x00\x00\x00\x02\xde\xad\xbe\xef";
+
+/// The same as a script.
+const SCRIPT: &[u8] =
+    b"export a size=4096\n---\n00000003 49484156454f5054 00000001 00000001 61\n25609513 0000 0001 0000000000000001 0000000000000ffc 00000004 deadbeef\n25609513 0000 0000 0000000000000002 0000000000000ffc 00000004\n25609513 0000 0002 0000000000000003 0000000000000000 00000000\n";
+
+/// What the program writes for it.
+const PRINTED: &[u8] =
+    b"4e42444d4147494349484156454f5054\n00030000000000001000016d67446698\n00000000000000000000000167446698\n000000000000000000000002deadbeef\nend disc\n";
 
 /// Gives bytes, and then ends or fails.
 #[derive(Drop)]
@@ -170,4 +180,85 @@ fn each_growth_is_refused(rt: HostRuntime) -> Result<(), Fail> {
     }
     assert!(rt; refused > 0);
     Ok(())
+}
+
+#[test]
+fn each_read_of_a_script_fails(rt: HostRuntime) {
+    for count in 0..SCRIPT.len() {
+        let mut input = Source {
+            bytes: beginning(SCRIPT, count),
+            fails: true,
+        };
+        let mut output = Vec::new(rt.alloc());
+        let outcome = talk_script(rt.alloc(), &mut input, &mut output);
+        assert_eq!(rt; outcome, Outcome::ReadFailed, "at {count}");
+        assert!(rt; output.is_empty(), "at {count}");
+    }
+}
+
+#[test]
+fn each_write_for_a_script_fails(rt: HostRuntime) {
+    for (script, written) in [
+        (SCRIPT, PRINTED),
+        (b"---\n", b"line 1 C3\n"),
+        (b"", b"line 1 refused\n"),
+        (b"export a size=1\n---\n0", b"hex refused\n"),
+    ] {
+        for room in 0..written.len() {
+            let mut input = script;
+            let mut output = Sink {
+                taken: Vec::new(rt.alloc()),
+                room,
+            };
+            let outcome = talk_script(rt.alloc(), &mut input, &mut output);
+            assert_eq!(rt; outcome, Outcome::WriteFailed, "at {room}");
+            let well = output.taken.as_slice() == beginning(written, room);
+            assert!(rt; well, "at {room}");
+        }
+    }
+}
+
+/// How the script goes where the first so many growths are given and the next is refused, and what is written.
+fn printed_without_memory(
+    alloc: Global,
+    heap: &Refusing<Global>,
+    script: &[u8],
+) -> (Outcome, Vec<u8>) {
+    let mut input = script;
+    let mut output = Vec::new(alloc);
+    let outcome = talk_script(heap, &mut input, &mut output);
+    (outcome, output)
+}
+
+#[test]
+fn each_growth_for_a_script_is_refused(rt: HostRuntime) {
+    for (script, most, written) in [
+        (SCRIPT, Outcome::Done, PRINTED),
+        (
+            b"export a size=1 desc=d1\nexport a size=2\n---\n",
+            Outcome::Refused,
+            b"line 2 C4\n",
+        ),
+        (
+            b"export a size=1\n---\n0",
+            Outcome::Refused,
+            b"hex refused\n",
+        ),
+    ] {
+        let mut refused = 0u64;
+        for nth in 1..1000u64 {
+            let heap = Refusing::new(rt.alloc(), nth);
+            let (outcome, output) = printed_without_memory(rt.alloc(), &heap, script);
+            if heap.is_armed() {
+                assert_eq!(rt; outcome, most);
+                let well = output.as_slice() == written;
+                assert!(rt; well);
+                break;
+            }
+            assert_eq!(rt; outcome, Outcome::NoMemory, "at {nth}");
+            assert!(rt; output.is_empty(), "at {nth}");
+            refused = nth;
+        }
+        assert!(rt; refused > 3 && refused < 999);
+    }
 }

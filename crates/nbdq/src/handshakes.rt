@@ -9,6 +9,12 @@ use std::test::Fail;
 const GO_TWICE: &[u8] =
     b"\x00\x00\x00\x03\x49\x48\x41\x56\x45\x4f\x50\x54\x00\x00\x00\x07\x00\x00\x00\x07\x00\x00\x00\x01\x61\x00\x00\x49\x48\x41\x56\x45\x4f\x50\x54\x00\x00\x00\x07\x00\x00\x00\x07\x00\x00\x00\x01\x61\x00\x00";
 
+const GREETING: &[u8] = b"\x4e\x42\x44\x4d\x41\x47\x49\x43\x49\x48\x41\x56\x45\x4f\x50\x54\x00\x03";
+
+/// UNSUP for option 99.
+const UNKNOWN_OPTION: &[u8] =
+    b"\x00\x03\xe8\x89\x04\x55\x65\xa9\x00\x00\x00\x63\x80\x00\x00\x01\x00\x00\x00\x00";
+
 /// The greeting, POLICY, and then the export's information and ACK.
 const FULL_AND_GIVEN: &[u8] =
     b"\x4e\x42\x44\x4d\x41\x47\x49\x43\x49\x48\x41\x56\x45\x4f\x50\x54\x00\x03\x00\x03\xe8\x89\x04\x55\x65\xa9\x00\x00\x00\x07\x80\x00\x00\x02\x00\x00\x00\x00\x00\x03\xe8\x89\x04\x55\x65\xa9\x00\x00\x00\x07\x00\x00\x00\x03\x00\x00\x00\x0c\x00\x00\x00\x00\x00\x00\x00\x00\x10\x00\x01\x6d\x00\x03\xe8\x89\x04\x55\x65\xa9\x00\x00\x00\x07\x00\x00\x00\x01\x00\x00\x00\x00";
@@ -77,7 +83,8 @@ fn no_session_by_name(rt: HostRuntime) -> Result<(), Fail> {
         let (entry, said, asked) = shaken(rt.alloc(), BY_NAME, answer, 1)?;
         assert_eq!(rt; entry, Ok(Entry::Refused));
         assert_eq!(rt; asked, 1);
-        assert_eq!(rt; said.len(), 18);
+        let well = said.as_slice() == GREETING;
+        assert!(rt; well);
     }
     Ok(())
 }
@@ -86,6 +93,10 @@ fn no_session_by_name(rt: HostRuntime) -> Result<(), Fail> {
 fn too_many_options(rt: HostRuntime) -> Result<(), Fail> {
     let other_magic = b"\x49\x48\x41\x56\x45\x4f\x50\x55\x00\x00\x00\x63\x00\x00\x00\x00";
     let too_long = b"\x49\x48\x41\x56\x45\x4f\x50\x54\x00\x00\x00\x63\x00\x01\x00\x01";
+    let mut replies = Vec::from_slice(rt.alloc(), GREETING)?;
+    for _ in 0..1000u32 {
+        replies.extend_from_slice(UNKNOWN_OPTION)?;
+    }
     for (last, end) in [
         (*OPTION_99, End::TooMany),
         (*other_magic, End::BadMagic),
@@ -99,7 +110,8 @@ fn too_many_options(rt: HostRuntime) -> Result<(), Fail> {
         let (entry, said, asked) = shaken(rt.alloc(), &sent, Attached::Given, 0)?;
         assert_eq!(rt; entry, Ok(Entry::Out(end)));
         assert_eq!(rt; asked, 0);
-        assert_eq!(rt; said.len(), 20_018);
+        let well = said == replies;
+        assert!(rt; well);
     }
     Ok(())
 }
