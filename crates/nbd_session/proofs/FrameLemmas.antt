@@ -1,14 +1,14 @@
 -- What the bytes at a request's place are, where not all of it has come.
-use Rattle.std.proofs.Common.{◌≡◌, ◌≢◌, ℕ, zero, suc, ◌+◌, ◌<◌, ◌≤◌, List, [], ◌∷◌, ◌++◌, length, take, refl, sym, ap, subst, ◌∙◌, inl, inr, arith, Err}
+use Rattle.std.proofs.Common.{◌≡◌, ℕ, ◌<◌, ◌≤◌, List, [], ◌∷◌, ◌++◌, length, refl, inl, inr, arith, Err}
 use Rattle.std.proofs.lemmas.Bool.{cases_lt}
-use Rattle.std.proofs.lemmas.List.{length-append, append-nil}
+use Rattle.std.proofs.lemmas.List.{length-append}
 use Rattle.nbd_wire.specs.declared.requests.RequestHead.{RequestHead}
-use Rattle.nbd_wire.specs.Grammar.{head_text, IsHead, IsTooLong, RequestMessage, IsRequest}
+use Rattle.nbd_wire.specs.Grammar.{head_text, IsHead, IsTooLong}
 use Rattle.nbd_wire.proofs.HeadLemmas.{length-head_text}
 use Rattle.nbd_session.specs.declared.talking.End.{End}
 use Rattle.nbd_session.specs.declared.talking.End.TheVariants as ends
 use Rattle.nbd_session.specs.declared.talking.TalkFault.TheVariants as faults
-use Rattle.nbd_session.specs.Requests.{StopsBy, IsAnswered}
+use Rattle.nbd_session.specs.Requests.{StopsBy}
 use Rattle.nbd_session.specs.Frames.{IsWhole, IsFrame}
 
 -- fewer bytes than a head has

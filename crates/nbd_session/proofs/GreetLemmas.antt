@@ -1,5 +1,5 @@
 -- The greeting, and the client's flags.
-use Rattle.std.proofs.Common.{◌≡◌, ℕ, ◌+◌, ◌<◌, ◌≤◌, ◌^◌, Bool, List, [], ◌∷◌, ◌++◌, Option, Some, None, Result, Ok, Err, length, refl, sym, ap, subst, ◌∙◌, inl, inr, append_assoc, arith}
+use Rattle.std.proofs.Common.{◌≡◌, ℕ, ◌<◌, ◌^◌, Bool, List, [], ◌∷◌, ◌++◌, Option, Some, Ok, Err, length, refl, sym, ap, subst, inl, inr, arith}
 use Rattle.std.proofs.lemmas.List.{append-nil}
 use Rattle.std.specs.Io.KnownBytes.{Consumes, Appends}
 use Rattle.std.specs.Int.{w32, to_be_bytes}
@@ -8,14 +8,12 @@ use Rattle.nbd_options.specs.Exports.{ExportFacts}
 use Rattle.nbd_options.specs.Haggled.{greeting_text, wants_no_zeroes}
 use Rattle.nbd_session.specs.declared.talking.End.{End}
 use Rattle.nbd_session.specs.declared.talking.End.TheVariants as ends
-use Rattle.nbd_session.specs.declared.talking.Entry.{Entry}
 use Rattle.nbd_session.specs.declared.talking.Entry.TheVariants as entries
-use Rattle.nbd_session.specs.declared.talking.TalkFault.{TalkFault}
 use Rattle.nbd_session.specs.declared.talking.TalkFault.TheVariants as faults
 use Rattle.nbd_session.specs.Streams.{WritesPart}
 use Rattle.nbd_session.specs.Outcomes.{Converses, Going}
-use Rattle.nbd_session.specs.Conversation.{FlagsStop, HasFlags, Greeted, Shaken, Handshake, HagglesOn, IsLeft, IsEntryTold}
-use Rattle.nbd_session.proofs.BufferLemmas.{Appends-none, Consumes-none}
+use Rattle.nbd_session.specs.Conversation.{FlagsStop, Handshake, HagglesOn, IsEntryTold}
+use Rattle.nbd_session.proofs.BufferLemmas.{Consumes-none}
 
 module _ (may : ℕ → Attached → Type 0) (table : List ExportFacts) where
   -- the greeting was said, and so the flags end the handshake

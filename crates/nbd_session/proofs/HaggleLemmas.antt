@@ -1,7 +1,7 @@
 -- One option after another, up to where haggling ends.
-use Rattle.std.proofs.Common.{◌≡◌, ℕ, ◌+◌, ◌<◌, ◌≤◌, ◌^◌, Bool, List, [], ◌∷◌, ◌++◌, Option, Some, None, Result, Ok, Err, length, refl, sym, ap, subst, ◌∙◌, inl, inr, append_assoc, arith}
+use Rattle.std.proofs.Common.{◌≡◌, ℕ, ◌+◌, ◌<◌, ◌≤◌, ◌^◌, Bool, List, [], ◌∷◌, ◌++◌, Option, Some, None, Ok, Err, length, refl, sym, ap, subst, ◌∙◌, inl, inr, append_assoc, arith}
 use Rattle.std.proofs.lemmas.List.{append-nil}
-use Rattle.std.specs.List.{flat_map, AllByRecursion}
+use Rattle.std.specs.List.{flat_map}
 use Rattle.std.specs.Io.KnownBytes.{Consumes, Appends}
 use Rattle.std.specs.declared.vec.Vec.{Vec}
 use Rattle.nbd_wire.specs.Grammar.{option_text}
@@ -24,10 +24,10 @@ use Rattle.nbd_session.specs.declared.offers.Offer.{Offer}
 use Rattle.nbd_session.specs.declared.offers.Offer.TheVariants as offers
 use Rattle.nbd_session.specs.Streams.{WritesPart}
 use Rattle.nbd_session.specs.Options.{asked_text, text_to, MayAnswer, IsAsked, GoesOn, entry_after, OptionStops, StopsAt, Leaves, Haggles}
-use Rattle.nbd_session.specs.Haggling.{IsOffered, TakesOption, IsSeen, Answers}
-use Rattle.nbd_session.specs.Outcomes.{Converses, IsBeginning, IsTold, Going}
+use Rattle.nbd_session.specs.Haggling.{TakesOption, IsSeen, Answers}
+use Rattle.nbd_session.specs.Outcomes.{Converses, IsBeginning, Going}
 use Rattle.nbd_session.specs.Conversation.{HagglesOn, IsLeft, IsEntryTold}
-use Rattle.nbd_session.proofs.BufferLemmas.{Appends-none, Consumes-none}
+use Rattle.nbd_session.proofs.BufferLemmas.{Appends-none}
 
 -- the bytes of a whole option
 pub record GotOption (seen : ℕ) (old new : Option (List ℕ)) (number : ℕ) (content : List ℕ) : Type 0 where

@@ -1,5 +1,5 @@
 -- A handshake is haggling over the options that its bytes spell.
-use Rattle.std.proofs.Common.{◌≡◌, ◌≢◌, ℕ, ◌+◌, ◌<◌, ◌≤◌, ◌^◌, ◌⊎◌, Bool, true, false, List, [], ◌∷◌, ◌++◌, Option, Some, None, length, take, drop, refl, sym, ap, subst, ◌∙◌, inl, inr, arith, nat_le, nat_lt}
+use Rattle.std.proofs.Common.{◌≡◌, ◌≢◌, ℕ, ◌+◌, ◌<◌, ◌≤◌, ◌^◌, ◌⊎◌, Bool, true, false, List, [], ◌∷◌, ◌++◌, Option, Some, None, length, take, refl, sym, ap, subst, ◌∙◌, inl, inr, arith, nat_le, nat_lt}
 use Rattle.std.specs.Prelude.{if◌then◌else◌, not}
 use Rattle.std.specs.Str.{bytes_eq}
 use Rattle.std.specs.List.{AllByRecursion, flat_map}
@@ -18,14 +18,14 @@ use Rattle.nbd_options.specs.declared.haggle.HeadFault.TheVariants as head_fault
 use Rattle.nbd_options.specs.declared.saying.HaggleEnd.{HaggleEnd}
 use Rattle.nbd_options.specs.declared.saying.HaggleEnd.TheVariants as haggle_ends
 use Rattle.nbd_options.specs.Exports.{ExportFacts}
-use Rattle.nbd_options.specs.Haggled.{Asked, Said, LeavesOpen, said_to, said_to_head, texts_to, and_then, said_from, ends_by, head_fault, told_length, wants_no_zeroes, greeting_text, haggled}
+use Rattle.nbd_options.specs.Haggled.{Asked, Said, LeavesOpen, said_to, said_to_head, texts_to, and_then, said_from, ends_by, head_fault, told_length, wants_no_zeroes, haggled}
 use Rattle.nbd_options.proofs.TurnLemmas.{options_in_turn}
 use Rattle.nbd_session.specs.declared.talking.End.{End}
 use Rattle.nbd_session.specs.declared.talking.End.TheVariants as ends
 use Rattle.nbd_session.specs.declared.talking.Entry.{Entry}
 use Rattle.nbd_session.specs.declared.talking.Entry.TheVariants as entries
 use Rattle.nbd_session.specs.Options.{asked_text, text_to, IsAsked, GoesOn, OptionStops, StopsAt, Leaves, Haggles, entry_after}
-use Rattle.nbd_session.specs.Conversation.{FlagsStop, HasFlags, Greeted, Shaken}
+use Rattle.nbd_session.specs.Conversation.{FlagsStop, Greeted}
 use Rattle.nbd_session.specs.Haggled.{EndsAs, IsSent, IsHaggled, HandshakeIsHaggled}
 
 -- ---- a refused head

@@ -1,5 +1,5 @@
 -- An export that haggling enters is one of the table, where a session is always given.
-use Rattle.std.proofs.Common.{◌≡◌, ℕ, Bool, true, false, List, [], ◌∷◌, Option, Some, None, refl, sym, ap, subst, ◌∙◌, get_or}
+use Rattle.std.proofs.Common.{◌≡◌, ℕ, Bool, true, false, List, [], ◌∷◌, Option, Some, None, refl, subst, get_or}
 use Rattle.std.specs.Prelude.{slice_get, ◌==◌, if◌then◌else◌, length}
 use Rattle.std.specs.List.{position}
 use Rattle.std.specs.Str.{bytes_eq}

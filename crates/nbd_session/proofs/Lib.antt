@@ -2,6 +2,8 @@ pub mod KnownLemmas
 pub mod BufferLemmas
 pub mod FrameLemmas
 pub mod OutcomeLemmas
+pub mod Turns
+pub mod ServingLemmas
 pub mod ServeLemmas
 pub mod OfferLemmas
 pub mod HaggleLemmas

@@ -1,6 +1,6 @@
 -- To the same bytes one text is said, and one end comes; and the text to a beginning of them is a beginning of it.
-use Rattle.std.proofs.Common.{◌≡◌, ℕ, ◌+◌, ◌^◌, ◌<◌, ◌≤◌, ◌⊎◌, Bool, true, false, cond, ltb, List, [], ◌∷◌, ◌++◌, Option, Some, None, map, length, take, drop, refl, sym, ap, subst, ◌∙◌, arith, inl, inr, append_assoc}
-use Rattle.std.specs.Prelude.{slice_get, is_some}
+use Rattle.std.proofs.Common.{◌≡◌, ℕ, ◌+◌, ◌^◌, ◌<◌, Bool, cond, ltb, List, [], ◌∷◌, ◌++◌, Option, Some, None, map, length, take, refl, sym, ap, subst, ◌∙◌, arith, inl, inr, append_assoc}
+use Rattle.std.specs.Prelude.{slice_get}
 use Rattle.std.specs.Int.{w32, from_be_bytes, to_be_bytes}
 use Rattle.std.proofs.lemmas.Bool.{cond-true, cond-false, lt-ltb, le-ltb}
 use Rattle.std.proofs.lemmas.List.{length-append, append-nil}
@@ -14,7 +14,7 @@ use Rattle.nbd_session.specs.declared.talking.End.{End}
 use Rattle.nbd_session.specs.declared.talking.End.TheVariants as ends
 use Rattle.nbd_session.specs.declared.talking.Entry.{Entry}
 use Rattle.nbd_session.specs.declared.talking.Entry.TheVariants as entries
-use Rattle.nbd_session.specs.Requests.{Serves, opening}
+use Rattle.nbd_session.specs.Requests.{opened}
 use Rattle.nbd_session.specs.Options.{Haggles}
 use Rattle.nbd_session.specs.Conversation.{FlagsStop, HasFlags, Greeted, Shaken, IsGiven, facts_of, ServesAt, Continues, Talked}
 use Rattle.nbd_session.proofs.OneService.{one_serving, more_serving, no_end, one_end}
@@ -136,7 +136,7 @@ module _ (table : List ExportFacts) where
 module _ (exports : List Export) where
   one_at : (o : Option Export) (rest t u : List ℕ) (e f : End) → ServesAt o rest t e → ServesAt o rest u f → (t ≡ u) × (e ≡ f)
   one_at None rest t u e f a b = absurd a
-  one_at (Some x) rest t u e f a b = one_serving (terms_of x) (opening (terms_of x)) rest t u e f a b
+  one_at (Some x) rest t u e f a b = one_serving (terms_of x) (opened (terms_of x)) rest t u e f a b
 
   one_continued : (entry : Entry) (rest t u : List ℕ) (e f : End) → Continues exports entry rest t e → Continues exports entry rest u f → (t ≡ u) × (e ≡ f)
   one_continued (entries.In n) rest t u e f a b = one_at (slice_get exports n) rest t u e f a b
@@ -152,7 +152,7 @@ module _ (exports : List Export) where
 
   more_at : (o : Option Export) (rest more t u : List ℕ) (e f : End) → ServesAt o rest t e → ServesAt o (rest ++ more) u f → (v : List ℕ) × (u ≡ t ++ v)
   more_at None rest more t u e f a b = absurd a
-  more_at (Some x) rest more t u e f a b = more_serving (terms_of x) (opening (terms_of x)) rest more t u e f a b
+  more_at (Some x) rest more t u e f a b = more_serving (terms_of x) (opened (terms_of x)) rest more t u e f a b
 
   more_continued : (entry other : Entry) (rest behind more t u : List ℕ) (e f : End) (first second later : List ℕ) → second ≡ first ++ later
       → (IsInside entry → (later ≡ []) × (other ≡ entry) × (behind ≡ rest ++ more)) → Continues exports entry rest t e → Continues exports other behind u f

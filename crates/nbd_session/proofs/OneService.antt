@@ -1,16 +1,17 @@
 -- To the same requests one text is said, and one end comes.
-use Rattle.std.proofs.Common.{◌≡◌, ◌≢◌, ℕ, ◌+◌, ◌^◌, ◌<◌, ◌≤◌, Bool, true, false, cond, ltb, eqb, List, [], ◌∷◌, ◌++◌, Option, Some, None, length, take, drop, refl, sym, ap, subst, ◌∙◌, arith, inl, inr, append_assoc}
+use Rattle.std.proofs.Common.{◌≡◌, ℕ, ◌<◌, cond, eqb, List, [], ◌∷◌, ◌++◌, Option, Some, None, length, refl, sym, ap, subst, ◌∙◌, arith, inl, inr, append_assoc}
 use Rattle.std.specs.List.{flat_map}
 use Rattle.std.proofs.lemmas.Bool.{cond-true, cond-false, eq-eqb, ne_eqb}
 use Rattle.std.proofs.lemmas.List.{length-append}
 use Rattle.nbd_wire.specs.declared.requests.RequestHead.{RequestHead}
-use Rattle.nbd_wire.specs.Grammar.{head_text, request_text, RequestMessage, IsHead, IsRequest}
+use Rattle.nbd_wire.specs.Grammar.{head_text, request_text, RequestMessage, IsRequest}
 use Rattle.nbd_wire.proofs.HeadLemmas.{length-head_text}
 use Rattle.nbd_wire.proofs.Places.{Place, unfinished, other, long, whole, place_of, head_at, head_of_whole, place_whole, place_unfinished, place_other, place_long, one_request}
 use Rattle.nbd_commands.specs.Terms.{Terms}
 use Rattle.nbd_session.specs.declared.talking.End.{End}
 use Rattle.nbd_session.specs.declared.talking.End.TheVariants as ends
-use Rattle.nbd_session.specs.Requests.{Standing, standing_after, standing_after_all, reply_to, replies, AreAnswered, IsAnswered, StopsBy, WearsOut, Ends, Serves}
+use Rattle.nbd_session.specs.Requests.{after, after_all, reply_to, replies, FindsWorn, AreAnswered, IsAnswered, StopsBy, Ends, Serves}
+use Rattle.lone_export.specs.Alone.{Alone}
 
 -- ---- the end at a request's place
 
@@ -71,59 +72,59 @@ no_end o e p q = let r : None ≡ Some e = sym p ∙ q in cc
 -- ---- the requests
 
 module _ (terms : Terms) where
-  one_stop : (s : Standing) (bytes : List ℕ) (e f : End) → Ends s bytes e → Ends s bytes f → e ≡ f
+  one_stop : (s : Alone) (bytes : List ℕ) (e f : End) → Ends terms s bytes e → Ends terms s bytes f → e ≡ f
   one_stop s bytes e f (inl p) (inl q) = one_end (stop_of bytes) e f (stopped bytes e p) (stopped bytes f q)
   one_stop s bytes e f (inl p) (inr (is, w)) = absurd (no_end (stop_of bytes) e (ap stop_of w.spelled ∙ goes_by w.message w.more w.answered) (stopped bytes e p))
   one_stop s bytes e f (inr (is, w)) (inl q) = absurd (no_end (stop_of bytes) f (ap stop_of w.spelled ∙ goes_by w.message w.more w.answered) (stopped bytes f q))
   one_stop s bytes e f (inr p) (inr q) = p.0 ∙ sym q.0
 
-  not_both : (s : Standing) (m : RequestMessage) (more : List ℕ) (e : End) → IsAnswered m → s.steps < 2 ^ 56 → Ends s (request_text m ++ more) e → ⊥
+  not_both : (s : Alone) (m : RequestMessage) (more : List ℕ) (e : End) → IsAnswered m → (FindsWorn terms s m → ⊥) → Ends terms s (request_text m ++ more) e → ⊥
   not_both s m more e p lt (inl q) = no_end (stop_of (request_text m ++ more)) e (goes_by m more p) (stopped (request_text m ++ more) e q)
-  not_both s m more e p lt (inr (is, w)) = absurd (omega (arith, lt, w.worn))
+  not_both s m more e p lt (inr (is, w)) = lt (subst (λ (k : RequestMessage). FindsWorn terms s k) (sym (one_request m w.message more w.more p.request w.answered.request w.spelled).0) w.worn)
 
-  one_service : (ms ns : List RequestMessage) (s : Standing) (r q : List ℕ) (e f : End) → flat_map request_text ms ++ r ≡ flat_map request_text ns ++ q
-      → AreAnswered terms s ms → AreAnswered terms s ns → Ends (standing_after_all terms s ms) r e → Ends (standing_after_all terms s ns) q f
+  one_service : (ms ns : List RequestMessage) (s : Alone) (r q : List ℕ) (e f : End) → flat_map request_text ms ++ r ≡ flat_map request_text ns ++ q
+      → AreAnswered terms s ms → AreAnswered terms s ns → Ends terms (after_all terms s ms) r e → Ends terms (after_all terms s ns) q f
       → (replies terms s ms ≡ replies terms s ns) × (e ≡ f)
-  one_service [] [] s r q e f same a b x y = (refl, one_stop s r e f x (subst (λ (t : List ℕ). Ends s t f) (sym same) y))
+  one_service [] [] s r q e f same a b x y = (refl, one_stop s r e f x (subst (λ (t : List ℕ). Ends terms s t f) (sym same) y))
   one_service [] (n ∷ ns) s r q e f same a b x y =
-      absurd (not_both s n (flat_map request_text ns ++ q) e b.0 b.1 (subst (λ (t : List ℕ). Ends s t e) (same ∙ append_assoc (request_text n) (flat_map request_text ns) q) x))
+      absurd (not_both s n (flat_map request_text ns ++ q) e b.0 b.1 (subst (λ (t : List ℕ). Ends terms s t e) (same ∙ append_assoc (request_text n) (flat_map request_text ns) q) x))
   one_service (m ∷ ms) [] s r q e f same a b x y =
-      absurd (not_both s m (flat_map request_text ms ++ r) f a.0 a.1 (subst (λ (t : List ℕ). Ends s t f) (sym same ∙ append_assoc (request_text m) (flat_map request_text ms) r) y))
+      absurd (not_both s m (flat_map request_text ms ++ r) f a.0 a.1 (subst (λ (t : List ℕ). Ends terms s t f) (sym same ∙ append_assoc (request_text m) (flat_map request_text ms) r) y))
   one_service (m ∷ ms) (n ∷ ns) s r q e f same a b x y =
       let one = one_request m n (flat_map request_text ms ++ r) (flat_map request_text ns ++ q) a.0.request b.0.request
       (sym (append_assoc (request_text m) (flat_map request_text ms) r) ∙ (same ∙ append_assoc (request_text n) (flat_map request_text ns) q)) in
       let is : n ≡ m = sym one.0 in
-      let tail = one_service ms ns (standing_after terms s m) r q e f one.1 a.2
-      (subst (λ (k : RequestMessage). AreAnswered terms (standing_after terms s k) ns) is b.2) x
-      (subst (λ (k : RequestMessage). Ends (standing_after_all terms (standing_after terms s k) ns) q f) is y) in
-      (ap (λ (t : List ℕ). reply_to terms s.image m ++ t) tail.0 ∙ ap (λ (k : RequestMessage). reply_to terms s.image k ++ replies terms (standing_after terms s k) ns) one.0, tail.1)
+      let tail = one_service ms ns (after terms s m) r q e f one.1 a.2
+      (subst (λ (k : RequestMessage). AreAnswered terms (after terms s k) ns) is b.2) x
+      (subst (λ (k : RequestMessage). Ends terms (after_all terms (after terms s k) ns) q f) is y) in
+      (ap (λ (t : List ℕ). reply_to terms s m ++ t) tail.0 ∙ ap (λ (k : RequestMessage). reply_to terms s k ++ replies terms (after terms s k) ns) one.0, tail.1)
 
-  pub one_serving : (s : Standing) (bytes t u : List ℕ) (e f : End) → Serves terms s bytes t e → Serves terms s bytes u f → (t ≡ u) × (e ≡ f)
+  pub one_serving : (s : Alone) (bytes t u : List ℕ) (e f : End) → Serves terms s bytes t e → Serves terms s bytes u f → (t ≡ u) × (e ≡ f)
   one_serving s bytes t u e f a b =
       let one = one_service a.requests b.requests s a.rest b.rest e f (sym a.spelled ∙ b.spelled) a.answered b.answered a.ends b.ends in
       (a.said ∙ (one.0 ∙ sym b.said), one.1)
 
   -- the text to a beginning of the requests is a beginning of the text to them
-  more_service : (ms ns : List RequestMessage) (s : Standing) (r q more : List ℕ) (e f : End) → (flat_map request_text ms ++ r) ++ more ≡ flat_map request_text ns ++ q
-      → AreAnswered terms s ms → AreAnswered terms s ns → Ends (standing_after_all terms s ns) q f → (v : List ℕ) × (replies terms s ns ≡ replies terms s ms ++ v)
+  more_service : (ms ns : List RequestMessage) (s : Alone) (r q more : List ℕ) (e f : End) → (flat_map request_text ms ++ r) ++ more ≡ flat_map request_text ns ++ q
+      → AreAnswered terms s ms → AreAnswered terms s ns → Ends terms (after_all terms s ns) q f → (v : List ℕ) × (replies terms s ns ≡ replies terms s ms ++ v)
   more_service [] ns s r q more e f same a b y = (replies terms s ns, refl)
   more_service (m ∷ ms) [] s r q more e f same a b y =
-      absurd (not_both s m ((flat_map request_text ms ++ r) ++ more) f a.0 a.1 (subst (λ (t : List ℕ). Ends s t f)
+      absurd (not_both s m ((flat_map request_text ms ++ r) ++ more) f a.0 a.1 (subst (λ (t : List ℕ). Ends terms s t f)
       (sym same ∙ (ap (λ (t : List ℕ). t ++ more) (append_assoc (request_text m) (flat_map request_text ms) r) ∙ append_assoc (request_text m) (flat_map request_text ms ++ r) more)) y))
   more_service (m ∷ ms) (n ∷ ns) s r q more e f same a b y =
       let one = one_request m n ((flat_map request_text ms ++ r) ++ more) (flat_map request_text ns ++ q) a.0.request b.0.request
       (sym (append_assoc (request_text m) (flat_map request_text ms ++ r) more) ∙ (ap (λ (t : List ℕ). t ++ more) (sym (append_assoc (request_text m) (flat_map request_text ms) r))
       ∙ (same ∙ append_assoc (request_text n) (flat_map request_text ns) q))) in
       let is : n ≡ m = sym one.0 in
-      let tail = more_service ms ns (standing_after terms s m) r q more e f one.1 a.2
-      (subst (λ (k : RequestMessage). AreAnswered terms (standing_after terms s k) ns) is b.2)
-      (subst (λ (k : RequestMessage). Ends (standing_after_all terms (standing_after terms s k) ns) q f) is y) in (
+      let tail = more_service ms ns (after terms s m) r q more e f one.1 a.2
+      (subst (λ (k : RequestMessage). AreAnswered terms (after terms s k) ns) is b.2)
+      (subst (λ (k : RequestMessage). Ends terms (after_all terms (after terms s k) ns) q f) is y) in (
         tail.0,
-        ap (λ (k : RequestMessage). reply_to terms s.image k ++ replies terms (standing_after terms s k) ns) is
-            ∙ (ap (λ (t : List ℕ). reply_to terms s.image m ++ t) tail.1 ∙ sym (append_assoc (reply_to terms s.image m) (replies terms (standing_after terms s m) ms) tail.0)),
+        ap (λ (k : RequestMessage). reply_to terms s k ++ replies terms (after terms s k) ns) is
+            ∙ (ap (λ (t : List ℕ). reply_to terms s m ++ t) tail.1 ∙ sym (append_assoc (reply_to terms s m) (replies terms (after terms s m) ms) tail.0)),
       )
 
-  pub more_serving : (s : Standing) (bytes more t u : List ℕ) (e f : End) → Serves terms s bytes t e → Serves terms s (bytes ++ more) u f → (v : List ℕ) × (u ≡ t ++ v)
+  pub more_serving : (s : Alone) (bytes more t u : List ℕ) (e f : End) → Serves terms s bytes t e → Serves terms s (bytes ++ more) u f → (v : List ℕ) × (u ≡ t ++ v)
   more_serving s bytes more t u e f a b =
       let go = more_service a.requests b.requests s a.rest b.rest more e f (ap (λ (x : List ℕ). x ++ more) (sym a.spelled) ∙ b.spelled) a.answered b.answered b.ends in
       (go.0, b.said ∙ (go.1 ∙ ap (λ (x : List ℕ). x ++ go.0) (sym a.said)))

@@ -1,12 +1,12 @@
 -- To any bytes some text is said, and some end comes.
-use Rattle.std.specs.Prelude.{nat_le, slice_get, map, option_map}
+use Rattle.std.specs.Prelude.{slice_get, map, option_map}
 use Rattle.std.proofs.lemmas.Option.{slice_get-map}
-use Rattle.std.proofs.Common.{◌≡◌, ◌≢◌, ℕ, zero, suc, ◌+◌, ◌^◌, ◌<◌, ◌≤◌, ◌⊎◌, Bool, true, false, List, [], ◌∷◌, ◌++◌, Option, Some, None, length, take, drop, get_or, refl, sym, ap, subst, ◌∙◌, arith, inl, inr, append_assoc}
+use Rattle.std.proofs.Common.{◌≡◌, ℕ, zero, suc, ◌+◌, ◌^◌, ◌<◌, ◌≤◌, Bool, List, [], ◌∷◌, ◌++◌, Option, Some, None, length, take, drop, refl, sym, ap, subst, ◌∙◌, arith, inl, inr, append_assoc}
 use Rattle.std.specs.Str.{bytes_eq}
 use Rattle.std.specs.Int.{w32, from_be_bytes, to_be_bytes}
 use Rattle.std.proofs.lemmas.Bool.{cases_lt, cases_eq, cases_Bool, false≢true}
 use Rattle.std.proofs.lemmas.Nat.{be_bytes_4}
-use Rattle.std.proofs.lemmas.List.{append-nil, length-append, length-take, take-append-drop, drop_at}
+use Rattle.std.proofs.lemmas.List.{length-append, length-take, take-append-drop, drop_at}
 use Rattle.std.proofs.lemmas.Slice.Eq.{bytes_eq-Decides}
 use Rattle.nbd_wire.specs.Grammar.{request_text, head_text, RequestMessage, IsRequest, option_head_text, option_magic}
 use Rattle.nbd_wire.proofs.FieldLemmas.{IsBytes-drop, IsBytes-take}
@@ -17,19 +17,20 @@ use Rattle.nbd_commands.specs.Exports.{Export}
 use Rattle.nbd_commands.specs.Terms.{Terms, terms_of}
 use Rattle.nbd_session.specs.declared.talking.End.{End}
 use Rattle.nbd_session.specs.declared.talking.End.TheVariants as ends
-use Rattle.nbd_session.specs.Requests.{Standing, standing_after, reply_to, IsAnswered, StopsBy, Serves, opening}
+use Rattle.nbd_session.specs.Requests.{after, reply_to, FindsWorn, IsAnswered, StopsBy, Serves, opened}
+use Rattle.lone_export.specs.Alone.{Alone}
+use Rattle.nbd_session.proofs.Turns.{worn_or_not}
 use Rattle.nbd_options.specs.declared.answers.Next.{Next}
 use Rattle.nbd_options.specs.declared.answers.Next.TheVariants as nexts
 use Rattle.nbd_options.specs.declared.attach.Attached.TheVariants as attached
 use Rattle.nbd_options.specs.declared.saying.HaggleEnd.{HaggleEnd}
-use Rattle.nbd_options.specs.declared.saying.HaggleEnd.TheVariants as haggle_ends
 use Rattle.nbd_options.specs.Exports.{ExportFacts}
-use Rattle.nbd_options.specs.Replies.{ClientOption, next_after}
-use Rattle.nbd_options.specs.Haggled.{Asked, Said, said_to, ends_by, wants_no_zeroes, greeting_text}
+use Rattle.nbd_options.specs.Replies.{next_after}
+use Rattle.nbd_options.specs.Haggled.{Asked, said_to, wants_no_zeroes, greeting_text}
 use Rattle.nbd_session.specs.declared.talking.Entry.{Entry}
 use Rattle.nbd_session.specs.declared.talking.Entry.TheVariants as entries
-use Rattle.nbd_session.specs.Options.{asked_text, text_to, MayAnswer, IsAsked, GoesOn, OptionStops, Haggles, entry_after}
-use Rattle.nbd_session.specs.Conversation.{AreBytes, FlagsStop, HasFlags, Greeted, Shaken, IsGiven, facts_of, ServesAt, Continues, Talked}
+use Rattle.nbd_session.specs.Options.{asked_text, text_to, MayAnswer, IsAsked, OptionStops, Haggles, entry_after}
+use Rattle.nbd_session.specs.Conversation.{AreBytes, FlagsStop, Greeted, IsGiven, facts_of, ServesAt, Continues, Talked}
 use Rattle.nbd_session.proofs.ServeLemmas.{stops, goes_on}
 use Rattle.nbd_session.proofs.HaggleLemmas.{stops_here, leaves_here, same_said}
 use Rattle.nbd_session.proofs.HaggleLemmas as row
@@ -49,14 +50,14 @@ long_request : (m : RequestMessage) (more bytes : List ℕ) → bytes ≡ reques
 long_request m more bytes is = omega (arith, ap length is, length-append (request_text m) more, length-append (head_text m.head) m.payload, length-head_text m.head)
 
 module _ (terms : Terms) where
-  stopped : (s : Standing) (bytes : List ℕ) (end : End) → StopsBy bytes end → Some_text (Serves terms s) bytes
+  stopped : (s : Alone) (bytes : List ℕ) (end : End) → StopsBy bytes end → Some_text (Serves terms s) bytes
   stopped s bytes end h = ([], end, stops terms s bytes end h)
 
-  nonempty : (s : Standing) (bytes : List ℕ) → (0 < length bytes → StopsBy bytes ends.Cut) → Some_text (Serves terms s) bytes
+  nonempty : (s : Alone) (bytes : List ℕ) → (0 < length bytes → StopsBy bytes ends.Cut) → Some_text (Serves terms s) bytes
   nonempty s [] h = stopped s [] ends.Over refl
   nonempty s (b ∷ bytes) h = stopped s (b ∷ bytes) ends.Cut (h (omega arith))
 
-  worn_out : (s : Standing) (m : RequestMessage) (more bytes : List ℕ) → bytes ≡ request_text m ++ more → IsAnswered m → 2 ^ 56 ≤ s.steps → Some_text (Serves terms s) bytes
+  worn_out : (s : Alone) (m : RequestMessage) (more bytes : List ℕ) → bytes ≡ request_text m ++ more → IsAnswered m → FindsWorn terms s m → Some_text (Serves terms s) bytes
   worn_out s m more bytes is p worn = (
     [],
     ends.Worn,
@@ -71,34 +72,34 @@ module _ (terms : Terms) where
   )
 
   abbrev Later : List ℕ → Type 0
-  Later bytes = (s : Standing) (more : List ℕ) → length more < length bytes → AreBytes more → Some_text (Serves terms s) more
+  Later bytes = (s : Alone) (more : List ℕ) → length more < length bytes → AreBytes more → Some_text (Serves terms s) more
 
-  answered_on : (s : Standing) (m : RequestMessage) (more bytes : List ℕ) → AreBytes bytes → bytes ≡ request_text m ++ more → IsAnswered m → s.steps < 2 ^ 56 → Later bytes → Some_text (Serves terms s) bytes
+  answered_on : (s : Alone) (m : RequestMessage) (more bytes : List ℕ) → AreBytes bytes → bytes ≡ request_text m ++ more → IsAnswered m → (FindsWorn terms s m → ⊥) → Later bytes → Some_text (Serves terms s) bytes
   answered_on s m more bytes f is p few later =
-      let rest = later (standing_after terms s m) more (omega (arith, long_request m more bytes is)) (bytes_behind (request_text m) more bytes is f) in
-      (reply_to terms s.image m ++ rest.0, rest.1, subst (λ (b : List ℕ). Serves terms s b (reply_to terms s.image m ++ rest.0) rest.1) (sym is) (goes_on terms s m more rest.0 rest.1 p few rest.2))
+      let rest = later (after terms s m) more (omega (arith, long_request m more bytes is)) (bytes_behind (request_text m) more bytes is f) in
+      (reply_to terms s m ++ rest.0, rest.1, subst (λ (b : List ℕ). Serves terms s b (reply_to terms s m ++ rest.0) rest.1) (sym is) (goes_on terms s m more rest.0 rest.1 p few rest.2))
 
-  whole_on : (s : Standing) (m : RequestMessage) (more bytes : List ℕ) → AreBytes bytes → bytes ≡ request_text m ++ more → IsRequest m → Later bytes → Some_text (Serves terms s) bytes
+  whole_on : (s : Alone) (m : RequestMessage) (more bytes : List ℕ) → AreBytes bytes → bytes ≡ request_text m ++ more → IsRequest m → Later bytes → Some_text (Serves terms s) bytes
   whole_on s m more bytes f is p later =
       elim (cases_eq m.head.kind 2) [
         | inl two ↦ stopped s bytes ends.Disc (m.head, m.payload ++ more, is ∙ append_assoc (head_text m.head) m.payload more, p.fits, two)
-        | inr ne ↦ elim (cases_lt s.steps (2 ^ 56)) [
-          | inl lt ↦ answered_on s m more bytes f is (record { request = p; no_disc = ne }) lt later
-          | inr worn ↦ worn_out s m more bytes is (record { request = p; no_disc = ne }) worn
+        | inr ne ↦ elim (worn_or_not terms s m) [
+          | inr fresh ↦ answered_on s m more bytes f is (record { request = p; no_disc = ne }) fresh later
+          | inl worn ↦ worn_out s m more bytes is (record { request = p; no_disc = ne }) worn
         ]
       ]
 
-  served : (s : Standing) (bytes : List ℕ) → AreBytes bytes → Sees bytes → Later bytes → Some_text (Serves terms s) bytes
+  served : (s : Alone) (bytes : List ℕ) → AreBytes bytes → Sees bytes → Later bytes → Some_text (Serves terms s) bytes
   served s bytes f (inl (inl h)) later = nonempty s bytes (λ lt. (lt, h))
   served s bytes f (inl (inr h)) later = stopped s bytes ends.BadMagic h
   served s bytes f (inr (inl h)) later = stopped s bytes ends.TooLong h
   served s bytes f (inr (inr (m, more, is, p))) later = whole_on s m more bytes f is p later
 
-  some_service : (n : ℕ) (s : Standing) (bytes : List ℕ) → length bytes < n → AreBytes bytes → Some_text (Serves terms s) bytes
+  some_service : (n : ℕ) (s : Alone) (bytes : List ℕ) → length bytes < n → AreBytes bytes → Some_text (Serves terms s) bytes
   some_service zero s bytes lt f = absurd (omega (arith, lt))
   some_service (suc n) s bytes lt f = served s bytes f (look bytes f) (λ t more l g. some_service n t more (omega (arith, l, lt)) g)
 
-  pub some_serving : (s : Standing) (bytes : List ℕ) → AreBytes bytes → Some_text (Serves terms s) bytes
+  pub some_serving : (s : Alone) (bytes : List ℕ) → AreBytes bytes → Some_text (Serves terms s) bytes
   some_serving s bytes f = some_service (length bytes + 1) s bytes (omega arith) f
 
 -- haggling says a text, and ends in one way; where it is in an export, that is one of the table
@@ -259,7 +260,7 @@ module _ (exports : List Export) where
       missing : (k : ℕ) → slice_get exports k ≡ None → IsIn table (entries.In k) → ⊥
       missing k none is = let e : slice_get table k ≡ None = slice_get-map facts_of exports k ∙ ap (λ (o : Option Export). option_map facts_of o) none in
           let t : None ≡ Some is.0 = sym e ∙ is.1 in cc
-  served_at n rest f (Some x) some is = some_serving (terms_of x) (opening (terms_of x)) rest f
+  served_at n rest f (Some x) some is = some_serving (terms_of x) (opened (terms_of x)) rest f
 
   continued : (entry : Entry) (rest : List ℕ) → AreBytes rest → IsIn table entry → (text : List ℕ) × (end : End) × Continues exports entry rest text end
   continued (entries.In n) rest f is = served_at n rest f (slice_get exports n) refl is

@@ -1,15 +1,13 @@
 -- Requests behind a handshake in which a session is always given.
-use Rattle.std.proofs.Common.{◌≡◌, ℕ, ◌+◌, ◌<◌, ◌≤◌, Bool, List, [], ◌∷◌, ◌++◌, Option, Some, None, Result, Ok, Err, map, length, refl, sym, ap, subst, ◌∙◌, inl, inr, append_assoc, arith}
+use Rattle.std.proofs.Common.{◌≡◌, ℕ, ◌+◌, ◌<◌, Bool, List, [], ◌++◌, Option, Some, None, Ok, Err, map, length, refl, sym, ap, subst, ◌∙◌, inl, inr, append_assoc}
 use Rattle.std.specs.Prelude.{slice_get, option_map}
 use Rattle.std.proofs.lemmas.List.{append-nil}
 use Rattle.std.proofs.lemmas.Option.{slice_get_within, slice_get-map}
 use Rattle.std.specs.List.{flat_map}
-use Rattle.std.specs.Io.KnownBytes.{Consumes, Appends}
 use Rattle.std.specs.Int.{w32, to_be_bytes}
 use Rattle.nbd_commands.specs.Exports.{Export}
 use Rattle.nbd_commands.specs.Terms.{terms_of}
 use Rattle.nbd_options.specs.declared.attach.Attached.{Attached}
-use Rattle.nbd_options.specs.declared.saying.HaggleEnd.{HaggleEnd}
 use Rattle.nbd_options.specs.Exports.{ExportFacts}
 use Rattle.nbd_options.specs.Replies.{next_after}
 use Rattle.nbd_options.specs.Haggled.{Said}
@@ -19,10 +17,10 @@ use Rattle.nbd_session.specs.declared.talking.Entry.{Entry}
 use Rattle.nbd_session.specs.declared.talking.Entry.TheVariants as entries
 use Rattle.nbd_session.specs.declared.talking.TalkFault.{TalkFault}
 use Rattle.nbd_session.specs.declared.talking.TalkFault.TheVariants as faults
-use Rattle.nbd_session.specs.Requests.{Serves, opening}
-use Rattle.nbd_session.specs.Options.{asked_text, Leaves, Haggles, StopsAt}
+use Rattle.nbd_session.specs.Requests.{Serves, opened}
+use Rattle.nbd_session.specs.Options.{asked_text, Haggles, StopsAt}
 use Rattle.nbd_session.specs.Outcomes.{Converses, IsTold, Going}
-use Rattle.nbd_session.specs.Conversation.{FlagsStop, HasFlags, Greeted, Shaken, Handshake, IsLeft, IsEntryTold, IsGiven, facts_of, ServesAt, Continues, Talked}
+use Rattle.nbd_session.specs.Conversation.{FlagsStop, Greeted, Shaken, Handshake, IsEntryTold, IsGiven, facts_of, ServesAt, Talked}
 use Rattle.nbd_session.proofs.BufferLemmas.{Appends-none, Consumes-none}
 use Rattle.nbd_session.proofs.ServeLemmas.{stops}
 use Rattle.nbd_session.proofs.OneHaggling.{given_of}
@@ -117,11 +115,11 @@ module _ (exports : List Export) where
       let x = export_at n (slice_get exports n) refl (handshake_in table bytes text (entries.In n) h) in
       slice_get_within exports n x.0 x.1
 
-  served : (n : ℕ) (bytes text : List ℕ) (end : End) (o : Option Export) (x : Export) → o ≡ Some x → Serves (terms_of x) (opening (terms_of x)) bytes text end → ServesAt o bytes text end
+  served : (n : ℕ) (bytes text : List ℕ) (end : End) (o : Option Export) (x : Export) → o ≡ Some x → Serves (terms_of x) (opened (terms_of x)) bytes text end → ServesAt o bytes text end
   served n bytes text end o x is h = subst (λ (k : Option Export). ServesAt k bytes text end) (sym is) h
 
   goes_on : (bytes text b t : List ℕ) (n : ℕ) (x : Export) (end : End) → Handshake IsGiven table bytes text (entries.In n) → slice_get exports n ≡ Some x
-      → Serves (terms_of x) (opening (terms_of x)) b t end → Talked exports (bytes ++ b) (text ++ t) end
+      → Serves (terms_of x) (opened (terms_of x)) b t end → Talked exports (bytes ++ b) (text ++ t) end
   goes_on bytes text b t n x end h is serves = record {
     entry = entries.In n;
     rest = b;
@@ -151,7 +149,7 @@ module _ (exports : List Export) where
       let x = export_at n (slice_get exports n) refl (handshake_in table bytes text (entries.In n) h) in (
         ends.Over,
         subst (λ (t : List ℕ). Talked exports bytes t ends.Over) (append-nil text) (subst (λ (b : List ℕ). Talked exports b (text ++ []) ends.Over) (append-nil bytes)
-            (goes_on bytes text [] [] n x.0 ends.Over h x.1 (stops (terms_of x.0) (opening (terms_of x.0)) [] ends.Over refl))),
+            (goes_on bytes text [] [] n x.0 ends.Over h x.1 (stops (terms_of x.0) (opened (terms_of x.0)) [] ends.Over refl))),
       )
 
   -- the handshake met a fault
@@ -174,7 +172,7 @@ module _ (exports : List Export) where
 
   -- it ended in an export
   pub shake_in : (i0 i1 o0 o1 : Option (List ℕ)) (entry : Entry) (n : ℕ) (x : Export) → entry ≡ entries.In n → slice_get exports n ≡ Some x
-      → Converses IsEntryTold (Handshake IsGiven table) i0 i1 o0 o1 (Ok entry) → Going (Talked exports) (Serves (terms_of x) (opening (terms_of x))) i0 i1 o0 o1
+      → Converses IsEntryTold (Handshake IsGiven table) i0 i1 o0 o1 (Ok entry) → Going (Talked exports) (Serves (terms_of x) (opened (terms_of x))) i0 i1 o0 o1
   shake_in i0 i1 o0 o1 entry n x is at h0 =
       let h = subst (λ (y : Entry). Converses IsEntryTold (Handshake IsGiven table) i0 i1 o0 o1 (Ok y)) is h0 in
       record { bytes = h.bytes; text = h.text; took = h.took; gave = h.gave; onward = λ b t e serves. goes_on h.bytes h.text b t n x e h.claim.0 at serves }

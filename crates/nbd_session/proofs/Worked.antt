@@ -1,13 +1,13 @@
 -- The worked conversations are what the definition says.
-use Rattle.std.proofs.Common.{◌≡◌, ◌≢◌, ℕ, ◌<◌, ◌≤◌, ◌^◌, List, [], ◌∷◌, ◌++◌, length, get_or, refl, ap, inl, inr, arith, lit≤, true, false}
+use Rattle.std.proofs.Common.{◌≡◌, ◌≢◌, ℕ, ◌≤◌, List, [], ◌∷◌, length, get_or, refl, ap, inl, inr, arith, lit≤, true, false}
 use Rattle.nbd_wire.specs.declared.requests.RequestHead.{RequestHead}
-use Rattle.nbd_wire.specs.Grammar.{head_text, reply_head_text, option_head_text, RequestMessage, IsHead, IsRequest, IsTooLong}
+use Rattle.nbd_wire.specs.Grammar.{head_text, reply_head_text, option_head_text, IsHead}
 use Rattle.nbd_options.specs.declared.attach.Attached.TheVariants as attached
 use Rattle.nbd_options.specs.declared.saying.HaggleEnd.TheVariants as haggle_ends
 use Rattle.nbd_options.specs.Haggled.{greeting_text}
 use Rattle.nbd_session.specs.declared.talking.End.TheVariants as ends
 use Rattle.nbd_session.specs.declared.talking.Entry.TheVariants as entries
-use Rattle.nbd_session.specs.Requests.{IsAnswered, reply_to, image_behind, steps_for}
+use Rattle.nbd_session.specs.Requests.{IsAnswered, opened, arriving, after, reply_to}
 use Rattle.nbd_session.specs.Conversation.{Talked}
 use Rattle.nbd_session.specs.Worked.{one_export, written_bytes, written_text, chosen_bytes, chosen_text, zeros_bytes, zeros_text, unknown_flag_bytes, unknown_flag_text, silent_bytes, silent_text, unnamed_bytes, unnamed_text, past_end_bytes, past_end_text, cut_head_bytes, cut_head_text, cut_payload_bytes, cut_payload_text, other_magic_bytes, other_magic_text, too_long_bytes, too_long_text}
 
@@ -24,7 +24,7 @@ write_answered h payload fits write whole short = record {
 }
 
 pub written : Talked one_export written_bytes written_text ends.Disc
-unfolding head_text reply_head_text option_head_text greeting_text reply_to image_behind steps_for
+unfolding head_text reply_head_text option_head_text greeting_text opened arriving after reply_to
 written =
     record {
       entry = entries.In 0;
@@ -67,13 +67,13 @@ written =
         rest = 37 ∷ 96 ∷ 149 ∷ 19 ∷ 0 ∷ 0 ∷ 0 ∷ 2 ∷ 0 ∷ 0 ∷ 0 ∷ 0 ∷ 0 ∷ 0 ∷ 0 ∷ 3 ∷ 0 ∷ 0 ∷ 0 ∷ 0 ∷ 0 ∷ 0 ∷ 0 ∷ 0 ∷ 0 ∷ 0 ∷ 0 ∷ 0 ∷ [];
         spelled = refl;
         said = refl;
-        answered = (write_answered (record { flags = 0; kind = 1; cookie = 1; offset = 4092; length = 4 }) (222 ∷ 173 ∷ 190 ∷ 239 ∷ []) (record { flags = lit≤ tt; kind = lit≤ tt; cookie = lit≤ tt; offset = lit≤ tt; count = lit≤ tt }) refl refl (lit≤ tt), lit≤ tt, (plain_answered (record { flags = 0; kind = 0; cookie = 2; offset = 4092; length = 4 }) (record { flags = lit≤ tt; kind = lit≤ tt; cookie = lit≤ tt; offset = lit≤ tt; count = lit≤ tt }) (λ e. absurd (omega (arith, e))) (λ e. absurd (omega (arith, e))), lit≤ tt, tt));
+        answered = (write_answered (record { flags = 0; kind = 1; cookie = 1; offset = 4092; length = 4 }) (222 ∷ 173 ∷ 190 ∷ 239 ∷ []) (record { flags = lit≤ tt; kind = lit≤ tt; cookie = lit≤ tt; offset = lit≤ tt; count = lit≤ tt }) refl refl (lit≤ tt), (λ w. (cc)), (plain_answered (record { flags = 0; kind = 0; cookie = 2; offset = 4092; length = 4 }) (record { flags = lit≤ tt; kind = lit≤ tt; cookie = lit≤ tt; offset = lit≤ tt; count = lit≤ tt }) (λ e. absurd (omega (arith, e))) (λ e. absurd (omega (arith, e))), (λ w. (cc)), tt));
         ends = inl (record { flags = 0; kind = 2; cookie = 3; offset = 0; length = 0 }, [], refl, record { flags = lit≤ tt; kind = lit≤ tt; cookie = lit≤ tt; offset = lit≤ tt; count = lit≤ tt }, refl);
       };
     }
 
 pub chosen : Talked one_export chosen_bytes chosen_text ends.Over
-unfolding head_text reply_head_text option_head_text greeting_text reply_to image_behind steps_for
+unfolding head_text reply_head_text option_head_text greeting_text opened arriving after reply_to
 chosen =
     record {
       entry = entries.In 0;
@@ -122,7 +122,7 @@ chosen =
     }
 
 pub zeros : Talked one_export zeros_bytes zeros_text ends.Over
-unfolding head_text reply_head_text option_head_text greeting_text reply_to image_behind steps_for
+unfolding head_text reply_head_text option_head_text greeting_text opened arriving after reply_to
 zeros =
     record {
       entry = entries.In 0;
@@ -171,7 +171,7 @@ zeros =
     }
 
 pub unknown_flag : Talked one_export unknown_flag_bytes unknown_flag_text ends.BadFlags
-unfolding head_text reply_head_text option_head_text greeting_text reply_to image_behind steps_for
+unfolding head_text reply_head_text option_head_text greeting_text opened arriving after reply_to
 unknown_flag =
     record {
       entry = entries.Out ends.BadFlags;
@@ -184,7 +184,7 @@ unknown_flag =
     }
 
 pub silent : Talked one_export silent_bytes silent_text ends.Over
-unfolding head_text reply_head_text option_head_text greeting_text reply_to image_behind steps_for
+unfolding head_text reply_head_text option_head_text greeting_text opened arriving after reply_to
 silent =
     record {
       entry = entries.Out ends.Over;
@@ -197,7 +197,7 @@ silent =
     }
 
 pub unnamed : Talked one_export unnamed_bytes unnamed_text ends.NoExport
-unfolding head_text reply_head_text option_head_text greeting_text reply_to image_behind steps_for
+unfolding head_text reply_head_text option_head_text greeting_text opened arriving after reply_to
 unnamed =
     record {
       entry = entries.Out ends.NoExport;
@@ -239,7 +239,7 @@ unnamed =
     }
 
 pub past_end : Talked one_export past_end_bytes past_end_text ends.Over
-unfolding head_text reply_head_text option_head_text greeting_text reply_to image_behind steps_for
+unfolding head_text reply_head_text option_head_text greeting_text opened arriving after reply_to
 past_end =
     record {
       entry = entries.In 0;
@@ -282,13 +282,13 @@ past_end =
         rest = [];
         spelled = refl;
         said = refl;
-        answered = (write_answered (record { flags = 0; kind = 1; cookie = 1; offset = 4092; length = 4 }) (222 ∷ 173 ∷ 190 ∷ 239 ∷ []) (record { flags = lit≤ tt; kind = lit≤ tt; cookie = lit≤ tt; offset = lit≤ tt; count = lit≤ tt }) refl refl (lit≤ tt), lit≤ tt, (write_answered (record { flags = 0; kind = 1; cookie = 2; offset = 4092; length = 5 }) (1 ∷ 2 ∷ 3 ∷ 4 ∷ 5 ∷ []) (record { flags = lit≤ tt; kind = lit≤ tt; cookie = lit≤ tt; offset = lit≤ tt; count = lit≤ tt }) refl refl (lit≤ tt), lit≤ tt, (plain_answered (record { flags = 0; kind = 0; cookie = 3; offset = 4092; length = 5 }) (record { flags = lit≤ tt; kind = lit≤ tt; cookie = lit≤ tt; offset = lit≤ tt; count = lit≤ tt }) (λ e. absurd (omega (arith, e))) (λ e. absurd (omega (arith, e))), lit≤ tt, (plain_answered (record { flags = 0; kind = 0; cookie = 4; offset = 4092; length = 4 }) (record { flags = lit≤ tt; kind = lit≤ tt; cookie = lit≤ tt; offset = lit≤ tt; count = lit≤ tt }) (λ e. absurd (omega (arith, e))) (λ e. absurd (omega (arith, e))), lit≤ tt, tt))));
+        answered = (write_answered (record { flags = 0; kind = 1; cookie = 1; offset = 4092; length = 4 }) (222 ∷ 173 ∷ 190 ∷ 239 ∷ []) (record { flags = lit≤ tt; kind = lit≤ tt; cookie = lit≤ tt; offset = lit≤ tt; count = lit≤ tt }) refl refl (lit≤ tt), (λ w. (cc)), (write_answered (record { flags = 0; kind = 1; cookie = 2; offset = 4092; length = 5 }) (1 ∷ 2 ∷ 3 ∷ 4 ∷ 5 ∷ []) (record { flags = lit≤ tt; kind = lit≤ tt; cookie = lit≤ tt; offset = lit≤ tt; count = lit≤ tt }) refl refl (lit≤ tt), (λ w. (cc)), (plain_answered (record { flags = 0; kind = 0; cookie = 3; offset = 4092; length = 5 }) (record { flags = lit≤ tt; kind = lit≤ tt; cookie = lit≤ tt; offset = lit≤ tt; count = lit≤ tt }) (λ e. absurd (omega (arith, e))) (λ e. absurd (omega (arith, e))), (λ w. (cc)), (plain_answered (record { flags = 0; kind = 0; cookie = 4; offset = 4092; length = 4 }) (record { flags = lit≤ tt; kind = lit≤ tt; cookie = lit≤ tt; offset = lit≤ tt; count = lit≤ tt }) (λ e. absurd (omega (arith, e))) (λ e. absurd (omega (arith, e))), (λ w. (cc)), tt))));
         ends = inl refl;
       };
     }
 
 pub cut_head : Talked one_export cut_head_bytes cut_head_text ends.Cut
-unfolding head_text reply_head_text option_head_text greeting_text reply_to image_behind steps_for
+unfolding head_text reply_head_text option_head_text greeting_text opened arriving after reply_to
 cut_head =
     record {
       entry = entries.In 0;
@@ -337,7 +337,7 @@ cut_head =
     }
 
 pub cut_payload : Talked one_export cut_payload_bytes cut_payload_text ends.Cut
-unfolding head_text reply_head_text option_head_text greeting_text reply_to image_behind steps_for
+unfolding head_text reply_head_text option_head_text greeting_text opened arriving after reply_to
 cut_payload =
     record {
       entry = entries.In 0;
@@ -386,7 +386,7 @@ cut_payload =
     }
 
 pub other_magic : Talked one_export other_magic_bytes other_magic_text ends.BadMagic
-unfolding head_text reply_head_text option_head_text greeting_text reply_to image_behind steps_for
+unfolding head_text reply_head_text option_head_text greeting_text opened arriving after reply_to
 other_magic =
     record {
       entry = entries.In 0;
@@ -429,13 +429,13 @@ other_magic =
         rest = 37 ∷ 96 ∷ 149 ∷ 20 ∷ 0 ∷ 0 ∷ 0 ∷ 0 ∷ 0 ∷ 0 ∷ 0 ∷ 0 ∷ 0 ∷ 0 ∷ 0 ∷ 0 ∷ 0 ∷ 0 ∷ 0 ∷ 0 ∷ 0 ∷ 0 ∷ 0 ∷ 0 ∷ 0 ∷ 0 ∷ 0 ∷ 0 ∷ [];
         spelled = refl;
         said = refl;
-        answered = (plain_answered (record { flags = 0; kind = 0; cookie = 1; offset = 0; length = 1 }) (record { flags = lit≤ tt; kind = lit≤ tt; cookie = lit≤ tt; offset = lit≤ tt; count = lit≤ tt }) (λ e. absurd (omega (arith, e))) (λ e. absurd (omega (arith, e))), lit≤ tt, tt);
+        answered = (plain_answered (record { flags = 0; kind = 0; cookie = 1; offset = 0; length = 1 }) (record { flags = lit≤ tt; kind = lit≤ tt; cookie = lit≤ tt; offset = lit≤ tt; count = lit≤ tt }) (λ e. absurd (omega (arith, e))) (λ e. absurd (omega (arith, e))), (λ w. (cc)), tt);
         ends = inl (lit≤ tt, (λ e. absurd (omega (arith, ap (λ (t : List ℕ). get_or t 3 0) e))));
       };
     }
 
 pub too_long : Talked one_export too_long_bytes too_long_text ends.TooLong
-unfolding head_text reply_head_text option_head_text greeting_text reply_to image_behind steps_for
+unfolding head_text reply_head_text option_head_text greeting_text opened arriving after reply_to
 too_long =
     record {
       entry = entries.In 0;

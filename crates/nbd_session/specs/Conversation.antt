@@ -1,5 +1,5 @@
 -- The whole conversation of one client.
-use Rattle.std.specs.Prelude.{◌≡◌, ℕ, ◌<◌, ◌≤◌, ◌⊎◌, ◌^◌, Bool, List, [], ◌∷◌, ◌++◌, map, length, get_or, Option, Some, None, slice_get}
+use Rattle.std.specs.Prelude.{◌≡◌, ℕ, ◌<◌, ◌⊎◌, ◌^◌, Bool, List, [], ◌++◌, map, length, get_or, Option, Some, None, slice_get}
 use Rattle.std.specs.Int.{w32, to_be_bytes}
 use Rattle.nbd_commands.specs.Exports.{Export, flags_of}
 use Rattle.nbd_commands.specs.Terms.{terms_of}
@@ -12,7 +12,7 @@ use Rattle.nbd_session.specs.declared.talking.End.TheVariants as ends
 use Rattle.nbd_session.specs.declared.talking.Entry.{Entry}
 use Rattle.nbd_session.specs.declared.talking.Entry.TheVariants as entries
 use Rattle.nbd_session.specs.Options.{Haggles}
-use Rattle.nbd_session.specs.Requests.{Serves, opening}
+use Rattle.nbd_session.specs.Requests.{Serves, opened}
 use Rattle.nbd_session.specs.Outcomes.{IsTold}
 
 -- ---- the handshake
@@ -73,7 +73,7 @@ facts_of e = record { name = e.name; description = e.description; size = e.size;
 
 abbrev pub ServesAt : Option Export → List ℕ → List ℕ → End → Type 0
 ServesAt None bytes text end = ⊥
-ServesAt (Some e) bytes text end = Serves (terms_of e) (opening (terms_of e)) bytes text end
+ServesAt (Some e) bytes text end = Serves (terms_of e) (opened (terms_of e)) bytes text end
 
 -- behind the handshake: the requests of the client that is in an export, or nothing
 abbrev pub Continues : List Export → Entry → List ℕ → List ℕ → End → Type 0

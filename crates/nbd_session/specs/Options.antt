@@ -11,7 +11,7 @@ use Rattle.nbd_options.specs.declared.haggle.HeadFault.TheVariants as faults
 use Rattle.nbd_options.specs.declared.saying.HaggleEnd.{HaggleEnd}
 use Rattle.nbd_options.specs.declared.saying.HaggleEnd.TheVariants as haggle_ends
 use Rattle.nbd_options.specs.Exports.{ExportFacts}
-use Rattle.nbd_options.specs.Replies.{ClientOption, next_after}
+use Rattle.nbd_options.specs.Replies.{next_after}
 use Rattle.nbd_options.specs.Haggled.{Asked, said_to, ends_by}
 use Rattle.nbd_session.specs.declared.talking.End.{End}
 use Rattle.nbd_session.specs.declared.talking.End.TheVariants as ends

@@ -1,5 +1,5 @@
 -- What a call that converses read, wrote and answered.
-use Rattle.std.specs.Prelude.{◌≡◌, ℕ, List, ◌++◌, Option, Result, Ok, Err}
+use Rattle.std.specs.Prelude.{ℕ, List, ◌++◌, Option, Result, Ok, Err}
 use Rattle.std.specs.Io.KnownBytes.{Consumes, Appends, IsAtEnd}
 use Rattle.nbd_session.specs.declared.talking.End.{End}
 use Rattle.nbd_session.specs.declared.talking.End.TheVariants as ends

@@ -1,50 +1,58 @@
 -- What a server says to the requests that bytes spell, and how it ends.
-use Rattle.std.specs.Prelude.{◌≡◌, ◌≢◌, ℕ, ◌+◌, ◌<◌, ◌≤◌, ◌^◌, ◌⊎◌, ◌==◌, cond, List, [], ◌∷◌, ◌++◌, length, take, replicate}
+use Rattle.std.specs.Prelude.{◌≡◌, ◌≢◌, ℕ, ◌<◌, ◌≤◌, ◌⊎◌, true, List, [], ◌∷◌, ◌++◌, length, take}
 use Rattle.std.specs.List.{flat_map}
 use Rattle.nbd_wire.specs.declared.requests.RequestHead.{RequestHead}
-use Rattle.nbd_wire.specs.Grammar.{head_text, request_text, reply_text, request_magic, RequestMessage, ReplyMessage, IsHead, IsTooLong, IsRequest, IsPartOfWrite}
+use Rattle.nbd_wire.specs.Grammar.{head_text, request_text, reply_text, request_magic, RequestMessage, IsHead, IsTooLong, IsRequest, IsPartOfWrite}
 use Rattle.nbd_commands.specs.Terms.{Terms}
-use Rattle.nbd_commands.specs.Verdict.{verdict_of}
-use Rattle.nbd_commands.specs.Meaning.{image_after, data_of}
+use Rattle.lone_export.specs.Alone.{Alone, Moved, opening, own_step, alone, answers_alone}
+use Rattle.lone_export.specs.declared.step.Step.{Step}
+use Rattle.lone_export.specs.declared.step.Step.TheVariants.{Attach, Arrive, Pick, Perform, Take}
+use Rattle.lone_export.specs.declared.step.StepAnswer.{StepAnswer}
+use Rattle.lone_export.specs.declared.step.StepAnswer.TheVariants as said
 use Rattle.nbd_session.specs.declared.talking.End.{End}
 use Rattle.nbd_session.specs.declared.talking.End.TheVariants as ends
 
--- ---- the replies
+-- ---- the steps of an export whose only session, 0, is the client's
 
--- an export's bytes, and how many steps it counts
-pub record Standing : Type 0 where
-  pub image : List ℕ
-  pub steps : ℕ
+-- the session is attached
+unfoldable pub opened : Terms → Alone
+opened terms = (own_step {A = Unit {0}} terms (opening terms) Attach).state
 
--- zeros, and one session attached
-abbrev pub opening : Terms → Standing
-opening terms = record { image = replicate terms.size 0; steps = 1 }
+-- a request of the session arrives at moment 0
+unfoldable pub arriving : Terms → Alone → RequestMessage → Moved (Unit {0})
+arriving terms state m = own_step terms state (Arrive 0 0 m)
 
--- the reply to a request: its verdict, and what a READ without error brings
-abbrev pub reply_of : Terms → List ℕ → RequestMessage → ReplyMessage
-reply_of terms image m = record { error = verdict_of terms m; cookie = m.head.cookie; content = cond (verdict_of terms m == 0) (data_of image m) [] }
+-- what follows an arrival that was answered so: one that was accepted is picked and performed, where memory is there,
+-- and its reply is taken; the reply to a refused one is taken
+abbrev pub steps_behind : StepAnswer (Unit {0}) → List (Step (Unit {0}))
+steps_behind (said.Accepted n tag) = Pick ∷ Perform n true ∷ Take 0 ∷ []
+steps_behind (said.Answered error) = Take 0 ∷ []
+steps_behind answer = []
 
-unfoldable pub reply_to : Terms → List ℕ → RequestMessage → List ℕ
-reply_to terms image m = reply_text (reply_of terms image m)
+-- the export behind a request
+unfoldable pub after : Terms → Alone → RequestMessage → Alone
+after terms state m = alone terms (arriving terms state m).state (steps_behind (arriving terms state m).answer)
 
--- a refused request changes no byte
-unfoldable pub image_behind : Terms → List ℕ → RequestMessage → List ℕ
-image_behind terms image m = cond (verdict_of terms m == 0) (image_after image m) image
+-- a reply that was taken, as it is sent
+abbrev pub sent : StepAnswer (Unit {0}) → List ℕ
+sent (said.Reply reply) = reply_text reply
+sent answer = []
 
--- an accepted request is four steps (it arrives, is picked, performed, and its reply taken), a refused one two
-unfoldable pub steps_for : Terms → RequestMessage → ℕ
-steps_for terms m = cond (verdict_of terms m == 0) 4 2
+-- what a request is told
+unfoldable pub reply_to : Terms → Alone → RequestMessage → List ℕ
+reply_to terms state m = flat_map sent (answers_alone terms (arriving terms state m).state (steps_behind (arriving terms state m).answer))
 
-abbrev pub standing_after : Terms → Standing → RequestMessage → Standing
-standing_after terms s m = record { image = image_behind terms s.image m; steps = s.steps + steps_for terms m }
+-- a request finds the export worn
+abbrev pub FindsWorn : Terms → Alone → RequestMessage → Type 0
+FindsWorn terms state m = (arriving terms state m).answer ≡ said.Worn
 
-abbrev pub replies : Terms → Standing → List RequestMessage → List ℕ
-replies terms s [] = []
-replies terms s (m ∷ ms) = reply_to terms s.image m ++ replies terms (standing_after terms s m) ms
+abbrev pub replies : Terms → Alone → List RequestMessage → List ℕ
+replies terms state [] = []
+replies terms state (m ∷ ms) = reply_to terms state m ++ replies terms (after terms state m) ms
 
-abbrev pub standing_after_all : Terms → Standing → List RequestMessage → Standing
-standing_after_all terms s [] = s
-standing_after_all terms s (m ∷ ms) = standing_after_all terms (standing_after terms s m) ms
+abbrev pub after_all : Terms → Alone → List RequestMessage → Alone
+after_all terms state [] = state
+after_all terms state (m ∷ ms) = after_all terms (after terms state m) ms
 
 -- ---- the end
 
@@ -54,9 +62,9 @@ pub record IsAnswered (m : RequestMessage) : Type 0 where
   pub no_disc : m.head.kind ≢ 2
 
 -- each is answered, and none finds the export worn
-abbrev pub AreAnswered : Terms → Standing → List RequestMessage → Type 0
-AreAnswered terms s [] = Unit {0}
-AreAnswered terms s (m ∷ ms) = IsAnswered m × (s.steps < 2 ^ 56) × AreAnswered terms (standing_after terms s m) ms
+abbrev pub AreAnswered : Terms → Alone → List RequestMessage → Type 0
+AreAnswered terms state [] = Unit {0}
+AreAnswered terms state (m ∷ ms) = IsAnswered m × (FindsWorn terms state m → ⊥) × AreAnswered terms (after terms state m) ms
 
 -- the bytes from a message's place on, where no whole request to be answered stands there
 abbrev pub StopsBy : List ℕ → End → Type 0
@@ -71,23 +79,23 @@ StopsBy bytes ends.BadFlags = ⊥
 StopsBy bytes ends.TooMany = ⊥
 StopsBy bytes ends.Worn = ⊥
 
--- a request finds the export worn
-pub record WearsOut (s : Standing) (bytes : List ℕ) : Type 0 where
+-- a request stands there that finds the export worn
+pub record WearsOut (terms : Terms) (state : Alone) (bytes : List ℕ) : Type 0 where
   pub message : RequestMessage
   pub more : List ℕ
   pub spelled : bytes ≡ request_text message ++ more
   pub answered : IsAnswered message
-  pub worn : 2 ^ 56 ≤ s.steps
+  pub worn : FindsWorn terms state message
 
-abbrev pub Ends : Standing → List ℕ → End → Type 0
-Ends s bytes end = StopsBy bytes end ⊎ ((end ≡ ends.Worn) × WearsOut s bytes)
+abbrev pub Ends : Terms → Alone → List ℕ → End → Type 0
+Ends terms state bytes end = StopsBy bytes end ⊎ ((end ≡ ends.Worn) × WearsOut terms state bytes)
 
 -- To these bytes the server says this text, and so it ends: the bytes spell requests that are each answered,
 -- and behind them stands what ends it.
-pub record Serves (terms : Terms) (s : Standing) (bytes text : List ℕ) (end : End) : Type 0 where
+pub record Serves (terms : Terms) (state : Alone) (bytes text : List ℕ) (end : End) : Type 0 where
   pub requests : List RequestMessage
   pub rest : List ℕ
   pub spelled : bytes ≡ flat_map request_text requests ++ rest
-  pub said : text ≡ replies terms s requests
-  pub answered : AreAnswered terms s requests
-  pub ends : Ends (standing_after_all terms s requests) rest end
+  pub said : text ≡ replies terms state requests
+  pub answered : AreAnswered terms state requests
+  pub ends : Ends terms (after_all terms state requests) rest end

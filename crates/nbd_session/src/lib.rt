@@ -9,11 +9,12 @@ mod frames;
 mod haggling;
 mod laws;
 mod offers;
+mod serving;
 mod talking;
 mod transmission;
 
 pub use conversing::talk;
 pub use counted::Counted;
 pub use haggling::haggle;
-pub use laws::{handshake_is_haggled, one_conversation, worked_conversations};
+pub use laws::{handshake_is_haggled, one_conversation, requests_are_plain, worked_conversations};
 pub use talking::{End, Entry, TalkFault};

@@ -1,17 +1,16 @@
-use Rattle.std.proofs.Common.{◌≡◌, [], ◌<◌, ◌≤◌, List, ℕ, Ok, Err, Option, Some, map, length, get_or, refl, sym, ap, subst, ◌∙◌, arith}
+use Rattle.std.proofs.Common.{◌≡◌, [], List, Ok, Err, Some, map, length, refl, ap, subst, ◌∙◌, arith}
 use Rattle.std.specs.Prelude.{slice_get}
 use Rattle.std.proofs.lemmas.Option.{slice_get_read}
 use Rattle.std.proofs.lemmas.Result.{err_from_is_err_and}
 use Rattle.nbd_commands.specs.Exports.{Export}
 use Rattle.nbd_commands.specs.Terms.{terms_of}
 use Rattle.nbd_options.specs.Exports.{ExportFacts}
-use Rattle.nbd_session.specs.declared.talking.Entry.TheVariants as entries
-use Rattle.nbd_session.specs.Requests.{Serves, opening}
+use Rattle.nbd_session.specs.Requests.{Serves, opened}
 use Rattle.nbd_session.specs.Outcomes.{Converses, IsTold}
 use Rattle.nbd_session.specs.Conversation.{Handshake, IsEntryTold, IsGiven, facts_of, Talked}
 use Rattle.nbd_session.proofs.OutcomeLemmas.{Converses-after}
 use Rattle.nbd_session.proofs.SomeConversation.{some_talk}
-use Rattle.nbd_session.proofs.TalkLemmas.{entered_within, shake_fault, shake_out, shake_in, never_refused, nothing_yet, entered_place}
+use Rattle.nbd_session.proofs.TalkLemmas.{shake_fault, shake_out, shake_in, never_refused, nothing_yet, entered_place}
 use Rattle.nbd_session.proofs.conversing.talk.Goals as goal
 
 pub returns-in_err-table-clause-conversation : goal.returns-in_err-table-clause-conversation
@@ -86,7 +85,7 @@ returns-in-In-clause-conversation g c =
     let at : slice_get exports c.in-In.export ≡ Some x =
     subst (λ (xs : List Export). slice_get xs c.in-In.export ≡ Some x) c.exports-in-In.ensures.value
     (slice_get_read c.exports-in-In.result.now (length c.exports-in-In.result.now) c.in-In.export x refl (omega (arith, within, ap length c.exports-in-In.ensures.value)) c.index-exports-export.is) in
-    Converses-after IsTold (Talked exports) (Serves (terms_of x) (opening (terms_of x))) i0 i1 i2 o0 o1 o2 c.transmit.result
+    Converses-after IsTold (Talked exports) (Serves (terms_of x) (opened (terms_of x))) i0 i1 i2 o0 o1 o2 c.transmit.result
     (shake_in exports i0 i1 o0 o1 c.in_ok-end.field-0 c.in-In.export x c.in-In.is at shaken) c.transmit.ensures.conversation
 
 pub returns-clause-conversation : goal.returns-clause-conversation

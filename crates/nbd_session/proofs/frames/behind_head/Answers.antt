@@ -1,8 +1,8 @@
-use Rattle.std.proofs.Common.{◌≡◌, ◌≤◌, [], ◌++◌, length, take, ℕ, List, arith, sym, subst, Err}
+use Rattle.std.proofs.Common.{[], take, arith}
 use Rattle.std.proofs.lemmas.List.{length-take}
 use Rattle.nbd_session.specs.declared.talking.End.TheVariants.{Cut}
 use Rattle.nbd_session.proofs.BufferLemmas.{Consumes-none}
-use Rattle.nbd_session.proofs.FrameLemmas.{head_gap, payload_gap, whole_write, some_of_write}
+use Rattle.nbd_session.proofs.FrameLemmas.{payload_gap, some_of_write}
 use Rattle.nbd_session.proofs.frames.behind_head.Goals as goal
 
 pub returns-in_default-clause-taken : goal.returns-in_default-clause-taken

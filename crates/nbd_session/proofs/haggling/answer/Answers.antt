@@ -1,8 +1,8 @@
-use Rattle.std.proofs.Common.{◌≡◌, List, refl, sym, ap, ◌∙◌}
+use Rattle.std.proofs.Common.{◌≡◌, ap, ◌∙◌}
 use Rattle.std.proofs.lemmas.Result.{err_from_is_err_and}
 use Rattle.nbd_options.specs.Counting.{Counting}
 use Rattle.nbd_options.specs.Replies.{ClientOption}
-use Rattle.nbd_options.specs.Haggled.{Said, said_by}
+use Rattle.nbd_options.specs.Haggled.{Said}
 use Rattle.nbd_session.proofs.HaggleLemmas.{may_after, nothing_said, part_said, all_said, said_is}
 use Rattle.nbd_session.proofs.haggling.answer.Goals as goal
 

@@ -1,13 +1,12 @@
-use Rattle.std.proofs.Common.{◌≡◌, ◌+◌, ◌<◌, ◌≤◌, ◌^◌, length, ℕ, List, Ok, Err, Option, Some, None, arith, sym, refl, ap, subst, ◌∙◌}
+use Rattle.std.proofs.Common.{◌≡◌, ◌+◌, ℕ, List, Ok, Err, Option, Some, None, arith, sym, refl, ap, subst, ◌∙◌}
 use Rattle.std.proofs.lemmas.Result.{err_from_is_err_and}
 use Rattle.nbd_options.specs.Counting.{Counting}
 use Rattle.nbd_options.specs.declared.saying.HaggleEnd.{HaggleEnd}
 use Rattle.nbd_options.specs.Replies.{ClientOption}
 use Rattle.nbd_options.specs.Haggled.{Asked}
-use Rattle.nbd_session.specs.declared.talking.Entry.{Entry}
 use Rattle.nbd_session.specs.declared.talking.Entry.TheVariants as entries
 use Rattle.nbd_session.specs.Options.{IsAsked, entry_after, text_to}
-use Rattle.nbd_session.specs.Outcomes.{Going, Converses}
+use Rattle.nbd_session.specs.Outcomes.{Going}
 use Rattle.nbd_session.specs.Conversation.{HagglesOn, IsEntryTold}
 use Rattle.nbd_session.specs.Haggling.{Answers}
 use Rattle.nbd_session.proofs.OutcomeLemmas.{Converses-after, Going-after, Going-start}

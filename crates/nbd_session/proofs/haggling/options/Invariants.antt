@@ -1,4 +1,4 @@
-use Rattle.std.proofs.Common.{◌≡◌, ◌+◌, ◌-◌, ◌^◌, ◌<◌, ◌≤◌}
+use Rattle.std.proofs.Common.{◌≡◌, ◌-◌, ◌≤◌}
 use Rattle.nbd_session.specs.Conversation.{HagglesOn}
 use Rattle.nbd_session.specs.Outcomes.{Going}
 use Rattle.nbd_session.proofs.haggling.options.Given as goal

@@ -1,4 +1,4 @@
-use Rattle.std.proofs.Common.{◌≡◌, ◌≤◌, ◌<◌, [], ◌++◌, length, take, ℕ, List, arith, sym, subst, Err}
+use Rattle.std.proofs.Common.{[], take, arith}
 use Rattle.std.proofs.lemmas.List.{length-take}
 use Rattle.nbd_session.specs.declared.talking.End.TheVariants.{Cut}
 use Rattle.nbd_session.proofs.BufferLemmas.{Consumes-none}

@@ -1,4 +1,4 @@
-use Rattle.std.proofs.Common.{◌≡◌, ◌≤◌, ◌<◌, [], ◌++◌, length, take, ℕ, List, arith, sym, subst}
+use Rattle.std.proofs.Common.{◌++◌, take, ℕ, List, arith, sym, subst}
 use Rattle.std.proofs.lemmas.List.{length-take}
 use Rattle.nbd_session.specs.Haggling.{IsOffer}
 use Rattle.nbd_session.proofs.KnownLemmas.{Consumes-then}
