@@ -1,14 +1,14 @@
 //! One export alone: its image, its requests, its sessions and its limit tags.
-ghost use Rattle.std.specs.Prelude.{◌≡◌, ◌≢◌, ◌<◌, [], length, ◌↔◌, IsTrue, IfOk, IfErr, IfSome, IfNone, OnSome, Some, None, Ok, Err};
+ghost use Rattle.std.specs.Prelude.{◌≡◌, ◌≢◌, ◌<◌, [], length, IfOk, IfErr, IfSome, IfNone, OnSome, Some};
 ghost use Rattle.std.specs.Bool.{OnTrue, OnFalse};
 ghost use Rattle.nbd_commands.specs.Terms.{terms_of};
 ghost use Rattle.nbd_commands.specs.Exports.{IsWithin};
-ghost use Rattle.lone_export.specs.Calls.{to_come};
-ghost use Rattle.lone_export.specs.Lone.{opening_of, Does, DoesOr, pick_said, leave_said, gone_said, take_said, attach_said, arrived_said, slots_picked, slots_without, slot_at, MayAttach, MayArrive, IsInBounds};
+ghost use Rattle.lone_export.specs.Lone.{opening_of, Does, DoesOr, pick_said, leave_said, gone_said, take_said, attach_said, arrived_said, slots_picked, slots_without, slot_at};
 
+mod reading;
 mod replaying;
 
-use crate::refusal::{ArriveRefusal, Arrived, AttachRefusal, NotArrived, NotAttached};
+use crate::refusal::{Arrived, NotArrived, NotAttached};
 use crate::row::Row;
 use crate::step::{Step, StepAnswer};
 use export_queue::{ExportQueue, Picked};
@@ -17,13 +17,10 @@ use nbd_base::NoMemory;
 use nbd_commands::{Done, ExportConfig, ExportInfo, apply, verdict};
 use nbd_wire::protocol::{EIO, ENOMEM};
 use nbd_wire::{Reply, Request};
-use reply_box::{AdmitFault, NotOpen, ReplyBox, Taken};
+use reply_box::{NotOpen, ReplyBox, Taken};
 use std::alloc::Allocator;
 use std::marker::Model;
 use tag_clock::{LimitClock, Moment, Tuning};
-
-/// The most steps that are counted by attaches and arrivals: 2^56.
-const MOST_STEPS: u64 = 1 << 56;
 
 /// An export and all of its requests and sessions.
 ///
@@ -54,27 +51,6 @@ impl<I: Image> Model for Lone<I> {
 }
 
 impl<I: Image> Lone<I> {
-    /// How many steps were counted.
-    pub fn steps(&self) -> u64
-        ensures { result ≡ self.now.state.count }
-    {
-        self.count
-    }
-
-    /// How many requests wait.
-    pub fn waiting(&self) -> usize
-        ensures { result ≡ length self.now.state.waiting }
-    {
-        self.queue.waiting()
-    }
-
-    /// Whether fewer requests are in service than may be at once, so that one may be picked.
-    pub fn may_pick(&self) -> bool
-        ensures { IsTrue result ↔ (length self.now.state.out < self.now.inflight) }
-    {
-        self.queue.may_pick()
-    }
-
     /// The first request that waits is in service now, in the slot that is answered.
     pub fn pick(&mut self) -> Option<Picked>
         requires { length self.old.state.out < self.old.inflight }
@@ -128,19 +104,6 @@ impl<I: Image> Lone<I> {
         }
     }
 
-    /// What `attach` is refused for, want of memory apart.
-    pub fn may_attach(&self) -> Result<(), AttachRefusal>
-        ensures { MayAttach self.now result }
-    {
-        if self.count >= MOST_STEPS {
-            return Err(AttachRefusal::Worn);
-        }
-        if self.sessions.is_full() {
-            return Err(AttachRefusal::Full);
-        }
-        Ok(())
-    }
-
     /// Opens a session and gives its number.
     pub fn attach(&mut self) -> Result<u64, NotAttached>
         ensures step { DoesOr {A = I.Alloc} self.old self.new Step.Attach (attach_said result) }
@@ -155,62 +118,6 @@ impl<I: Image> Lone<I> {
         self.count += 1;
         self.asked += 1;
         Ok(number)
-    }
-
-    /// What `arrive` is refused for.
-    pub fn may_arrive(&self, session: u64) -> Result<(), ArriveRefusal>
-        ensures { MayArrive self.now session result }
-    {
-        match self.sessions.may_admit(session) {
-            Err(AdmitFault::NotOpen) => Err(ArriveRefusal::NotOpen),
-            Err(AdmitFault::Hold) => {
-                if self.count >= MOST_STEPS {
-                    return Err(ArriveRefusal::Worn);
-                }
-                Err(ArriveRefusal::Hold)
-            }
-            Ok(()) => {
-                if self.count >= MOST_STEPS {
-                    return Err(ArriveRefusal::Worn);
-                }
-                Ok(())
-            }
-        }
-    }
-
-    /// The slot in which the request of this number is in service.
-    pub fn slot_of(&self, number: u64) -> Option<usize>
-        ensures { result ≡ slot_at self.now number }
-    {
-        self.queue.slot_of(number)
-    }
-
-    /// How many counted steps can still come of what is here, without another attach or arrival: a request that waits
-    /// is picked and performed and its reply is taken, and each session leaves and is gone.
-    pub fn to_come(&self) -> u64
-        ensures { result ≡ to_come self.now.state }
-    {
-        let waiting = self.queue.waiting() as u64;
-        let out = self.queue.in_service() as u64;
-        3 * waiting + 2 * out + self.sessions.steps_to_come()
-    }
-
-    /// The bytes that are served.
-    pub fn image(&self) -> &I
-        ensures { I.bytes result.now ≡ self.now.state.image }
-    {
-        &self.image
-    }
-
-    /// Does nothing: its contract says what is true of every export.
-    ///
-    /// Each request in service has a slot of its own; no more wait and no more are in service than may; no session has
-    /// more outstanding than its window, and 64 at most are not gone.
-    pub fn laws(&self)
-        ensures { IsInBounds self.now }
-    {
-        self.queue.laws();
-        self.sessions.laws();
     }
 
     /// A request of a session arrives at a moment. One that is refused is handed back.

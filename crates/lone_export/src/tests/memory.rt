@@ -186,8 +186,9 @@ fn is_resumed<A: Allocator + Copy>(
         Step::Take { session: 0 },
     ];
     let mut answers = Vec::new(alloc);
-    let first = lone.replay_all(&steps, &mut answers);
-    let rest = lone.replay_all(&steps[first..], &mut answers);
+    let all = &steps[..];
+    let first = lone.replay_all(all, &mut answers);
+    let rest = lone.replay_all(&all[first..], &mut answers);
     let last = answers.last().ok_or(NoMemory)?;
     Ok(
         first + rest == 9

@@ -1,0 +1,104 @@
+//! What is read of an export, and what its steps are refused for.
+ghost use Rattle.std.specs.Prelude.{◌≡◌, ◌<◌, length, ◌↔◌, IsTrue};
+ghost use Rattle.lone_export.specs.Calls.{to_come};
+ghost use Rattle.lone_export.specs.Lone.{slot_at, MayAttach, MayArrive, IsInBounds};
+
+use crate::lone::Lone;
+use crate::refusal::{ArriveRefusal, AttachRefusal};
+use export_store::Image;
+use reply_box::AdmitFault;
+
+/// The most steps that are counted by attaches and arrivals: 2^56.
+const MOST_STEPS: u64 = 1 << 56;
+
+impl<I: Image> Lone<I> {
+    /// How many steps were counted.
+    pub fn steps(&self) -> u64
+        ensures { result ≡ self.now.state.count }
+    {
+        self.count
+    }
+
+    /// How many requests wait.
+    pub fn waiting(&self) -> usize
+        ensures { result ≡ length self.now.state.waiting }
+    {
+        self.queue.waiting()
+    }
+
+    /// Whether fewer requests are in service than may be at once, so that one may be picked.
+    pub fn may_pick(&self) -> bool
+        ensures { IsTrue result ↔ (length self.now.state.out < self.now.inflight) }
+    {
+        self.queue.may_pick()
+    }
+
+    /// The slot in which the request of this number is in service.
+    pub fn slot_of(&self, number: u64) -> Option<usize>
+        ensures { result ≡ slot_at self.now number }
+    {
+        self.queue.slot_of(number)
+    }
+
+    /// How many counted steps can still come of what is here, without another attach or arrival: a request that waits
+    /// is picked and performed and its reply is taken, and each session leaves and is gone.
+    pub fn to_come(&self) -> u64
+        ensures { result ≡ to_come self.now.state }
+    {
+        let waiting = self.queue.waiting() as u64;
+        let out = self.queue.in_service() as u64;
+        3 * waiting + 2 * out + self.sessions.steps_to_come()
+    }
+
+    /// The bytes that are served.
+    pub fn image(&self) -> &I
+        ensures { I.bytes result.now ≡ self.now.state.image }
+    {
+        &self.image
+    }
+
+    /// What `attach` is refused for, want of memory apart.
+    pub fn may_attach(&self) -> Result<(), AttachRefusal>
+        ensures { MayAttach self.now result }
+    {
+        if self.count >= MOST_STEPS {
+            return Err(AttachRefusal::Worn);
+        }
+        if self.sessions.is_full() {
+            return Err(AttachRefusal::Full);
+        }
+        Ok(())
+    }
+
+    /// What `arrive` is refused for.
+    pub fn may_arrive(&self, session: u64) -> Result<(), ArriveRefusal>
+        ensures { MayArrive self.now session result }
+    {
+        match self.sessions.may_admit(session) {
+            Err(AdmitFault::NotOpen) => Err(ArriveRefusal::NotOpen),
+            Err(AdmitFault::Hold) => {
+                if self.count >= MOST_STEPS {
+                    return Err(ArriveRefusal::Worn);
+                }
+                Err(ArriveRefusal::Hold)
+            }
+            Ok(()) => {
+                if self.count >= MOST_STEPS {
+                    return Err(ArriveRefusal::Worn);
+                }
+                Ok(())
+            }
+        }
+    }
+
+    /// Does nothing: its contract says what is true of every export.
+    ///
+    /// Each request in service has a slot of its own; no more wait and no more are in service than may; no session has
+    /// more outstanding than its window, and 64 at most are not gone.
+    pub fn laws(&self)
+        ensures { IsInBounds self.now }
+    {
+        self.queue.laws();
+        self.sessions.laws();
+    }
+}
