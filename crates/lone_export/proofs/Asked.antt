@@ -28,7 +28,9 @@ use Rattle.lone_export.specs.declared.row.Row.{Row}
 use Rattle.lone_export.specs.declared.step.Step.TheVariants as step
 use Rattle.lone_export.specs.declared.step.StepAnswer.TheVariants as said
 use Rattle.lone_export.proofs.Steps.{worth-attach, worth-post}
-use Rattle.lone_export.proofs.Kept.{owed-change, owed-session, length-change, open_here, map-append, if_not, jobs_of-append, length-map, outstanding_is}
+use Rattle.std.proofs.lemmas.List.{length-map, map-append}
+use Rattle.nbd_base.proofs.Words.{length-change_at}
+use Rattle.lone_export.proofs.Kept.{owed-change, owed-session, open_here, if_not, jobs_of-append, outstanding_is}
 
 pub if_yes : {B : Type 0} (c : Bool) (x y : B) → c ≡ true → (if c then x else y) ≡ x
 if_yes true x y e = refl
@@ -153,7 +155,7 @@ module _ {A : Type 0} where
               sized = is.sized;
               numbered = is.numbered;
               owed = owed-session (posted reply) s _ p.sessions.sessions p.sessions.owed is.owed (λ x f k. posted_here reply x k);
-              bounded = bounded-asked (terms_at p) (state_at p) _ p.asked is.bounded fresh refl (let a = worth-post reply s p.sessions.sessions in omega arith) (omega arith) is.bounded.tag (let a = length-change (posted reply) s p.sessions.sessions in omega arith);
+              bounded = bounded-asked (terms_at p) (state_at p) _ p.asked is.bounded fresh refl (let a = worth-post reply s p.sessions.sessions in omega arith) (omega arith) is.bounded.tag (let a = length-change_at (posted reply) s p.sessions.sessions in omega arith);
               depth = is.depth;
               window = is.window;
               inflight = is.inflight;
@@ -168,7 +170,7 @@ module _ {A : Type 0} where
   lone-accept p s t r q clock b is fresh opened served early pushes ticks admits =
       let row : Row A = record { session = s; request = r } in
       let job : Job = record { number = p.queue.next; session = s; request = r } in
-      let waits : map job_of (p.queue.waiting ++ (p.queue.next, row) ∷ []) ≡ map job_of p.queue.waiting ++ job ∷ [] = map-append job_of p.queue.waiting (p.queue.next, row) in
+      let waits : map job_of (p.queue.waiting ++ (p.queue.next, row) ∷ []) ≡ map job_of p.queue.waiting ++ job ∷ [] = map-append job_of p.queue.waiting ((p.queue.next, row) ∷ []) in
       let same : map out_job (fin.entries p.queue.out) ++ map job_of (p.queue.waiting ++ (p.queue.next, row) ∷ []) ≡ jobs (state_at p) ++ job ∷ [] =
       ap (λ (xs : List Job). map out_job (fin.entries p.queue.out) ++ xs) waits ∙ sym (append_assoc (map out_job (fin.entries p.queue.out)) (map job_of p.queue.waiting) (job ∷ [])) in
       let long : length (map job_of (p.queue.waiting ++ (p.queue.next, row) ∷ [])) ≡ length (map job_of p.queue.waiting) + 1 = ap length waits ∙ length-append (map job_of p.queue.waiting) (job ∷ []) in
@@ -277,7 +279,7 @@ module _ {A : Type 0} where
       let both = lone-answer p s reply b c is let_in.1 admits puts in
       let box = both.1 in
       let good : (verdict_of (terms_at p) r == 0) ≡ true = eq-eqb (verdict_of (terms_at p) r) 0 served in
-      let many : (length (map job_of p.queue.waiting) == p.queue.depth) ≡ true = eq-eqb (length (map job_of p.queue.waiting)) p.queue.depth (length-map job_of p.queue.waiting ∙ full) in (
+      let many : (length (map job_of p.queue.waiting) == p.queue.depth) ≡ true = eq-eqb (length (map job_of p.queue.waiting)) p.queue.depth (length-map p.queue.waiting job_of ∙ full) in (
         subst (λ (x : Queue (Row A)). IsLone (record p { queue = x; sessions = c; count = p.count + 1; asked = p.asked + 1 })) (sym same) both.0,
         subst (λ (x : Queue (Row A)). Does {A = A} w (whole_of (record p { queue = x; sessions = c; count = p.count + 1; asked = p.asked + 1 })) (step.Arrive s t r) (said.Answered 5)) (sym same)
             (subst (λ (v : Whole). Does {A = A} v (whole_of (record p { sessions = c; count = p.count + 1; asked = p.asked + 1 })) (step.Arrive s t r) (said.Answered 5)) e
@@ -297,7 +299,7 @@ module _ {A : Type 0} where
   accept_does p s t n tag r q clock b w is e may served room number pushes tagged ticks admits =
       let let_in = subst (λ (v : Whole). IsLet v s) (sym e) may in
       let good : (verdict_of (terms_at p) r == 0) ≡ true = eq-eqb (verdict_of (terms_at p) r) 0 served in
-      let long = length-map job_of p.queue.waiting in
+      let long = length-map p.queue.waiting job_of in
       let few : (length (map job_of p.queue.waiting) == p.queue.depth) ≡ false = ne_eqb (length (map job_of p.queue.waiting)) p.queue.depth (λ z. absurd (omega arith)) in
       subst (λ (v : Whole). Does {A = A} v (whole_of (record p { queue = q; clock = clock; sessions = b; count = p.count + 1; asked = p.asked + 1 })) (step.Arrive s t r) (said.Accepted n tag)) e
       (subst (λ (x : Queue (Row A)). Does {A = A} (whole_of p) (whole_of (record p { queue = x; clock = clock; sessions = b; count = p.count + 1; asked = p.asked + 1 })) (step.Arrive s t r) (said.Accepted n tag)) (sym pushes)
@@ -307,7 +309,7 @@ module _ {A : Type 0} where
         did = looked_at (terms_at p) (state_at p) s t r let_in ∙ if_no (not (verdict_of (terms_at p) r == 0)) _ _ (ap not good) ∙ if_no (length (map job_of p.queue.waiting) == p.queue.depth) _ _ few
             ∙ (λ i. record {
               state = record (state_at p) {
-                waiting = sym (map-append job_of p.queue.waiting (p.queue.next, record { session = s; request = r })) i;
+                waiting = sym (map-append job_of p.queue.waiting ((p.queue.next, record { session = s; request = r }) ∷ [])) i;
                 next = p.queue.next + 1;
                 last = Some (limit_tag p.clock t);
                 count = p.count + 1;

@@ -6,7 +6,8 @@ use Rattle.export_queue.specs.Queue.{slot_in, IsInOrder}
 use Rattle.lone_export.specs.Lone.{Whole, slot_at, IsInBounds}
 use Rattle.lone_export.specs.Parts.{Parts, job_of, out_job, slot_of, whole_of, IsLone}
 use Rattle.lone_export.specs.declared.row.Row.{Row}
-use Rattle.lone_export.proofs.Kept.{length-map, outstanding_is}
+use Rattle.std.proofs.lemmas.List.{length-map}
+use Rattle.lone_export.proofs.Kept.{outstanding_is}
 use Rattle.lone_export.proofs.Done.{slot_is}
 
 module _ {A : Type 0} where
@@ -21,15 +22,15 @@ module _ {A : Type 0} where
   lone_bounds p w is e queued boxed =
       subst IsInBounds e
       (record {
-        slotted = length-map slot_of (fin.entries p.queue.out) ∙ sym (length-map out_job (fin.entries p.queue.out));
+        slotted = length-map (fin.entries p.queue.out) slot_of ∙ sym (length-map (fin.entries p.queue.out) out_job);
         slots_differ = λ m n slot f g.
             let x = slot_got p m slot is f in
             let y = slot_got p n slot is g in
             queued.slots_differ m n slot x.0 y.0 x.1 y.1;
         sized = is.sized;
-        few_wait = let a = length-map job_of p.queue.waiting in let b = queued.few_wait in omega arith;
+        few_wait = let a = length-map p.queue.waiting job_of in let b = queued.few_wait in omega arith;
         few_out =
-            let a = length-map out_job (fin.entries p.queue.out) in
+            let a = length-map (fin.entries p.queue.out) out_job in
             let b = fin.len-entries p.queue.out in
             let c = queued.few_out in
             omega arith;

@@ -23,22 +23,16 @@ use Rattle.lone_export.specs.Parts.{Parts, jobs, jobs_of, AreAbove, AreJobs, Are
 use Rattle.lone_export.specs.declared.row.Row.{Row}
 use Rattle.lone_export.specs.declared.step.Step.TheVariants as step
 use Rattle.lone_export.specs.declared.step.StepAnswer.TheVariants as said
-use Rattle.lone_export.proofs.Entries.{tied_same, tied_other, entries-remove}
+use Rattle.nbd_base.proofs.Numbers.{tied_same, tied_other}
+use Rattle.nbd_base.proofs.Words.{length-change_at}
+use Rattle.export_store.proofs.BytesLemmas.{length-overwritten}
+use Rattle.lone_export.proofs.Entries.{entries-remove}
 use Rattle.lone_export.proofs.Cases.{if_told}
 use Rattle.lone_export.proofs.Steps.{worth-post, one_out}
-use Rattle.lone_export.proofs.Kept.{owed-change, owed_read, length-change, bounded-step}
+use Rattle.lone_export.proofs.Kept.{owed-change, owed_read, bounded-step}
 use Rattle.lone_export.proofs.Asked.{posted_here}
 
 -- ---- a request that isn't refused keeps the length of the image
-
-length-overwritten : (image : List ℕ) (offset count : ℕ) (bytes : List ℕ) → length bytes ≡ count → offset + count ≤ length image → length (overwritten image offset count bytes) ≡ length image
-length-overwritten image offset count bytes same fits =
-    let a = length-append (take offset image ++ bytes) (drop (offset + count) image) in
-    let b = length-append (take offset image) bytes in
-    let c = length-take offset image in
-    let d = length-drop (offset + count) image in
-    let whole : length (take offset image ++ bytes ++ drop (offset + count) image) ≡ length image = omega (arith, length-append (take offset image) (bytes ++ drop (offset + count) image), length-append bytes (drop (offset + count) image)) in
-    whole
 
 inside : (size : ℕ) (m : RequestMessage) → verdict_at size false m ≡ 0 → (is_write m || is_trim m || is_write_zeroes m) ≡ true → m.head.offset + m.head.length ≤ size
 inside size m served changes = grind arith
@@ -46,9 +40,9 @@ inside size m served changes = grind arith
 pub length-after : (image : List ℕ) (m : RequestMessage) → verdict_at (length image) false m ≡ 0 → IsRequest m → length (image_after image m) ≡ length image
 length-after image m served is =
     if_told (λ (bytes : List ℕ). length bytes ≡ length image) (is_write m)
-    (λ h. length-overwritten image m.head.offset m.head.length m.payload (is.write (eqb-true m.head.kind 1 h)) (inside (length image) m served (first h)))
+    (λ h. length-overwritten image m.head.offset m.head.length m.payload (inside (length image) m served (first h)) (is.write (eqb-true m.head.kind 1 h)))
     (λ h. if_told (λ (bytes : List ℕ). length bytes ≡ length image) (is_trim m || is_write_zeroes m)
-    (λ k. length-overwritten image m.head.offset m.head.length (replicate m.head.length 0) (length-replicate m.head.length 0) (inside (length image) m served (rest h k)))
+    (λ k. length-overwritten image m.head.offset m.head.length (replicate m.head.length 0) (inside (length image) m served (rest h k)) (length-replicate m.head.length 0))
     (λ k. refl))
   where
     first : is_write m ≡ true → (is_write m || is_trim m || is_write_zeroes m) ≡ true
@@ -229,7 +223,7 @@ module _ {A : Type 0} where
             (λ x k f o here. let a = o (posted_here reply x here) in let d = less row.session in let c = one_same row.session in omega arith)
             (λ f z. let d = less row.session in omega arith)
             (λ k d. let a = less k in let c = one_other row.session k (λ e. d (sym e)) in omega arith));
-        bounded = bounded-step (terms_at p) (state_at p) _ p.asked is.bounded refl (omega arith) refl refl (length-change (posted reply) row.session p.sessions.sessions);
+        bounded = bounded-step (terms_at p) (state_at p) _ p.asked is.bounded refl (omega arith) refl refl (length-change_at (posted reply) row.session p.sessions.sessions);
         depth = is.depth;
         window = is.window;
         inflight = is.inflight;

@@ -6,12 +6,7 @@ use Rattle.std.specs.Cmp.{nat_cmp_total, nat_cmp_is, unsigned_tied}
 use Rattle.std.specs.declared.cmp.Ordering.TheVariants.{Greater}
 use Rattle.std.specs.FinMap as fin
 use Rattle.std.specs.FinMap.Entries.{put, by_order, is_sorted-where_key, find-where_key}
-
-pub tied_same : (m n : ℕ) → m ≡ n → eq_by_cmp nat_cmp m n ≡ true
-tied_same m n e = unsigned_tied m n ∙ eq-eqb m n e
-
-pub tied_other : (m n : ℕ) → m ≢ n → eq_by_cmp nat_cmp m n ≡ false
-tied_other m n e = unsigned_tied m n ∙ ne_eqb m n e
+use Rattle.nbd_base.proofs.Numbers.{tied_same, tied_other}
 
 module _ {X : Type 0} where
   -- each key is below k

@@ -2,7 +2,9 @@
 use Rattle.std.proofs.Common.{◌≡◌, ◌≢◌, ℕ, zero, suc, ◌+◌, ◌*◌, ◌<◌, ◌≤◌, ◌^◌, Bool, true, false, not, ◌==◌, ◌&&◌, IsTrue, ◌↔◌, List, [], ◌∷◌, ◌++◌, length, map, filter, drop, slice_get, Option, Some, None, if◌then◌else◌, refl, sym, ap, subst, ◌∙◌, inl, inr, arith, length-append, append_assoc}
 use Rattle.std.proofs.lemmas.Bool.{cases_eq}
 use Rattle.std.specs.FinMap as fin
+use Rattle.std.proofs.lemmas.List.{length-map, map-append}
 use Rattle.nbd_base.specs.Words.{when_some, change_at}
+use Rattle.nbd_base.proofs.Words.{length-change_at}
 use Rattle.nbd_wire.specs.Grammar.{ReplyMessage}
 use Rattle.nbd_commands.specs.Terms.{Terms}
 use Rattle.reply_box.specs.declared.seat.SessionState.{SessionState}
@@ -47,11 +49,6 @@ change-same s [] = refl
 change-same zero (o ∷ os) = refl
 change-same (suc s) (o ∷ os) = ap (λ xs. o ∷ xs) (change-same s os)
 
-pub length-change : {X : Type 0} (f : X → X) (s : ℕ) (xs : List X) → length (change_at f s xs) ≡ length xs
-length-change f s [] = refl
-length-change f zero (x ∷ xs) = refl
-length-change f (suc s) (x ∷ xs) = ap suc (length-change f s xs)
-
 -- one session is changed, and what it is owed stays
 pub owed-session : (f : Session → Session) (s : ℕ) (rows : ℕ → ℕ) (ss : List Session) (owed : List ℕ) → AreOwed rows ss owed
     → ((x : Session) → slice_get ss s ≡ Some x → is_here (f x) ≡ true → is_here x ≡ true)
@@ -82,10 +79,6 @@ bounded-step terms old new asked is more less next last seats = record {
   tag = subst (λ n. IsTag n new.last) (sym next) (subst (IsTag old.next) (sym last) is.tag);
 }
 
-pub length-map : {B C : Type 0} (f : B → C) (xs : List B) → length (map f xs) ≡ length xs
-length-map f [] = refl
-length-map f (x ∷ xs) = ap suc (length-map f xs)
-
 pub if_not : {B : Type 0} (c : Bool) (x y : B) → c ≡ true → (if not c then x else y) ≡ y
 if_not true x y e = refl
 if_not false x y e = absurd (cc)
@@ -105,10 +98,6 @@ owed_read rows [] owed s is here = absurd (cc)
 owed_read rows (x ∷ ss) [] s is here = absurd is
 owed_read rows (x ∷ ss) (o ∷ os) zero is here = is.0 here
 owed_read rows (x ∷ ss) (o ∷ os) (suc s) is here = owed_read (λ n. rows (suc n)) ss os s is.1 here
-
-pub map-append : {B C : Type 0} (f : B → C) (xs : List B) (x : B) → map f (xs ++ x ∷ []) ≡ map f xs ++ f x ∷ []
-map-append f [] x = refl
-map-append f (y ∷ xs) x = ap (λ ys. f y ∷ ys) (map-append f xs x)
 
 -- those before a request have lesser numbers
 among : (n : ℕ) (es : List Job) (job : Job) (rest : List Job) → AreAbove n (es ++ job ∷ rest) → n < job.number
@@ -133,17 +122,17 @@ module _ {A : Type 0} where
   pub lone-leave : (p : Parts A) (s : ℕ) (b : Box) → IsLone p → is_open_at p.sessions.sessions s ≡ true → b ≡ after_leave p.sessions s → IsLone (record p { sessions = b; count = p.count + 1 })
   lone-leave p s b is opened e =
       subst (λ (c : Box). IsLone (record p { sessions = c; count = p.count + 1 })) (sym e)
-      (lone-sessions p _ _ is (owed-session _ s _ p.sessions.sessions _ is.owed (λ x f k. open_here p.sessions.sessions s x f opened)) (worth-leave s p.sessions.sessions opened) (length-change _ s p.sessions.sessions))
+      (lone-sessions p _ _ is (owed-session _ s _ p.sessions.sessions _ is.owed (λ x f k. open_here p.sessions.sessions s x f opened)) (worth-leave s p.sessions.sessions opened) (length-change_at _ s p.sessions.sessions))
 
   pub lone-take : (p : Parts A) (s : ℕ) (b : Box) (reply : ReplyMessage) → IsLone p → slice_get (outbox_at p.sessions.sessions s) 0 ≡ Some reply → b ≡ after_take p.sessions s → IsLone (record p { sessions = b; count = p.count + 1 })
   lone-take p s b reply is first e =
       subst (λ (c : Box). IsLone (record p { sessions = c; count = p.count + 1 })) (sym e)
-      (lone-sessions p _ _ is (owed-session _ s _ p.sessions.sessions _ is.owed (λ x f k. k)) (worth-take s p.sessions.sessions reply first) (length-change _ s p.sessions.sessions))
+      (lone-sessions p _ _ is (owed-session _ s _ p.sessions.sessions _ is.owed (λ x f k. k)) (worth-take s p.sessions.sessions reply first) (length-change_at _ s p.sessions.sessions))
 
   pub lone-gone : (p : Parts A) (s : ℕ) (b : Box) → IsLone p → is_here_at p.sessions.sessions s ≡ true → b ≡ after_gone p.sessions s → IsLone (record p { sessions = b; count = p.count + 1 })
   lone-gone p s b is here e =
       subst (λ (c : Box). IsLone (record p { sessions = c; count = p.count + 1 })) (sym e)
-      (lone-sessions p _ _ is (owed-change _ _ s _ _ p.sessions.sessions _ is.owed (λ x n f o k. absurd (cc)) (λ f z. z) (λ n d. refl)) (worth-drop s p.sessions.sessions here) (length-change _ s p.sessions.sessions))
+      (lone-sessions p _ _ is (owed-change _ _ s _ _ p.sessions.sessions _ is.owed (λ x n f o k. absurd (cc)) (λ f z. z) (λ n d. refl)) (worth-drop s p.sessions.sessions here) (length-change_at _ s p.sessions.sessions))
 
   -- ---- the first request that waits is out
 
@@ -170,7 +159,7 @@ module _ {A : Type 0} where
           front_below (terms_at p) p.queue.next (fin.entries p.queue.out) (job_of w) (map job_of ws) (subst (λ (xs : List (ℕ × Row A)). AreJobs (terms_at p) p.queue.next (map out_job (fin.entries p.queue.out) ++ map job_of xs)) e is.numbered) in
           let last = entries-last p.queue.out w.0 (slot, w.1) below in
           let outs : map out_job (fin.entries (fin.insert p.queue.out w.0 (slot, w.1))) ≡ map out_job (fin.entries p.queue.out) ++ job_of w ∷ [] =
-          ap (map out_job) last ∙ map-append out_job (fin.entries p.queue.out) (w.0, (slot, w.1)) in
+          ap (map out_job) last ∙ map-append out_job (fin.entries p.queue.out) ((w.0, (slot, w.1)) ∷ []) in
           let same : map out_job (fin.entries (fin.insert p.queue.out w.0 (slot, w.1))) ++ map job_of ws ≡ map out_job (fin.entries p.queue.out) ++ map job_of p.queue.waiting =
           ap (λ (xs : List Job). xs ++ map job_of ws) outs ∙ append_assoc (map out_job (fin.entries p.queue.out)) (job_of w ∷ []) (map job_of ws) ∙ ap (λ (xs : List (ℕ × Row A)). map out_job (fin.entries p.queue.out) ++ map job_of xs) (sym e) in
           let number : n ≡ w.0 = cc in
@@ -193,7 +182,7 @@ module _ {A : Type 0} where
                 terms = refl;
                 inflight = refl;
               },
-              ap (map slot_of) last ∙ map-append slot_of (fin.entries p.queue.out) (w.0, (slot, w.1)),
+              ap (map slot_of) last ∙ map-append slot_of (fin.entries p.queue.out) ((w.0, (slot, w.1)) ∷ []),
             ),
           )
 
@@ -202,7 +191,7 @@ module _ {A : Type 0} where
   room_out p w is e h =
       let a : length (state_at p).out < p.queue.inflight = subst (λ (v : Whole). length v.state.out < v.inflight) (sym e) h in
       let b = fin.len-entries p.queue.out in
-      let c = length-map out_job (fin.entries p.queue.out) in
+      let c = length-map (fin.entries p.queue.out) out_job in
       omega arith
 
   pub pick_does : (p : Parts A) (slot n : ℕ) (q : Queue (Row A)) (w : Whole) → IsLone p → whole_of p ≡ w → Some n ≡ first_number p.queue.waiting → q ≡ after_pick p.queue slot
@@ -245,14 +234,14 @@ module _ {A : Type 0} where
   -- the queue's own test, from the Value
   pub may_pick_is : (p : Parts A) (w : Whole) (b : Bool) → IsLone p → whole_of p ≡ w → (IsTrue b ↔ (fin.len p.queue.out < p.queue.inflight)) → IsTrue b ↔ (length w.state.out < w.inflight)
   may_pick_is p w b is e h =
-      let long : length (map out_job (fin.entries p.queue.out)) ≡ fin.len p.queue.out = length-map out_job (fin.entries p.queue.out) ∙ sym (fin.len-entries p.queue.out) in
+      let long : length (map out_job (fin.entries p.queue.out)) ≡ fin.len p.queue.out = length-map (fin.entries p.queue.out) out_job ∙ sym (fin.len-entries p.queue.out) in
       subst (λ (v : Whole). IsTrue b ↔ (length v.state.out < v.inflight)) e (subst (λ n. IsTrue b ↔ (n < p.queue.inflight)) (sym long) h)
 
   -- what is still to come, from the parts
   come_of : (p : Parts A) → 3 * length p.queue.waiting + 2 * fin.len p.queue.out + sessions_worth p.sessions.sessions ≡ to_come (state_at p)
   come_of p =
-      let a = length-map job_of p.queue.waiting in
-      let b = length-map out_job (fin.entries p.queue.out) in
+      let a = length-map p.queue.waiting job_of in
+      let b = length-map (fin.entries p.queue.out) out_job in
       let c = fin.len-entries p.queue.out in
       omega arith
 
