@@ -7,6 +7,8 @@ mod faults;
 #[cfg(test)]
 mod handshakes;
 mod outcome;
+#[cfg(test)]
+mod pieces;
 mod script;
 #[cfg(test)]
 mod tests;
