@@ -13,6 +13,7 @@ pub mod OneHaggling
 pub mod OneConversation
 pub mod InTable
 pub mod SomeConversation
+pub mod KeptLemmas
 pub mod TalkLemmas
 pub mod HaggledLemmas
 pub mod Worked

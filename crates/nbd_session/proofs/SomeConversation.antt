@@ -41,7 +41,7 @@ use Rattle.nbd_session.proofs.OneHaggling.{given_of}
 abbrev pub Some_text : (List ℕ → List ℕ → End → Type 0) → List ℕ → Type 0
 Some_text Says bytes = (text : List ℕ) × (end : End) × Says bytes text end
 
-bytes_behind : (front more bytes : List ℕ) → bytes ≡ front ++ more → AreBytes bytes → AreBytes more
+pub bytes_behind : (front more bytes : List ℕ) → bytes ≡ front ++ more → AreBytes bytes → AreBytes more
 bytes_behind front more bytes is f =
     let e : drop (length front) bytes ≡ more = ap (λ (t : List ℕ). drop (length front) t) is ∙ drop_at front more (length front) refl in
     subst AreBytes e (IsBytes-drop (length front) bytes f)

@@ -1,75 +1,117 @@
-ghost use Rattle.std.specs.Prelude.{◌≡◌, ◌++◌, ◌+◌, ◌^◌, ◌<◌, ◌≤◌, [], length, IfOk, IfErr, OnErr, IsErrOf, Ok, Err};
-ghost use Rattle.nbd_session.specs.Streams.{Rises};
-ghost use Rattle.nbd_session.specs.Frames.{Takes};
-ghost use Rattle.nbd_wire.specs.Grammar.{head_text, IsHead, IsTooLong};
+//! Requests out of a reader, whose bytes may come in pieces of any size.
 
 use crate::counted::Counted;
-use crate::fill::{Filled, fill};
-use crate::talking::{End, TalkFault};
-use bytes::Bytes;
-use nbd_wire::protocol::{DISC, WRITE};
-use nbd_wire::{Request, RequestHead, WireFault, read_head};
+use crate::ending::{Ending, Frame};
+use crate::fetch::{advance, frame_of};
+use nbd_wire::{Decoder, FeedFault, Request};
 use std::alloc::Allocator;
 use std::io::Read;
+use std::marker::Model;
 
-/// What stands at a request's place.
+/// The requests of one client, out of the reader that each call is handed: it is to be the same one.
 #[derive(Drop)]
-pub enum Frame<A: Allocator> {
-    Whole(Request<A>),
-    Stop(End),
+pub struct Frames<A: Allocator + Copy> {
+    decoder: Decoder<A>,
+    // The requests that are ready, the last first.
+    ready: Vec<Request<A>, A>,
+    // What was met behind them.
+    fault: Option<FeedFault>,
+    ended: Option<Ending>,
+    buffer: Vec<u8, A>,
+    alloc: A,
 }
 
-/// Reads one request, or what ends the conversation in its place.
-pub fn read_request<A: Allocator + Copy, R: Read>(
-    alloc: A,
-    reader: &mut Counted<R>,
-) -> Result<Frame<A>, TalkFault>
-    ensures taken { Takes [] (R.remaining reader.old.inner) (R.remaining reader.new.inner) result }
-    ensures failed { IsErrOf result TalkFault.ReadFailed → Rises reader.old.failures reader.new.failures }
-    ensures kept { IfOk result (λ _. reader.new.failures ≡ reader.old.failures) }
-{
-    let mut bytes = [0; 28];
-    match fill(reader, &mut bytes) {
-        Filled::Whole => {}
-        Filled::Ended(0) => return Ok(Frame::Stop(End::Over)),
-        Filled::Ended(_) => return Ok(Frame::Stop(End::Cut)),
-        Filled::Failed(_) => return Err(TalkFault::ReadFailed),
+impl<A: Allocator + Copy> Model for Frames<A> {
+    ghost use Rattle.nbd_session.specs.Frames.{Reading, kept_of, IsFraming};
+
+    ghost Value = { Reading };
+
+    ghost view = { λ f. record { kept = kept_of f.ready.items f.decoder.held; ended = f.ended } };
+
+    ghost invariant = { λ f. IsFraming f.ready.items f.fault f.decoder };
+}
+
+impl<A: Allocator + Copy> Frames<A> {
+    ghost use Rattle.std.specs.Prelude.{◌≡◌, [], Some, None};
+    ghost use Rattle.nbd_session.specs.declared.ending.Ending.{Ending};
+    ghost use Rattle.nbd_session.specs.Frames.{Nexts, frame_of};
+
+    /// Nothing was read yet.
+    pub fn new(alloc: A) -> Frames<A>
+        ensures { result ≡ record { kept = []; ended = None } }
+    {
+        Frames {
+            decoder: Decoder::new(alloc),
+            ready: Vec::new(alloc),
+            fault: None,
+            ended: None,
+            buffer: Vec::new(alloc),
+            alloc,
+        }
     }
-    match read_head(&bytes) {
-        Err(WireFault::BadMagic) => Ok(Frame::Stop(End::BadMagic)),
-        Err(WireFault::TooLong) => Ok(Frame::Stop(End::TooLong)),
-        Ok(head) => behind_head(alloc, head, reader),
+
+    /// The next request, or how the reading ended; then each later call tells the same.
+    pub fn next<R: Read>(&mut self, reader: &mut Counted<R>) -> Frame<A>
+        ensures next { self.old.ended ≡ None → Nexts self.old self.new (R.remaining reader.old.inner) (R.remaining reader.new.inner)
+            reader.old.failures reader.new.failures result }
+        ensures again { (e : Ending) → self.old.ended ≡ Some e → (result ≡ frame_of e) × (self.new ≡ self.old) × (reader.new ≡ reader.old) }
+    {
+        if let Some(ending) = self.ended {
+            return frame_of(ending);
+        }
+        match advance(
+            self.alloc,
+            reader,
+            &mut self.buffer,
+            &mut self.decoder,
+            &mut self.ready,
+            &mut self.fault,
+        ) {
+            Ok(request) => Frame::Whole(request),
+            Err(ending) => {
+                self.ended = Some(ending);
+                frame_of(ending)
+            }
+        }
     }
 }
 
-/// Reads what follows a head.
-fn behind_head<A: Allocator + Copy, R: Read>(
-    alloc: A,
-    head: RequestHead,
-    reader: &mut Counted<R>,
-) -> Result<Frame<A>, TalkFault>
-    requires fits { IsHead head }
-    requires short { IsTooLong head → ⊥ }
-    ensures taken { Takes (head_text head) (R.remaining reader.old.inner) (R.remaining reader.new.inner) result }
-    ensures failed { IsErrOf result TalkFault.ReadFailed → Rises reader.old.failures reader.new.failures }
-    ensures kept { IfOk result (λ _. reader.new.failures ≡ reader.old.failures) }
-{
-    if head.kind == DISC {
-        return Ok(Frame::Stop(End::Disc));
+/// The requests of one client, with the reader that they come out of.
+#[derive(Drop)]
+pub struct FrameReader<R: Read, A: Allocator + Copy> {
+    reader: Counted<R>,
+    frames: Frames<A>,
+}
+
+impl<R: Read, A: Allocator + Copy> Model for FrameReader<R, A> {
+    ghost use Rattle.nbd_session.specs.Frames.{Stream};
+
+    ghost Value = { Stream };
+
+    ghost view = { λ f. record { left = R.remaining f.reader.inner; failures = f.reader.failures; reading = f.frames } };
+}
+
+impl<R: Read, A: Allocator + Copy> FrameReader<R, A> {
+    ghost use Rattle.std.specs.Prelude.{◌≡◌, [], Some, None};
+    ghost use Rattle.nbd_session.specs.declared.ending.Ending.{Ending};
+    ghost use Rattle.nbd_session.specs.Frames.{Nexts, frame_of};
+
+    /// Nothing was read yet.
+    pub fn new(alloc: A, reader: Counted<R>) -> FrameReader<R, A>
+        ensures { result ≡ record { left = R.remaining reader.inner; failures = reader.failures; reading = record { kept = []; ended = None } } }
+    {
+        FrameReader {
+            reader,
+            frames: Frames::new(alloc),
+        }
     }
-    if head.kind != WRITE {
-        return Ok(Frame::Whole(Request::new(head, Bytes::new())));
-    }
-    let Ok(mut payload) = vec![in alloc; 0; head.length as usize] else {
-        return Err(TalkFault::NoMemory);
-    };
-    match fill(reader, &mut payload) {
-        Filled::Whole => {}
-        Filled::Ended(_) => return Ok(Frame::Stop(End::Cut)),
-        Filled::Failed(_) => return Err(TalkFault::ReadFailed),
-    }
-    match Bytes::from_vec(payload) {
-        Ok(payload) => Ok(Frame::Whole(Request::new(head, payload))),
-        Err(_) => Err(TalkFault::NoMemory),
+
+    /// The next request, or how the reading ended; then each later call tells the same.
+    pub fn next(&mut self) -> Frame<A>
+        ensures next { self.old.reading.ended ≡ None → Nexts self.old.reading self.new.reading self.old.left self.new.left
+            self.old.failures self.new.failures result }
+        ensures again { (e : Ending) → self.old.reading.ended ≡ Some e → (result ≡ frame_of e) × (self.new ≡ self.old) }
+    {
+        self.frames.next(&mut self.reader)
     }
 }

@@ -4,6 +4,8 @@
 
 mod conversing;
 mod counted;
+mod ending;
+mod fetch;
 mod fill;
 mod frames;
 mod haggling;
@@ -15,6 +17,8 @@ mod transmission;
 
 pub use conversing::talk;
 pub use counted::Counted;
+pub use ending::{Ending, Frame};
+pub use frames::FrameReader;
 pub use haggling::haggle;
 pub use laws::{handshake_is_haggled, one_conversation, requests_are_plain, worked_conversations};
 pub use talking::{End, Entry, TalkFault};

@@ -8,13 +8,15 @@ ghost use Rattle.nbd_session.specs.Plainly.{IsIdle};
 ghost use Rattle.nbd_session.specs.Outcomes.{Converses, IsTold};
 
 use crate::counted::Counted;
+use crate::ending::Frame;
 use crate::fill::put;
-use crate::frames::{Frame, read_request};
+use crate::frames::Frames;
 use crate::serving::{open, serve};
 use crate::talking::{End, TalkFault};
 use export_store::{Flat, Image};
 use lone_export::Lone;
 use nbd_commands::ExportConfig;
+use nbd_wire::protocol::DISC;
 use nbd_wire::{Reply, write_reply};
 use std::alloc::Allocator;
 use std::io::{Read, Write};
@@ -54,11 +56,20 @@ fn requests<I: Image, R: Read, W: Write>(
     ensures read_failed { IsErrOf result TalkFault.ReadFailed → Rises reader.old.failures reader.new.failures }
     ensures write_failed { IsErrOf result TalkFault.WriteFailed → Rises writer.old.failures writer.new.failures }
 {
+    let mut frames = Frames::new(alloc);
     loop {
-        let request = match read_request(alloc, reader)? {
+        let request = match frames.next(reader) {
             Frame::Whole(request) => request,
-            Frame::Stop(end) => return Ok(end),
+            Frame::Over => return Ok(End::Over),
+            Frame::Cut => return Ok(End::Cut),
+            Frame::BadMagic => return Ok(End::BadMagic),
+            Frame::TooLong => return Ok(End::TooLong),
+            Frame::ReadFailed => return Err(TalkFault::ReadFailed),
+            Frame::NoMemory => return Err(TalkFault::NoMemory),
         };
+        if request.head().kind == DISC {
+            return Ok(End::Disc);
+        }
         let Some(reply) = serve(lone, request)? else {
             return Ok(End::Worn);
         };

@@ -8,6 +8,8 @@ mod faults;
 #[cfg(test)]
 mod handshakes;
 mod outcome;
+#[cfg(test)]
+mod pieces;
 mod script;
 #[cfg(test)]
 mod tests;

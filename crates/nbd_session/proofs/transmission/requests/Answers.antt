@@ -1,18 +1,20 @@
-use Rattle.std.proofs.Common.{Ok, Err, arith, refl, ◌∙◌}
+use Rattle.std.proofs.Common.{arith, refl, ap, sym, ◌∙◌}
 use Rattle.std.proofs.lemmas.Result.{err_from_is_err_and}
-use Rattle.nbd_session.specs.declared.talking.TalkFault.TheVariants.{NoMemory}
-use Rattle.nbd_session.specs.declared.talking.End.TheVariants.{Worn}
-use Rattle.nbd_session.specs.Requests.{Serves, opened}
-use Rattle.nbd_session.specs.Outcomes.{IsTold}
-use Rattle.nbd_session.proofs.ServeLemmas.{stop_converses, got, worn_converses, read_fault, unserved, served_by, served_fault, served_going, still_idle, still_terms, still_few, few_at_first, worn_by_count}
-use Rattle.nbd_session.proofs.OutcomeLemmas.{Converses-after, Going-after, Going-start}
+use Rattle.nbd_wire.specs.declared.requests.RequestHead.{RequestHead}
+use Rattle.nbd_session.specs.Frames.{Reading}
+use Rattle.nbd_session.specs.Requests.{opened}
+use Rattle.nbd_session.proofs.ServeLemmas.{served_by, still_idle, still_terms, still_few, few_at_first, worn_by_count}
+use Rattle.nbd_session.proofs.KeptLemmas.{keeps_nothing, is_over, is_cut, is_bad_magic, is_too_long, is_read_failed, is_without_memory, is_disc, is_worn, is_part, keeps_on, gives}
 use Rattle.nbd_session.proofs.transmission.requests.Goals as goal
 
 pub loop-request-init : goal.loop-request-init
 loop-request-init g c =
     let terms = c.args.lone.now.terms in
+    let i0 = g.R.Read.remaining c.args.reader.now.inner in
+    let o0 = g.W.Write.contents c.args.writer.now.inner in
     record {
-      going = rw c.requires.opened (Going-start (Serves terms (opened terms)) (g.R.Read.remaining c.args.reader.now.inner) (g.W.Write.contents c.args.writer.now.inner));
+      keeping = rw (c.new-frames.ensures, c.requires.opened) (keeps_nothing terms (opened terms) i0 o0);
+      not_ended = ap (λ (v : Reading). v.ended) c.new-frames.ensures;
       idle = c.requires.idle;
       same_terms = refl;
       few = few_at_first terms c.args.lone.now.state c.requires.opened;
@@ -20,113 +22,194 @@ loop-request-init g c =
       write_kept = refl;
     }
 
-pub returns-in_err-request-clause-conversation : goal.returns-in_err-request-clause-conversation
-returns-in_err-request-clause-conversation g c =
-    let p = err_from_is_err_and c.from_residual.result c.from_residual.ensures.1 in
+pub returns-in-Over-clause-conversation : goal.returns-in-Over-clause-conversation
+returns-in-Over-clause-conversation g c =
     let terms = c.args.lone.now.terms in
     let s = c.loop-request.lone.state in
+    let inv = c.loop-request.invariant in
     let i0 = g.R.Read.remaining c.args.reader.now.inner in
     let i1 = g.R.Read.remaining c.loop-request.reader.inner in
-    let i2 = g.R.Read.remaining c.read_request.new.reader.inner in
+    let i2 = g.R.Read.remaining c.next.new.reader.inner in
     let o0 = g.W.Write.contents c.args.writer.now.inner in
     let o1 = g.W.Write.contents c.loop-request.writer.inner in
-    rw (p.1, p.2) (Converses-after IsTold (Serves terms (opened terms)) (Serves terms s) i0 i1 i2 o0 o1 o1 (Err c.in_err-request.field-0.0) c.loop-request.invariant.going (read_fault terms s i1 i2 o1 c.in_err-request.field-0.0 c.in_err-request.ensures.taken))
+    let n = c.next.ensures.next inv.not_ended in
+    is_over terms (opened terms) s c.loop-request.frames.kept i0 i1 o0 o1 inv.keeping g.row.I-Alloc.Denot c.loop-request.frames c.next.new.self i2 c.loop-request.reader.failures c.next.new.reader.failures c.next.result refl n c.in-Over.is
 
-pub returns-in-Stop-clause-conversation : goal.returns-in-Stop-clause-conversation
-returns-in-Stop-clause-conversation g c =
+pub returns-in-Cut-clause-conversation : goal.returns-in-Cut-clause-conversation
+returns-in-Cut-clause-conversation g c =
     let terms = c.args.lone.now.terms in
     let s = c.loop-request.lone.state in
+    let inv = c.loop-request.invariant in
     let i0 = g.R.Read.remaining c.args.reader.now.inner in
     let i1 = g.R.Read.remaining c.loop-request.reader.inner in
-    let i2 = g.R.Read.remaining c.read_request.new.reader.inner in
+    let i2 = g.R.Read.remaining c.next.new.reader.inner in
     let o0 = g.W.Write.contents c.args.writer.now.inner in
     let o1 = g.W.Write.contents c.loop-request.writer.inner in
-    Converses-after IsTold (Serves terms (opened terms)) (Serves terms s) i0 i1 i2 o0 o1 o1 (Ok c.in-Stop.end) c.loop-request.invariant.going (stop_converses terms s i1 i2 o1 c.in_ok-request.field-0 c.in-Stop.end c.in-Stop.is c.in_ok-request.ensures.taken)
+    let n = c.next.ensures.next inv.not_ended in
+    is_cut terms (opened terms) s c.loop-request.frames.kept i0 i1 o0 o1 inv.keeping g.row.I-Alloc.Denot c.loop-request.frames c.next.new.self i2 c.loop-request.reader.failures c.next.new.reader.failures c.next.result refl n c.in-Cut.is
+
+pub returns-in-BadMagic-clause-conversation : goal.returns-in-BadMagic-clause-conversation
+returns-in-BadMagic-clause-conversation g c =
+    let terms = c.args.lone.now.terms in
+    let s = c.loop-request.lone.state in
+    let inv = c.loop-request.invariant in
+    let i0 = g.R.Read.remaining c.args.reader.now.inner in
+    let i1 = g.R.Read.remaining c.loop-request.reader.inner in
+    let i2 = g.R.Read.remaining c.next.new.reader.inner in
+    let o0 = g.W.Write.contents c.args.writer.now.inner in
+    let o1 = g.W.Write.contents c.loop-request.writer.inner in
+    let n = c.next.ensures.next inv.not_ended in
+    is_bad_magic terms (opened terms) s c.loop-request.frames.kept i0 i1 o0 o1 inv.keeping g.row.I-Alloc.Denot c.loop-request.frames c.next.new.self i2 c.loop-request.reader.failures c.next.new.reader.failures c.next.result refl n c.in-BadMagic.is
+
+pub returns-in-TooLong-clause-conversation : goal.returns-in-TooLong-clause-conversation
+returns-in-TooLong-clause-conversation g c =
+    let terms = c.args.lone.now.terms in
+    let s = c.loop-request.lone.state in
+    let inv = c.loop-request.invariant in
+    let i0 = g.R.Read.remaining c.args.reader.now.inner in
+    let i1 = g.R.Read.remaining c.loop-request.reader.inner in
+    let i2 = g.R.Read.remaining c.next.new.reader.inner in
+    let o0 = g.W.Write.contents c.args.writer.now.inner in
+    let o1 = g.W.Write.contents c.loop-request.writer.inner in
+    let n = c.next.ensures.next inv.not_ended in
+    is_too_long terms (opened terms) s c.loop-request.frames.kept i0 i1 o0 o1 inv.keeping g.row.I-Alloc.Denot c.loop-request.frames c.next.new.self i2 c.loop-request.reader.failures c.next.new.reader.failures c.next.result refl n c.in-TooLong.is
+
+pub returns-in-ReadFailed-clause-conversation : goal.returns-in-ReadFailed-clause-conversation
+returns-in-ReadFailed-clause-conversation g c =
+    let terms = c.args.lone.now.terms in
+    let s = c.loop-request.lone.state in
+    let inv = c.loop-request.invariant in
+    let i0 = g.R.Read.remaining c.args.reader.now.inner in
+    let i1 = g.R.Read.remaining c.loop-request.reader.inner in
+    let i2 = g.R.Read.remaining c.next.new.reader.inner in
+    let o0 = g.W.Write.contents c.args.writer.now.inner in
+    let o1 = g.W.Write.contents c.loop-request.writer.inner in
+    let n = c.next.ensures.next inv.not_ended in
+    is_read_failed terms (opened terms) s c.loop-request.frames.kept i0 i1 o0 o1 inv.keeping g.row.I-Alloc.Denot c.loop-request.frames c.next.new.self i2 c.loop-request.reader.failures c.next.new.reader.failures c.next.result refl n c.in-ReadFailed.is
+
+pub returns-in-NoMemory-clause-conversation : goal.returns-in-NoMemory-clause-conversation
+returns-in-NoMemory-clause-conversation g c =
+    let terms = c.args.lone.now.terms in
+    let s = c.loop-request.lone.state in
+    let inv = c.loop-request.invariant in
+    let i0 = g.R.Read.remaining c.args.reader.now.inner in
+    let i1 = g.R.Read.remaining c.loop-request.reader.inner in
+    let i2 = g.R.Read.remaining c.next.new.reader.inner in
+    let o0 = g.W.Write.contents c.args.writer.now.inner in
+    let o1 = g.W.Write.contents c.loop-request.writer.inner in
+    let n = c.next.ensures.next inv.not_ended in
+    is_without_memory terms (opened terms) s c.loop-request.frames.kept i0 i1 o0 o1 inv.keeping g.row.I-Alloc.Denot c.loop-request.frames c.next.new.self i2 c.loop-request.reader.failures c.next.new.reader.failures c.next.result refl n
+
+pub returns-then-head-eq-DISC-clause-conversation : goal.returns-then-head-eq-DISC-clause-conversation
+returns-then-head-eq-DISC-clause-conversation g c =
+    let terms = c.args.lone.now.terms in
+    let s = c.loop-request.lone.state in
+    let inv = c.loop-request.invariant in
+    let i0 = g.R.Read.remaining c.args.reader.now.inner in
+    let i1 = g.R.Read.remaining c.loop-request.reader.inner in
+    let i2 = g.R.Read.remaining c.next.new.reader.inner in
+    let o0 = g.W.Write.contents c.args.writer.now.inner in
+    let o1 = g.W.Write.contents c.loop-request.writer.inner in
+    let n = c.next.ensures.next inv.not_ended in
+    let q = c.in-Whole.request in
+    let whole = c.in-Whole.is in
+    is_disc terms (opened terms) s c.loop-request.frames.kept i0 i1 o0 o1 inv.keeping g.row.I-Alloc.Denot c.loop-request.frames c.next.new.self i2 c.loop-request.reader.failures c.next.new.reader.failures c.next.result refl n q whole (sym (ap (λ (h : RequestHead). h.kind) c.head.ensures.value) ∙ c.if-head-eq-DISC.true)
 
 pub returns-in_err-reply-clause-conversation : goal.returns-in_err-reply-clause-conversation
 returns-in_err-reply-clause-conversation g c =
-    let p = err_from_is_err_and c.from_residual-in_err-reply.result c.from_residual-in_err-reply.ensures.1 in
+    let p = err_from_is_err_and c.from_residual.result c.from_residual.ensures.1 in
     let terms = c.args.lone.now.terms in
     let s = c.loop-request.lone.state in
+    let inv = c.loop-request.invariant in
     let i0 = g.R.Read.remaining c.args.reader.now.inner in
     let i1 = g.R.Read.remaining c.loop-request.reader.inner in
-    let i2 = g.R.Read.remaining c.read_request.new.reader.inner in
+    let i2 = g.R.Read.remaining c.next.new.reader.inner in
     let o0 = g.W.Write.contents c.args.writer.now.inner in
     let o1 = g.W.Write.contents c.loop-request.writer.inner in
-    let m = c.in-Whole.request in
-    let whole = got i1 i2 c.in_ok-request.field-0 m c.in-Whole.is c.in_ok-request.ensures.taken in
-    rw (p.1, p.2) (Converses-after IsTold (Serves terms (opened terms)) (Serves terms s) i0 i1 i2 o0 o1 o1 (Err NoMemory) c.loop-request.invariant.going (unserved terms s i1 i2 o1 m whole))
+    let n = c.next.ensures.next inv.not_ended in
+    rw (p.1, p.2) (is_without_memory terms (opened terms) s c.loop-request.frames.kept i0 i1 o0 o1 inv.keeping g.row.I-Alloc.Denot c.loop-request.frames c.next.new.self i2 c.loop-request.reader.failures c.next.new.reader.failures c.next.result refl n)
 
 pub returns-in_default-clause-conversation : goal.returns-in_default-clause-conversation
 returns-in_default-clause-conversation g c =
     let terms = c.args.lone.now.terms in
     let s = c.loop-request.lone.state in
+    let inv = c.loop-request.invariant in
     let i0 = g.R.Read.remaining c.args.reader.now.inner in
     let i1 = g.R.Read.remaining c.loop-request.reader.inner in
-    let i2 = g.R.Read.remaining c.read_request.new.reader.inner in
+    let i2 = g.R.Read.remaining c.next.new.reader.inner in
     let o0 = g.W.Write.contents c.args.writer.now.inner in
     let o1 = g.W.Write.contents c.loop-request.writer.inner in
-    let m = c.in-Whole.request in
-    let whole = got i1 i2 c.in_ok-request.field-0 m c.in-Whole.is c.in_ok-request.ensures.taken in
-    Converses-after IsTold (Serves terms (opened terms)) (Serves terms s) i0 i1 i2 o0 o1 o1 (Ok Worn) c.loop-request.invariant.going
-    (worn_converses terms s i1 i2 o1 m whole (worn_by_count terms c.loop-request.lone m c.loop-request.invariant.idle c.in_ok-reply.field-0 c.in_default.is c.in_ok-reply.ensures.worn))
+    let n = c.next.ensures.next inv.not_ended in
+    let q = c.in-Whole.request in
+    let whole = c.in-Whole.is in
+    is_worn terms (opened terms) s c.loop-request.frames.kept i0 i1 o0 o1 inv.keeping g.row.I-Alloc.Denot c.loop-request.frames c.next.new.self i2 c.loop-request.reader.failures c.next.new.reader.failures c.next.result refl n q whole (λ two. c.if-head-eq-DISC.false (ap (λ (h : RequestHead). h.kind) c.head.ensures.value ∙ two)) (worn_by_count terms c.loop-request.lone q inv.idle c.in_ok-reply.field-0 c.in_default.is c.in_ok-reply.ensures.worn)
 
 pub returns-in_err-say-clause-conversation : goal.returns-in_err-say-clause-conversation
 returns-in_err-say-clause-conversation g c =
     let p = err_from_is_err_and c.from_residual-in_err-say.result c.from_residual-in_err-say.ensures.1 in
     let terms = c.args.lone.now.terms in
     let s = c.loop-request.lone.state in
+    let inv = c.loop-request.invariant in
     let i0 = g.R.Read.remaining c.args.reader.now.inner in
     let i1 = g.R.Read.remaining c.loop-request.reader.inner in
-    let i2 = g.R.Read.remaining c.read_request.new.reader.inner in
+    let i2 = g.R.Read.remaining c.next.new.reader.inner in
     let o0 = g.W.Write.contents c.args.writer.now.inner in
     let o1 = g.W.Write.contents c.loop-request.writer.inner in
-    let m = c.in-Whole.request in
-    let whole = got i1 i2 c.in_ok-request.field-0 m c.in-Whole.is c.in_ok-request.ensures.taken in
+    let n = c.next.ensures.next inv.not_ended in
+    let q = c.in-Whole.request in
+    let whole = c.in-Whole.is in
     let o2 = g.W.Write.contents c.say.new.writer.inner in
     let reply = c.in-Some.reply in
-    let h = served_by c.loop-request.lone c.serve.new.lone m c.in_ok-reply.field-0 reply c.loop-request.invariant.idle c.in-Some.is c.in_ok-reply.ensures.reply c.in_ok-reply.ensures.state c.in_ok-reply.ensures.fresh in
-    rw (p.1, p.2) (Converses-after IsTold (Serves terms (opened terms)) (Serves terms s) i0 i1 i2 o0 o1 o2 (Err c.in_err-say.field-0.0) c.loop-request.invariant.going
-    (served_fault terms c.loop-request.lone c.serve.new.lone m reply c.loop-request.invariant.same_terms h i1 i2 o1 o2 c.in_err-say.field-0.0 whole c.in_err-say.ensures.part (λ e. c.in_err-say.ensures.no_read (cc))))
+    let lone = c.loop-request.lone in
+    let after = c.serve.new.lone in
+    let h = served_by lone after q c.in_ok-reply.field-0 reply inv.idle c.in-Some.is c.in_ok-reply.ensures.reply c.in_ok-reply.ensures.state c.in_ok-reply.ensures.fresh in
+    rw (p.1, p.2) (is_part terms (opened terms) s c.loop-request.frames.kept i0 i1 o0 o1 inv.keeping g.row.I-Alloc.Denot c.loop-request.frames c.next.new.self i2 c.loop-request.reader.failures c.next.new.reader.failures c.next.result refl n q whole lone after reply refl inv.same_terms h (λ two. c.if-head-eq-DISC.false (ap (λ (h : RequestHead). h.kind) c.head.ensures.value ∙ two)) o2 c.in_err-say.field-0.0 c.in_err-say.ensures.part (λ e. c.in_err-say.ensures.no_read (cc)))
 
 pub loop-request-smaller : goal.loop-request-smaller
 loop-request-smaller g c =
     let terms = c.args.lone.now.terms in
     let s = c.loop-request.lone.state in
+    let inv = c.loop-request.invariant in
     let i0 = g.R.Read.remaining c.args.reader.now.inner in
     let i1 = g.R.Read.remaining c.loop-request.reader.inner in
-    let i2 = g.R.Read.remaining c.read_request.new.reader.inner in
+    let i2 = g.R.Read.remaining c.next.new.reader.inner in
     let o0 = g.W.Write.contents c.args.writer.now.inner in
     let o1 = g.W.Write.contents c.loop-request.writer.inner in
-    let m = c.in-Whole.request in
-    let whole = got i1 i2 c.in_ok-request.field-0 m c.in-Whole.is c.in_ok-request.ensures.taken in
+    let n = c.next.ensures.next inv.not_ended in
+    let q = c.in-Whole.request in
+    let whole = c.in-Whole.is in
     let o2 = g.W.Write.contents c.say.new.writer.inner in
     let reply = c.in-Some.reply in
-    let h = served_by c.loop-request.lone c.serve.new.lone m c.in_ok-reply.field-0 reply c.loop-request.invariant.idle c.in-Some.is c.in_ok-reply.ensures.reply c.in_ok-reply.ensures.state c.in_ok-reply.ensures.fresh in
-    omega (arith, still_few terms c.loop-request.lone c.serve.new.lone m reply c.loop-request.invariant.same_terms h, h.fresh)
+    let lone = c.loop-request.lone in
+    let after = c.serve.new.lone in
+    let h = served_by lone after q c.in_ok-reply.field-0 reply inv.idle c.in-Some.is c.in_ok-reply.ensures.reply c.in_ok-reply.ensures.state c.in_ok-reply.ensures.fresh in
+    omega (arith, still_few terms lone after q reply inv.same_terms h, h.fresh)
 
 pub loop-request-preserved : goal.loop-request-preserved
 loop-request-preserved g c =
     let terms = c.args.lone.now.terms in
     let s = c.loop-request.lone.state in
+    let inv = c.loop-request.invariant in
     let i0 = g.R.Read.remaining c.args.reader.now.inner in
     let i1 = g.R.Read.remaining c.loop-request.reader.inner in
-    let i2 = g.R.Read.remaining c.read_request.new.reader.inner in
+    let i2 = g.R.Read.remaining c.next.new.reader.inner in
     let o0 = g.W.Write.contents c.args.writer.now.inner in
     let o1 = g.W.Write.contents c.loop-request.writer.inner in
-    let m = c.in-Whole.request in
-    let whole = got i1 i2 c.in_ok-request.field-0 m c.in-Whole.is c.in_ok-request.ensures.taken in
+    let n = c.next.ensures.next inv.not_ended in
+    let q = c.in-Whole.request in
+    let whole = c.in-Whole.is in
     let o2 = g.W.Write.contents c.say.new.writer.inner in
     let reply = c.in-Some.reply in
-    let h = served_by c.loop-request.lone c.serve.new.lone m c.in_ok-reply.field-0 reply c.loop-request.invariant.idle c.in-Some.is c.in_ok-reply.ensures.reply c.in_ok-reply.ensures.state c.in_ok-reply.ensures.fresh in
-    let now = c.serve.new.lone.state in
-    let same = c.loop-request.invariant.same_terms in
+    let lone = c.loop-request.lone in
+    let after = c.serve.new.lone in
+    let h = served_by lone after q c.in_ok-reply.field-0 reply inv.idle c.in-Some.is c.in_ok-reply.ensures.reply c.in_ok-reply.ensures.state c.in_ok-reply.ensures.fresh in
+    let given = gives terms (opened terms) s c.loop-request.frames.kept i0 i1 o0 o1 inv.keeping g.row.I-Alloc.Denot c.loop-request.frames c.next.new.self i2 c.loop-request.reader.failures c.next.new.reader.failures c.next.result refl n q whole in
     record {
-      going = Going-after (Serves terms (opened terms)) (Serves terms s) (Serves terms now) i0 i1 i2 o0 o1 o2 c.loop-request.invariant.going
-          (served_going terms c.loop-request.lone c.serve.new.lone m reply same h i1 i2 o1 o2 whole c.in_ok-say.ensures.said);
-      idle = still_idle terms c.loop-request.lone c.serve.new.lone m reply same h;
-      same_terms = still_terms terms c.loop-request.lone c.serve.new.lone m reply same h;
-      few = (still_few terms c.loop-request.lone c.serve.new.lone m reply same h).1;
-      read_kept = c.in_ok-request.ensures.kept ∙ c.loop-request.invariant.read_kept;
-      write_kept = c.in_ok-say.ensures.kept ∙ c.loop-request.invariant.write_kept;
+      keeping = keeps_on terms (opened terms) s c.loop-request.frames.kept i0 i1 o0 o1 inv.keeping g.row.I-Alloc.Denot c.loop-request.frames c.next.new.self i2 c.loop-request.reader.failures c.next.new.reader.failures c.next.result refl n q whole lone after reply refl inv.same_terms h (λ two. c.if-head-eq-DISC.false (ap (λ (h : RequestHead). h.kind) c.head.ensures.value ∙ two)) o2 c.in_ok-say.ensures.said;
+      not_ended = given.not_told;
+      idle = still_idle terms lone after q reply inv.same_terms h;
+      same_terms = still_terms terms lone after q reply inv.same_terms h;
+      few = (still_few terms lone after q reply inv.same_terms h).1;
+      read_kept = given.none_failed ∙ inv.read_kept;
+      write_kept = c.in_ok-say.ensures.kept ∙ inv.write_kept;
     }

@@ -1,14 +1,15 @@
-use Rattle.std.proofs.Common.{◌≡◌, ◌+◌, ◌-◌, ◌^◌, ◌<◌}
-use Rattle.nbd_session.specs.Requests.{Serves, opened}
+use Rattle.std.proofs.Common.{◌≡◌, ◌+◌, ◌-◌, ◌^◌, ◌<◌, None}
+use Rattle.nbd_session.specs.Requests.{opened}
 use Rattle.nbd_session.specs.Plainly.{IsIdle}
-use Rattle.nbd_session.specs.Outcomes.{Going}
+use Rattle.nbd_session.proofs.KeptLemmas.{Keeping}
 use Rattle.nbd_session.proofs.transmission.requests.Given as goal
 
 abbrev pub invariant-loop-request : goal.invariant-loop-request
 invariant-loop-request g l = record {
-  going : Going (Serves l.fn.lone.terms (opened l.fn.lone.terms)) (Serves l.fn.lone.terms l.lone.state)
+  keeping : Keeping l.fn.lone.terms (opened l.fn.lone.terms) l.lone.state l.frames.kept
       (g.R.Read.remaining l.fn.reader.inner) (g.R.Read.remaining l.reader.inner)
       (g.W.Write.contents l.fn.writer.inner) (g.W.Write.contents l.writer.inner);
+  not_ended : l.frames.ended ≡ None;
   idle : IsIdle l.lone;
   same_terms : l.lone.terms ≡ l.fn.lone.terms;
   few : l.lone.state.count < 2 ^ 56 + 4;

@@ -1,0 +1,37 @@
+use nbd_wire::{FeedFault, Request};
+use std::alloc::Allocator;
+
+/// How the reading of a client's requests ended.
+#[derive(Clone, Copy, Debug, PartialEq, Eq)]
+pub enum Ending {
+    /// The input ended between two messages.
+    Over,
+    /// The input ended within a message.
+    Cut,
+    /// A head has another magic than it should.
+    BadMagic,
+    /// A WRITE is longer than allowed.
+    TooLong,
+    /// A read failed.
+    ReadFailed,
+    /// Memory was refused.
+    NoMemory,
+}
+
+/// What stands next in a client's bytes: a request, or how the reading ended.
+#[derive(Drop)]
+pub enum Frame<A: Allocator> {
+    Whole(Request<A>),
+    /// The input ended between two messages.
+    Over,
+    /// The input ended within a message.
+    Cut,
+    /// A head has another magic than it should.
+    BadMagic,
+    /// A WRITE is longer than allowed.
+    TooLong,
+    /// A read failed.
+    ReadFailed,
+    /// Memory was refused.
+    NoMemory,
+}

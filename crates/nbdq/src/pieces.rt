@@ -1,0 +1,140 @@
+//! One conversation whose bytes come in pieces.
+
+use crate::faults::{SAID, SENT};
+use nbd_commands::{Config, ExportList, ExportSettings};
+use nbd_session::{Counted, End, Frame, FrameReader, TalkFault, talk};
+use std::alloc::Global;
+use std::io;
+use std::io::Read;
+use std::test::Fail;
+
+/// Where the requests begin, behind the client's flags and its option.
+const REQUESTS: usize = 21;
+
+/// Where DISC begins.
+const DISC: usize = 81;
+
+/// Gives bytes, so many at once at most.
+#[derive(Drop)]
+struct Drip<'a> {
+    bytes: &'a [u8],
+    most: usize,
+}
+
+impl Read for Drip<'_> {
+    fn read(&mut self, buf: &mut [u8]) -> io::Result<usize> {
+        let count = buf.len().min(self.bytes.len()).min(self.most);
+        buf[..count].copy_from_slice(&self.bytes[..count]);
+        self.bytes = &self.bytes[count..];
+        Ok(count)
+    }
+}
+
+/// How the conversation of these bytes goes where they come in such pieces, and what is said.
+fn told(
+    alloc: Global,
+    sent: &[u8],
+    most: usize,
+) -> Result<(Result<End, TalkFault>, Vec<u8>), Fail> {
+    let mut exports = ExportList::new(alloc);
+    exports.add(&ExportSettings::new(b"a", 4096))?;
+    let config = Config::new(exports, 32)?;
+    let mut reader = Counted::new(Drip { bytes: sent, most });
+    let mut writer = Counted::new(Vec::new(alloc));
+    let end = talk(alloc, &config, &mut reader, &mut writer);
+    Ok((end, writer.into_inner()))
+}
+
+/// The first bytes, and 28 zeros, which are no head.
+fn with_zeros(alloc: Global, count: usize) -> Result<Vec<u8>, Fail> {
+    let mut bytes = Vec::new(alloc);
+    bytes.extend_from_slice(SENT.get(..count).unwrap_or_default())?;
+    bytes.extend_from_slice(&[0; 28])?;
+    Ok(bytes)
+}
+
+#[test]
+fn said_to_pieces(rt: HostRuntime) -> Result<(), Fail> {
+    for most in [1, 2, 27, 109] {
+        let (end, said) = told(rt.alloc(), SENT, most)?;
+        assert_eq!(rt; end, Ok(End::Disc), "in pieces of {most}");
+        assert_eq!(rt; said.as_slice(), SAID.as_slice(), "in pieces of {most}");
+    }
+    Ok(())
+}
+
+#[test]
+fn nothing_is_looked_at_behind_disc(rt: HostRuntime) -> Result<(), Fail> {
+    for most in [1, 2, 27, 137] {
+        let sent = with_zeros(rt.alloc(), SENT.len())?;
+        let (end, said) = told(rt.alloc(), &sent, most)?;
+        assert_eq!(rt; end, Ok(End::Disc), "in pieces of {most}");
+        assert_eq!(rt; said.as_slice(), SAID.as_slice(), "in pieces of {most}");
+    }
+    Ok(())
+}
+
+#[test]
+fn requests_before_a_bad_head_are_answered(rt: HostRuntime) -> Result<(), Fail> {
+    for most in [1, 2, 27, 109] {
+        let sent = with_zeros(rt.alloc(), DISC)?;
+        let (end, said) = told(rt.alloc(), &sent, most)?;
+        assert_eq!(rt; end, Ok(End::BadMagic), "in pieces of {most}");
+        assert_eq!(rt; said.as_slice(), SAID.as_slice(), "in pieces of {most}");
+    }
+    Ok(())
+}
+
+/// The cookie of the next request, or how the reading ended.
+fn next_cookie(reader: &mut FrameReader<Drip<'_>, Global>) -> Result<u64, &'static str> {
+    match reader.next() {
+        Frame::Whole(request) => Ok(request.head().cookie),
+        Frame::Over => Err("over"),
+        Frame::Cut => Err("cut"),
+        Frame::BadMagic => Err("bad magic"),
+        Frame::TooLong => Err("too long"),
+        Frame::ReadFailed => Err("read failed"),
+        Frame::NoMemory => Err("no memory"),
+    }
+}
+
+#[test]
+fn one_request_after_another(rt: HostRuntime) -> Result<(), Fail> {
+    for most in [1, 27, 88] {
+        for (count, end) in [(SENT.len(), "over"), (SENT.len() - 1, "cut")] {
+            let bytes = SENT.get(REQUESTS..count).unwrap_or_default();
+            let mut reader = FrameReader::new(rt.alloc(), Counted::new(Drip { bytes, most }));
+            assert_eq!(rt; next_cookie(&mut reader), Ok(1), "in pieces of {most}");
+            assert_eq!(rt; next_cookie(&mut reader), Ok(2), "in pieces of {most}");
+            if count == SENT.len() {
+                assert_eq!(rt; next_cookie(&mut reader), Ok(3), "in pieces of {most}");
+            }
+            assert_eq!(rt; next_cookie(&mut reader), Err(end), "in pieces of {most}");
+            assert_eq!(rt; next_cookie(&mut reader), Err(end), "in pieces of {most}");
+        }
+    }
+    Ok(())
+}
+
+#[test]
+fn a_bad_head_is_told_again(rt: HostRuntime) -> Result<(), Fail> {
+    for most in [1, 27, 116] {
+        let sent = with_zeros(rt.alloc(), SENT.len())?;
+        let bytes = sent.as_slice().get(REQUESTS..).unwrap_or_default();
+        let mut reader = FrameReader::new(rt.alloc(), Counted::new(Drip { bytes, most }));
+        for cookie in 1..4u64 {
+            assert_eq!(rt; next_cookie(&mut reader), Ok(cookie), "in pieces of {most}");
+        }
+        assert_eq!(rt;
+            next_cookie(&mut reader),
+            Err("bad magic"),
+            "in pieces of {most}"
+        );
+        assert_eq!(rt;
+            next_cookie(&mut reader),
+            Err("bad magic"),
+            "in pieces of {most}"
+        );
+    }
+    Ok(())
+}
