@@ -1,5 +1,8 @@
 //! `nbdq talk`: a script, and the conversation that a client holds by it.
 
+ghost use Rattle.std.specs.Prelude.{◌≡◌, IfOk};
+ghost use Rattle.nbdq.specs.Output.{printed, word_of};
+
 use crate::outcome::Outcome;
 use crate::script::{Head, LineFault, read_head};
 use nbd_base::NoMemory;
@@ -76,7 +79,9 @@ fn is_gap(byte: u8) -> bool {
 }
 
 /// The whole text of the output: what the server said in lines of 16 bytes, and how the conversation ended.
-fn spelled<A: Allocator + Copy>(alloc: A, said: &[u8], end: End) -> Result<Vec<u8, A>, NoMemory> {
+fn spelled<A: Allocator + Copy>(alloc: A, said: &[u8], end: End) -> Result<Vec<u8, A>, NoMemory>
+    ensures { IfOk result (λ text. text.items ≡ printed said.now end) }
+{
     let mut text = Vec::new(alloc);
     for row in said.chunks(16) {
         let digits = hex::encode(alloc, row)?;
@@ -89,7 +94,9 @@ fn spelled<A: Allocator + Copy>(alloc: A, said: &[u8], end: End) -> Result<Vec<u
     Ok(text)
 }
 
-fn end_word(end: End) -> &'static str {
+fn end_word(end: End) -> &'static str
+    ensures { result.now ≡ word_of end }
+{
     match end {
         End::Disc => "disc",
         End::Abort => "abort",
