@@ -1,7 +1,13 @@
 //! `nbdq talk`: a script, and the conversation that a client holds by it.
 
+ghost use Rattle.std.specs.Prelude.{◌≡◌, ◌≢◌, IfOk, IsErr, codes};
+ghost use Rattle.std.specs.Io.KnownBytes.{Appends};
+ghost use Rattle.hex.specs.Hex.{decode_of};
+ghost use Rattle.nbdq.specs.Output.{is_gap, digits_of, printed, word_of, Prints};
+
 use crate::outcome::Outcome;
 use crate::script::{Head, LineFault, read_head};
+use hex::FromHexError;
 use nbd_base::NoMemory;
 use nbd_commands::Config;
 use nbd_session::{Counted, End, TalkFault, talk};
@@ -42,19 +48,19 @@ pub fn talk_script<A: Allocator + Copy, R: Read, W: Write>(
 fn converse<A: Allocator + Copy, W: Write>(
     alloc: A,
     config: &Config<A>,
-    text: &[u8],
+    body: &[u8],
     output: &mut W,
-) -> Outcome {
-    let mut digits = Vec::new(alloc);
-    for &byte in text {
-        if !is_gap(byte) && digits.push(byte).is_err() {
-            return Outcome::NoMemory;
-        }
-    }
+) -> Outcome
+    ensures done { result ≡ Outcome.Done → Prints config.now.exports body.now (W.contents output.old) (W.contents output.new) }
+    ensures refused { result ≡ Outcome.Refused → IsErr (decode_of (digits_of body.now))
+        × Appends (W.contents output.old) (W.contents output.new) (codes "hex refused\n") }
+{
+    let Ok(digits) = digits_of(alloc, body) else {
+        return Outcome::NoMemory;
+    };
     let bytes = match hex::decode(alloc, digits.as_slice()) {
         Ok(bytes) => bytes,
-        Err(hex::FromHexError::OutOfMemory) => return Outcome::NoMemory,
-        Err(_) => return Outcome::of_write(writeln!(output, "hex refused"), Outcome::Refused),
+        Err(error) => return refuse_hex(&error, output),
     };
     let mut reader = Counted::new(bytes.as_slice());
     let mut writer = Counted::new(Vec::new(alloc));
@@ -70,13 +76,42 @@ fn converse<A: Allocator + Copy, W: Write>(
     }
 }
 
-/// Whether a byte stands between digits.
-fn is_gap(byte: u8) -> bool {
+/// Writes that the digits are none, or not of whole bytes, where that is why they weren't decoded.
+fn refuse_hex<W: Write>(error: &FromHexError, output: &mut W) -> Outcome
+    ensures not_done { result ≢ Outcome.Done }
+    ensures refused { result ≡ Outcome.Refused → (error.now ≢ FromHexError.OutOfMemory)
+        × Appends (W.contents output.old) (W.contents output.new) (codes "hex refused\n") }
+{
+    match error {
+        FromHexError::OutOfMemory => Outcome::NoMemory,
+        _ => Outcome::of_write(output.write_all(b"hex refused\n"), Outcome::Refused),
+    }
+}
+
+/// What stands in a script's body but for what may stand between digits.
+fn digits_of<A: Allocator + Copy>(alloc: A, body: &[u8]) -> Result<Vec<u8, A>, NoMemory>
+    ensures { IfOk result (λ digits. digits.items ≡ digits_of body.now) }
+{
+    let mut digits = Vec::new(alloc);
+    for &byte in body {
+        if !is_gap(byte) {
+            digits.push(byte)?;
+        }
+    }
+    Ok(digits)
+}
+
+/// Whether a byte may stand between digits.
+fn is_gap(byte: u8) -> bool
+    ensures { result ≡ is_gap byte }
+{
     matches!(byte, b' ' | b'\t' | b'\r' | b'\n')
 }
 
 /// The whole text of the output: what the server said in lines of 16 bytes, and how the conversation ended.
-fn spelled<A: Allocator + Copy>(alloc: A, said: &[u8], end: End) -> Result<Vec<u8, A>, NoMemory> {
+fn spelled<A: Allocator + Copy>(alloc: A, said: &[u8], end: End) -> Result<Vec<u8, A>, NoMemory>
+    ensures { IfOk result (λ text. text.items ≡ printed said.now end) }
+{
     let mut text = Vec::new(alloc);
     for row in said.chunks(16) {
         let digits = hex::encode(alloc, row)?;
@@ -89,7 +124,9 @@ fn spelled<A: Allocator + Copy>(alloc: A, said: &[u8], end: End) -> Result<Vec<u
     Ok(text)
 }
 
-fn end_word(end: End) -> &'static str {
+fn end_word(end: End) -> &'static str
+    ensures { result.now ≡ word_of end }
+{
     match end {
         End::Disc => "disc",
         End::Abort => "abort",

@@ -1,6 +1,6 @@
 //! How a command of the program went, and what the shell is told of it.
 
-ghost use Rattle.std.specs.Prelude.{◌≡◌, ◌≢◌, OnOk, IfErr};
+ghost use Rattle.std.specs.Prelude.{◌≡◌, ◌≢◌, ◌⊎◌, OnOk, OnErr, IfErr};
 ghost use Rattle.std.specs.Option.{option_copied};
 ghost use Rattle.std.specs.IoError.{error_kind};
 ghost use Rattle.nbdq.specs.Outcomes.{status_of, text_of};
@@ -46,9 +46,10 @@ impl Outcome {
 
     /// What a write of the output came to, where all went well before it.
     pub fn of_write(written: io::Result<()>, well: Outcome) -> Outcome
+        ensures failed { OnErr written ((result ≡ Outcome.NoMemory) ⊎ (result ≡ Outcome.WriteFailed)) }
         ensures written { OnOk written (result ≡ well) }
         ensures no_memory { IfErr written (λ e. error_kind e ≡ ErrorKind.OutOfMemory → result ≡ Outcome.NoMemory) }
-        ensures failed { IfErr written (λ e. error_kind e ≢ ErrorKind.OutOfMemory → result ≡ Outcome.WriteFailed) }
+        ensures write_failed { IfErr written (λ e. error_kind e ≢ ErrorKind.OutOfMemory → result ≡ Outcome.WriteFailed) }
     {
         match written {
             Ok(()) => well,
