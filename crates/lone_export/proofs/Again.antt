@@ -1,11 +1,11 @@
 -- A request that is performed again, by the mark that it had.
-use Rattle.std.proofs.Common.{◌≡◌, ℕ, Bool, true, false, not, ◌==◌, ◌&&◌, map, find, Option, Some, None, if◌then◌else◌, refl, sym, ap, subst, ◌∙◌}
+use Rattle.std.proofs.Common.{◌≡◌, ℕ, Bool, true, false, not, ◌==◌, ◌&&◌, List, map, find, Option, Some, None, if◌then◌else◌, refl, sym, ap, subst, ◌∙◌}
 use Rattle.std.specs.FinMap as fin
 use Rattle.nbd_base.specs.Words.{when_some}
 use Rattle.nbd_commands.specs.Meaning.{may_want_memory}
 use Rattle.export_queue.specs.Queue.{item_held, slot_in}
 use Rattle.lone_export.specs.Alone.{Alone, Job, Moved, own_step, moves, stays, done, undone}
-use Rattle.lone_export.specs.Lone.{Whole, Does, mark_again}
+use Rattle.lone_export.specs.Lone.{Whole, Does, mark_again, wants_memory}
 use Rattle.lone_export.specs.Parts.{Parts, out_job, state_at, whole_of, IsLone}
 use Rattle.lone_export.specs.declared.row.Row.{Row}
 use Rattle.lone_export.specs.declared.step.Step.TheVariants as step
@@ -59,3 +59,13 @@ module _ {A : Type 0} where
 
       alike : told memory (find (λ job. job.number == n) (map out_job (fin.entries p.queue.out))) ≡ told mark (find (λ job. job.number == n) (map out_job (fin.entries p.queue.out)))
       alike = ap (told memory) found ∙ same_mark (state_at p) (out_job (n, (slot, row))) memory ∙ ap (λ m. told m (Some (out_job (n, (slot, row))))) (sym marked) ∙ ap (told mark) (sym found)
+
+  -- memory was wanted and refused: the image is as it was
+  pub wants_again : (p : Parts A) (slot n : ℕ) (row : Row A) (image : List ℕ) (memory : Bool) (w : Whole) → IsLone p → whole_of p ≡ w → Some row ≡ item_held p.queue slot n
+      → image ≡ p.image → memory ≡ true → may_want_memory row.request ≡ true → (whole_of (record p { image = image }) ≡ w) × (wants_memory {A = A} w.state (step.Perform n memory) ≡ true)
+  wants_again p slot n row image memory w is e held same had wants = (
+    ap (λ (xs : List ℕ). whole_of (record p { image = xs })) same ∙ e,
+    subst (λ (v : Whole). wants_memory {A = A} v.state (step.Perform n memory) ≡ true) e
+        (ap (λ m. m && when_some (find (λ job. job.number == n) (map out_job (fin.entries p.queue.out))) (λ job. may_want_memory job.request) false) had
+        ∙ ap (λ (o : Option Job). when_some o (λ job. may_want_memory job.request) false) (found_held p slot n row (sym held)) ∙ wants),
+  )

@@ -1,5 +1,6 @@
 -- What a contract sees of a `Lone`, and what its calls answer, as steps.
-use Rattle.std.specs.Prelude.{◌≡◌, ℕ, ◌+◌, ◌<◌, ◌≤◌, ◌^◌, ◌==◌, nat_le, ◌&&◌, Bool, true, false, not, List, [], ◌∷◌, ◌++◌, length, filter, if◌then◌else◌, Option, Some, None, Result, Ok, Err}
+use Rattle.std.specs.Prelude.{◌≡◌, ℕ, ◌+◌, ◌<◌, ◌≤◌, ◌^◌, ◌==◌, nat_le, ◌&&◌, Bool, true, false, not, List, [], ◌∷◌, ◌++◌, length, filter, find, if◌then◌else◌, Option, Some, None, Result, Ok, Err}
+use Rattle.nbd_base.specs.Words.{when_some}
 use Rattle.nbd_wire.specs.Grammar.{RequestMessage}
 use Rattle.nbd_commands.specs.Terms.{Terms}
 use Rattle.nbd_commands.specs.Meaning.{may_want_memory}
@@ -11,7 +12,7 @@ use Rattle.export_queue.specs.declared.Picked.{Picked}
 use Rattle.lone_export.specs.Alone.{Alone, Job, own_step, alone, answers_alone, outstanding, opening}
 use Rattle.lone_export.specs.Calls.{to_come}
 use Rattle.lone_export.specs.declared.step.Step.{Step}
-use Rattle.lone_export.specs.declared.step.Step.TheVariants.{Pick}
+use Rattle.lone_export.specs.declared.step.Step.TheVariants.{Attach, Arrive, Pick, Perform, Take, Leave, Gone}
 use Rattle.lone_export.specs.declared.step.StepAnswer.{StepAnswer}
 use Rattle.lone_export.specs.declared.step.StepAnswer.TheVariants as said
 use Rattle.lone_export.specs.declared.refusal.AttachRefusal.{AttachRefusal}
@@ -99,6 +100,17 @@ module _ {A : Type 0} where
   -- a step may be made again; for a pick fewer are out than may be
   abbrev pub MayReplay : Whole → Step A → Type 0
   MayReplay w step = step ≡ Pick → length w.state.out < w.inflight
+
+  -- whether a step that is made again may want memory: a session's outbox, a request's copy, or what the request itself
+  -- may want where it had it
+  abbrev pub wants_memory : Alone → Step A → Bool
+  wants_memory state Attach = true
+  wants_memory state (Arrive s t q) = true
+  wants_memory state Pick = false
+  wants_memory state (Perform n memory) = memory && when_some (find (λ job. job.number == n) state.out) (λ job. may_want_memory job.request) false
+  wants_memory state (Take s) = false
+  wants_memory state (Leave s) = false
+  wants_memory state (Gone s) = false
 
   -- the steps were made one after another, and their answers follow those that were there before
   pub record IsReplayed (old new : Whole) (steps : List (Step A)) (before after : List (StepAnswer A)) : Type 0 where

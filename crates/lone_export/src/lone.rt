@@ -1,9 +1,9 @@
 //! One export alone: its image, its requests, its sessions and its limit tags.
-ghost use Rattle.std.specs.Prelude.{◌≡◌, ◌≢◌, ◌<◌, [], length, IfOk, IfErr, IfSome, IfNone, OnSome, Some};
+ghost use Rattle.std.specs.Prelude.{◌≡◌, ◌≢◌, ◌<◌, [], length, Ok, IsErrOf, IfOk, IfErr, IfSome, IfNone, OnSome, Some};
 ghost use Rattle.std.specs.Bool.{OnTrue, OnFalse};
 ghost use Rattle.nbd_commands.specs.Terms.{terms_of};
 ghost use Rattle.nbd_commands.specs.Exports.{IsWithin};
-ghost use Rattle.lone_export.specs.Lone.{opening_of, Does, DoesOr, pick_said, leave_said, gone_said, take_said, attach_said, arrived_said, slots_picked, slots_without, slot_at};
+ghost use Rattle.lone_export.specs.Lone.{opening_of, Does, DoesOr, pick_said, leave_said, gone_said, take_said, attach_said, arrived_said, slots_picked, slots_without, slot_at, MayAttach};
 
 mod reading;
 mod replaying;
@@ -107,6 +107,7 @@ impl<I: Image> Lone<I> {
     /// Opens a session and gives its number.
     pub fn attach(&mut self) -> Result<u64, NotAttached>
         ensures step { DoesOr {A = I.Alloc} self.old self.new Step.Attach (attach_said result) }
+        ensures no_memory { IsErrOf result NotAttached.NoMemory → MayAttach self.old (Ok tt) }
         ensures slots { self.new.slots ≡ self.old.slots }
     {
         if let Err(refusal) = self.may_attach() {

@@ -3,7 +3,7 @@ ghost use Rattle.std.specs.Prelude.{◌≡◌, ◌≤◌, ◌↔◌, [], length,
 ghost use Rattle.std.specs.Bool.{OnTrue, OnFalse};
 ghost use Rattle.nbd_commands.specs.Verdict.{verdict_at};
 ghost use Rattle.nbd_commands.specs.Meaning.{image_after, data_of, may_want_memory};
-ghost use Rattle.lone_export.specs.Lone.{Does, MayReplay, IsReplayed, mark_again};
+ghost use Rattle.lone_export.specs.Lone.{Does, MayReplay, IsReplayed, mark_again, wants_memory};
 
 use crate::lone::{Lone, reply_of};
 use crate::said::{arrived_said, attach_said, gone_said, leave_said, pick_said, take_said};
@@ -20,11 +20,12 @@ impl<I: Image> Lone<I> {
     /// Makes a step, as it was made before.
     ///
     /// A Perform has its own mark: where it says that no memory was there, a request that may want memory is told so
-    /// without trying. Want of memory of the replay itself is an error, after which all is as it was.
+    /// without trying. Want of memory of the replay itself is an error, after which all is as it was; an attach, an
+    /// arrival, and a Perform that had memory and may want some are the only steps that it is told of.
     pub fn replay(&mut self, step: &Step<I::Alloc>) -> Result<StepAnswer<I::Alloc>, NoMemory>
         requires { MayReplay self.old step.now }
         ensures ok { IfOk result (λ answer. Does {A = I.Alloc} self.old self.new step.now answer) }
-        ensures err { OnErr result (self.new ≡ self.old) }
+        ensures err { OnErr result ((self.new ≡ self.old) × IsTrue (wants_memory {A = I.Alloc} self.old.state step.now)) }
     {
         match step {
             Step::Attach => {
@@ -91,7 +92,7 @@ impl<I: Image> Lone<I> {
     // The request of this number is done, or told that no memory was there, as the mark says.
     fn perform_again(&mut self, number: u64, memory: bool) -> Result<StepAnswer<I::Alloc>, NoMemory>
         ensures ok { IfOk result (λ answer. Does {A = I.Alloc} self.old self.new (Step.Perform number memory) answer) }
-        ensures err { OnErr result (self.new ≡ self.old) }
+        ensures err { OnErr result ((self.new ≡ self.old) × IsTrue (wants_memory {A = I.Alloc} self.old.state (Step.Perform number memory))) }
     {
         let Some(slot) = self.queue.slot_of(number) else {
             return Ok(StepAnswer::NotOut);
@@ -130,7 +131,8 @@ fn apply_again<I: Image>(
     ensures no_memory { IfSome result (λ done. OnFalse done.memory ((done.error ≡ 12) × (done.content ≡ [])
         × (I.bytes image.new ≡ I.bytes image.old)
         × IsTrue (may_want_memory request.now))) }
-    ensures none { IfNone result (I.bytes image.new ≡ I.bytes image.old) }
+    ensures none { IfNone result ((I.bytes image.new ≡ I.bytes image.old)
+        × IsTrue memory × IsTrue (may_want_memory request.now)) }
 {
     if !memory && may_want_memory(request) {
         return Some(Done {

@@ -1,6 +1,6 @@
 use Rattle.std.proofs.Common.{sym}
 use Rattle.lone_export.proofs.Done.{may_apply, done_owed, performed_lone, performed_does}
-use Rattle.lone_export.proofs.Again.{not_out, done_again}
+use Rattle.lone_export.proofs.Again.{not_out, done_again, wants_again}
 use Rattle.lone_export.proofs.lone.Lone.perform_again.Goals as goal
 
 pub returns-in_default-clause-ok : goal.returns-in_default-clause-ok
@@ -26,3 +26,8 @@ returns-clause-ok g c =
     (performed_does _ c.in-Some.slot c.args.number c.in-Some-held.row.now c.in-Some-finish.row _ d.done.content d.done.error d.done.memory _ c.head.result _ _ _
     c.self.invariant c.self.view_is c.in-Some-held.ensures c.in-Some-finish.ensures.item c.head.ensures.value c.head.ensures.fits c.in-Some-finish.ensures.some c.put.ensures
     d.ensures.done d.ensures.no_memory c.reply_of-reply.ensures.with c.reply_of-reply.ensures.without).1
+
+pub returns-in_default-again-clause-err : goal.returns-in_default-again-clause-err
+returns-in_default-again-clause-err g c =
+    let none = c.in_default-again.ensures.none in
+    wants_again _ c.in-Some.slot c.args.number c.in-Some-held.row.now _ c.args.memory _ c.self.invariant c.self.view_is c.in-Some-held.ensures none.0 none.1 none.2
