@@ -1,0 +1,6 @@
+pub mod Entries
+pub mod Bounds
+pub mod Picked
+pub mod Came
+pub mod Fallen
+pub mod Changed
