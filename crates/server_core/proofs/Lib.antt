@@ -4,3 +4,4 @@ pub mod Picked
 pub mod Came
 pub mod Fallen
 pub mod Changed
+pub mod Members

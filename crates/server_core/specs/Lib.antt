@@ -1,1 +1,3 @@
 pub mod Kept
+pub mod Tagging
+pub mod Members

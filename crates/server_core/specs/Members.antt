@@ -1,0 +1,101 @@
+-- What a contract sees of one export of a server, and what its calls do to it.
+use Rattle.std.specs.Prelude.{◌≡◌, ◌≤◌, ℕ, List, [], ◌∷◌, map, length, Option, Some, None, if◌then◌else◌, ◌==◌}
+use Rattle.nbd_commands.specs.Terms.{Terms}
+use Rattle.tag_clock.specs.declared.Tags.{Tags}
+use Rattle.tag_clock.specs.Clocks.{Share}
+use Rattle.lone_export.specs.Alone.{Alone, Job, Moved, own_step, opening}
+use Rattle.lone_export.specs.Lone.{Whole}
+use Rattle.lone_export.specs.declared.step.Step.{Step}
+use Rattle.lone_export.specs.declared.step.StepAnswer.{StepAnswer}
+use Rattle.server_table.specs.Parts.{Entry, Part, alone_of, with_alone}
+use Rattle.server_core.specs.declared.member.Sent.{Sent}
+
+-- a request that is out is found by its slot
+pub record Seat : Type 0 where
+  pub number : ℕ
+  pub slot : ℕ
+
+-- an export of a server: its part of the table, how many of its requests may be out, and the seats of those that are
+pub record Standing : Type 0 where
+  pub part : Part
+  pub inflight : ℕ
+  pub seats : List Seat
+
+abbrev pub opening_part : Terms → Part
+opening_part terms = record { terms = terms; image = (opening terms).image; waiting = []; out = []; next = 0; last_r = None; last_l = None; last_p = None; sessions = []; count = 0 }
+
+abbrev pub opening_standing : ℕ → Terms → Standing
+opening_standing inflight terms = record { part = opening_part terms; inflight = inflight; seats = [] }
+
+-- the slot of the request of that number
+abbrev pub slot_in : List Seat → ℕ → Option ℕ
+slot_in [] n = None
+slot_in (seat ∷ seats) n = if seat.number == n then Some seat.slot else slot_in seats n
+
+-- ---- as it is kept: the export alone, and the tags beside it
+pub record Kept : Type 0 where
+  pub whole : Whole
+  pub share : Share
+  pub waiting : List Tags
+  pub waiting_room : ℕ
+  pub out : List Sent
+  pub out_room : ℕ
+
+abbrev pub entries_of : List Job → List Tags → List Entry
+entries_of [] tags = []
+entries_of (job ∷ jobs) [] = []
+entries_of (job ∷ jobs) (one ∷ tags) = record { number = job.number; session = job.session; request = job.request; tags = one } ∷ entries_of jobs tags
+
+abbrev pub seats_of : List Job → List ℕ → List Seat
+seats_of [] slots = []
+seats_of (job ∷ jobs) [] = []
+seats_of (job ∷ jobs) (slot ∷ slots) = record { number = job.number; slot = slot } ∷ seats_of jobs slots
+
+abbrev pub sent_tags : List Sent → List Tags
+sent_tags out = map (λ one. one.tags) out
+
+abbrev pub part_of : Kept → Part
+part_of m = record {
+  terms = m.whole.terms;
+  image = m.whole.state.image;
+  waiting = entries_of m.whole.state.waiting m.waiting;
+  out = entries_of m.whole.state.out (sent_tags m.out);
+  next = m.whole.state.next;
+  last_r = m.share.last_r;
+  last_l = m.whole.state.last;
+  last_p = m.share.last_p;
+  sessions = m.whole.state.sessions;
+  count = m.whole.state.count;
+}
+
+abbrev pub standing_of : Kept → Standing
+standing_of m = record { part = part_of m; inflight = m.whole.inflight; seats = seats_of m.whole.state.out m.whole.slots }
+
+-- each request has its tags, and there is room for as many as there may be
+pub record IsMember (m : Kept) : Type 0 where
+  pub tagged : length m.waiting ≡ length m.whole.state.waiting
+  pub sent : map (λ (one : Sent). one.number) m.out ≡ map (λ (job : Job). job.number) m.whole.state.out
+  pub seated : length m.whole.slots ≡ length m.whole.state.out
+  pub r_interval : m.share.r_interval ≡ m.whole.terms.r_interval
+  pub p_interval : m.share.p_interval ≡ m.whole.terms.p_interval
+  pub few : length m.whole.state.waiting ≤ m.whole.terms.depth
+  pub waiting_room : m.whole.terms.depth ≤ m.waiting_room
+  pub out_room : m.whole.inflight ≤ m.out_room
+
+-- ---- what calls do
+abbrev pub with_state : Alone → Standing → Standing
+with_state state standing = record standing { part = with_alone state standing.part }
+
+module _ {A : Type 0} where
+  abbrev pub own : Standing → Step A → Moved A
+  own standing step = own_step standing.part.terms (alone_of standing.part) step
+
+  -- a call that is this step of the export alone, with this answer, and leaves its requests as they are
+  pub record Went (old new : Standing) (step : Step A) (answer : StepAnswer A) : Type 0 where
+    pub standing : new ≡ with_state (own old step).state old
+    pub told : answer ≡ (own old step).answer
+
+  -- the same, or nothing at all where there was no answer
+  abbrev pub WentOr : Standing → Standing → Step A → Option (StepAnswer A) → Type 0
+  WentOr old new step None = new ≡ old
+  WentOr old new step (Some answer) = Went old new step answer

@@ -1,0 +1,99 @@
+//! One export of a server: the export alone, and beside it the tags of its requests.
+ghost use Rattle.std.specs.Prelude.{◌≡◌, IfOk};
+ghost use Rattle.nbd_commands.specs.Terms.{terms_of};
+ghost use Rattle.nbd_commands.specs.Exports.{IsWithin};
+ghost use Rattle.lone_export.specs.Lone.{leave_said, gone_said, take_said, attach_said};
+
+use export_store::Image;
+use lone_export::{Lone, NotAttached, Step, StepAnswer};
+use nbd_base::NoMemory;
+use nbd_commands::ExportConfig;
+use reply_box::{NotOpen, Taken};
+use std::alloc::Allocator;
+use std::collections::VecDeque;
+use std::marker::Model;
+use tag_clock::{ShareClock, Tags, Tuning};
+
+/// The tags of a request in service.
+#[derive(Clone, Copy, Debug, PartialEq, Eq, Drop)]
+pub(crate) struct Sent {
+    pub(crate) number: u64,
+    pub(crate) tags: Tags,
+}
+
+/// An export, with the tags of its requests in the order of their numbers.
+#[derive(Drop)]
+pub(crate) struct Member<I: Image> {
+    lone: Lone<I>,
+    shares: ShareClock,
+    waiting: VecDeque<Tags, I::Alloc>,
+    out: Vec<Sent, I::Alloc>,
+}
+
+impl<I: Image> Model for Member<I> {
+    ghost use Rattle.std.specs.Vec.{vec_capacity};
+    ghost use Rattle.std.specs.VecDeque.{deque_capacity};
+    ghost use Rattle.server_core.specs.Members.{Standing, standing_of, IsMember};
+
+    ghost Value = { Standing };
+
+    ghost view = { λ m. standing_of (record { whole = m.lone; share = m.shares; waiting = m.waiting.items; waiting_room = deque_capacity m.waiting; out = m.out.items; out_room = vec_capacity m.out }) };
+
+    ghost invariant = { λ m. IsMember (record { whole = m.lone; share = m.shares; waiting = m.waiting.items; waiting_room = deque_capacity m.waiting; out = m.out.items; out_room = vec_capacity m.out }) };
+}
+
+impl<I: Image> Member<I> {
+    ghost use Rattle.server_core.specs.Members.{opening_standing, Went, WentOr};
+    ghost use Rattle.server_core.specs.Kept.{AreShort};
+
+    /// An export in its opening state. All the room that its requests will want is taken here.
+    pub(crate) fn new(
+        alloc: I::Alloc,
+        config: &ExportConfig<I::Alloc>,
+        inflight: usize,
+    ) -> Result<Self, NoMemory>
+        requires { IsWithin 4096 inflight }
+        ensures { IfOk result (λ member. (member ≡ opening_standing inflight (terms_of config.now)) × AreShort (terms_of config.now)) }
+    {
+        let Some(tuning) = Tuning::new(config.reservation(), config.limit(), config.weight()) else {
+            return Err(NoMemory);
+        };
+        let lone = Lone::new(alloc, config, inflight)?;
+        let waiting = VecDeque::with_capacity(alloc, config.depth())?;
+        let out = Vec::with_capacity(alloc, inflight)?;
+        Ok(Member {
+            lone,
+            shares: ShareClock::new(tuning.r_interval(), tuning.p_interval()),
+            waiting,
+            out,
+        })
+    }
+
+    /// Nothing more arrives on the session.
+    pub(crate) fn leave(&mut self, session: u64) -> Result<(), NotOpen>
+        ensures { Went {A = I.Alloc} self.old self.new (Step.Leave session) (leave_said result) }
+    {
+        self.lone.leave(session)
+    }
+
+    /// The session is dropped with its replies.
+    pub(crate) fn gone(&mut self, session: u64) -> Result<(), NotOpen>
+        ensures { Went {A = I.Alloc} self.old self.new (Step.Gone session) (gone_said result) }
+    {
+        self.lone.gone(session)
+    }
+
+    /// The oldest reply of the session is taken.
+    pub(crate) fn take(&mut self, session: u64) -> Result<Taken<I::Alloc>, NotOpen>
+        ensures { Went {A = I.Alloc} self.old self.new (Step.Take session) (take_said result) }
+    {
+        self.lone.take(session)
+    }
+
+    /// Opens a session and gives its number.
+    pub(crate) fn attach(&mut self) -> Result<u64, NotAttached>
+        ensures { WentOr {A = I.Alloc} self.old self.new Step.Attach (attach_said result) }
+    {
+        self.lone.attach()
+    }
+}
