@@ -5,3 +5,4 @@ pub mod Came
 pub mod Fallen
 pub mod Changed
 pub mod Members
+pub mod Served

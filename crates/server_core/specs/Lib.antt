@@ -1,3 +1,5 @@
 pub mod Kept
 pub mod Tagging
 pub mod Members
+pub mod Here
+pub mod Served

@@ -1,10 +1,13 @@
 -- What a contract sees of one export of a server, and what its calls do to it.
-use Rattle.std.specs.Prelude.{◌≡◌, ◌≤◌, ℕ, List, [], ◌∷◌, map, length, Option, Some, None, if◌then◌else◌, ◌==◌}
+use Rattle.std.specs.Prelude.{◌≡◌, ◌≤◌, ◌^◌, nat_le, false, filter, Result, Ok, Err, ⊤, ℕ, List, [], ◌∷◌, map, length, Option, Some, None, if◌then◌else◌, ◌==◌}
 use Rattle.nbd_commands.specs.Terms.{Terms}
 use Rattle.tag_clock.specs.declared.Tags.{Tags}
 use Rattle.tag_clock.specs.Clocks.{Share}
 use Rattle.lone_export.specs.Alone.{Alone, Job, Moved, own_step, opening}
 use Rattle.lone_export.specs.Lone.{Whole}
+use Rattle.reply_box.specs.Sessions.{is_here}
+use Rattle.lone_export.specs.declared.refusal.NotAttached.{NotAttached}
+use Rattle.lone_export.specs.declared.refusal.NotAttached.TheVariants.{Refused, NoMemory}
 use Rattle.lone_export.specs.declared.step.Step.{Step}
 use Rattle.lone_export.specs.declared.step.StepAnswer.{StepAnswer}
 use Rattle.server_table.specs.Parts.{Entry, Part, alone_of, with_alone}
@@ -99,3 +102,14 @@ module _ {A : Type 0} where
   abbrev pub WentOr : Standing → Standing → Step A → Option (StepAnswer A) → Type 0
   WentOr old new step None = new ≡ old
   WentOr old new step (Some answer) = Went old new step answer
+
+-- a session may be opened
+pub record MayOpen (standing : Standing) : Type 0 where
+  pub young : nat_le (2 ^ 56) standing.part.count ≡ false
+  pub few : (length (filter is_here standing.part.sessions) == 64) ≡ false
+
+-- memory is wanted only where nothing else refuses an attach
+abbrev pub WantsMemory : Standing → Result ℕ NotAttached → Type 0
+WantsMemory standing (Ok n) = ⊤
+WantsMemory standing (Err (Refused e)) = ⊤
+WantsMemory standing (Err NoMemory) = MayOpen standing

@@ -2,4 +2,11 @@
 #![tactic(auto)]
 
 mod member;
+mod refusal;
+mod server;
+mod session;
 mod tagging;
+
+pub use refusal::{NotAttached, SessionRefusal};
+pub use server::Server;
+pub use session::SessionId;

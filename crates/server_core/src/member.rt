@@ -43,7 +43,7 @@ impl<I: Image> Model for Member<I> {
 }
 
 impl<I: Image> Member<I> {
-    ghost use Rattle.server_core.specs.Members.{opening_standing, Went, WentOr};
+    ghost use Rattle.server_core.specs.Members.{opening_standing, Went, WentOr, WantsMemory};
     ghost use Rattle.server_core.specs.Kept.{AreShort};
 
     /// An export in its opening state. All the room that its requests will want is taken here.
@@ -92,8 +92,12 @@ impl<I: Image> Member<I> {
 
     /// Opens a session and gives its number.
     pub(crate) fn attach(&mut self) -> Result<u64, NotAttached>
-        ensures { WentOr {A = I.Alloc} self.old self.new Step.Attach (attach_said result) }
+        ensures step { WentOr {A = I.Alloc} self.old self.new Step.Attach (attach_said result) }
+        ensures memory { WantsMemory self.old result }
     {
+        if let Err(refusal) = self.lone.may_attach() {
+            return Err(NotAttached::Refused(refusal));
+        }
         self.lone.attach()
     }
 }

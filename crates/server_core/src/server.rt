@@ -1,0 +1,116 @@
+//! The server.
+ghost use Rattle.std.specs.Prelude.{◌≡◌, ◌≤◌, map, length, IfOk};
+ghost use Rattle.nbd_commands.specs.Terms.{terms_of};
+ghost use Rattle.nbd_commands.specs.Exports.{IsWithin};
+ghost use Rattle.server_core.specs.Here.{here as told_here, attached as told_attached};
+ghost use Rattle.server_table.specs.declared.event.Event.TheVariants as event;
+
+use crate::member::Member;
+use crate::refusal::{NotAttached, SessionRefusal};
+use crate::session::SessionId;
+use eligibility::Eligibility;
+use lone_export::{AttachRefusal, NotAttached as NotAttachedAlone};
+use export_store::Image;
+use nbd_base::NoMemory;
+use nbd_commands::{Config, ExportConfig};
+use reply_box::{NotOpen, Taken};
+use std::alloc::Allocator;
+use std::marker::Model;
+use tag_clock::Moment;
+
+/// Many exports, which share the service of one server after mClock.
+#[derive(Drop)]
+pub struct Server<I: Image, E: Eligibility<Alloc = I::Alloc>> {
+    members: Vec<Member<I>, I::Alloc>,
+    eligible: E,
+    // The greatest moment that was handed to a dispatch.
+    now: Moment,
+    // How many requests are out.
+    served: usize,
+    inflight: usize,
+}
+
+impl<I: Image, E: Eligibility<Alloc = I::Alloc>> Model for Server<I, E> {
+    ghost use Rattle.server_core.specs.Served.{Served, served_of, IsServed};
+
+    ghost Value = { Served };
+
+    ghost view = { λ s. served_of s.members.items s.now s.inflight };
+
+    ghost invariant = { λ s. IsServed s.members.items (E.contents s.eligible) (E.asked s.eligible) s.now s.inflight s.served };
+}
+
+/// A refusal of an export alone, as one of the server.
+fn here<T>(said: Result<T, NotOpen>) -> Result<T, SessionRefusal>
+    ensures { result ≡ told_here said }
+{
+    match said {
+        Ok(value) => Ok(value),
+        Err(_) => Err(SessionRefusal::NotOpen),
+    }
+}
+
+/// What an attach to this export was answered, as the server answers it.
+fn attached(export: u32, said: Result<u64, NotAttachedAlone>) -> Result<SessionId, NotAttached>
+    ensures { result ≡ told_attached export said }
+{
+    match said {
+        Ok(number) => Ok(SessionId { export, number }),
+        Err(NotAttachedAlone::Refused(AttachRefusal::Worn)) => Err(NotAttached::Worn),
+        Err(NotAttachedAlone::Refused(AttachRefusal::Full)) => Err(NotAttached::Full),
+        Err(NotAttachedAlone::NoMemory) => Err(NotAttached::NoMemory),
+    }
+}
+
+impl<I: Image, E: Eligibility<Alloc = I::Alloc>> Server<I, E> {
+    ghost use Rattle.server_core.specs.Served.{Stepped, attach_says, leave_says, gone_says, take_says, opening_served, setup_for};
+
+    /// Nothing more arrives on a session that is open. It takes no memory.
+    pub fn leave(&mut self, session: SessionId) -> Result<(), SessionRefusal>
+        ensures step { Stepped {A = I.Alloc} self.old (event.Leave session.export session.number) self.new (leave_says result) }
+        ensures seats { self.new.seats ≡ self.old.seats }
+    {
+        if session.export as usize >= self.members.len() {
+            return Err(SessionRefusal::NoExport);
+        }
+        let member = &mut self.members[session.export as usize];
+        here(member.leave(session.number))
+    }
+
+    /// A session that isn't gone is dropped with its replies; its requests are still served. It takes no memory.
+    pub fn gone(&mut self, session: SessionId) -> Result<(), SessionRefusal>
+        ensures step { Stepped {A = I.Alloc} self.old (event.Gone session.export session.number) self.new (gone_says result) }
+        ensures seats { self.new.seats ≡ self.old.seats }
+    {
+        if session.export as usize >= self.members.len() {
+            return Err(SessionRefusal::NoExport);
+        }
+        let member = &mut self.members[session.export as usize];
+        here(member.gone(session.number))
+    }
+
+    /// The oldest reply of a session that isn't gone is taken. It takes no memory.
+    pub fn take_reply(&mut self, session: SessionId) -> Result<Taken<I::Alloc>, SessionRefusal>
+        ensures step { Stepped {A = I.Alloc} self.old (event.Take session.export session.number) self.new (take_says result) }
+        ensures seats { self.new.seats ≡ self.old.seats }
+    {
+        if session.export as usize >= self.members.len() {
+            return Err(SessionRefusal::NoExport);
+        }
+        let member = &mut self.members[session.export as usize];
+        here(member.take(session.number))
+    }
+
+    /// Opens a session of an export.
+    pub fn attach(&mut self, export: u32) -> Result<SessionId, NotAttached>
+        ensures step { Stepped {A = I.Alloc} self.old (event.Attach export) self.new (attach_says result) }
+        ensures seats { self.new.seats ≡ self.old.seats }
+        ensures export { IfOk result (λ session. session.export ≡ export) }
+    {
+        if export as usize >= self.members.len() {
+            return Err(NotAttached::NoExport);
+        }
+        let member = &mut self.members[export as usize];
+        attached(export, member.attach())
+    }
+}
