@@ -6,3 +6,4 @@ pub mod Fallen
 pub mod Changed
 pub mod Members
 pub mod Served
+pub mod Opened

@@ -2,6 +2,9 @@
 ghost use Rattle.std.specs.Prelude.{◌≡◌, ◌≤◌, map, length, IfOk};
 ghost use Rattle.nbd_commands.specs.Terms.{terms_of};
 ghost use Rattle.nbd_commands.specs.Exports.{IsWithin};
+ghost use Rattle.std.specs.List.{All};
+ghost use Rattle.server_core.specs.Kept.{AreShort};
+ghost use Rattle.server_core.specs.Members.{opening_standing};
 ghost use Rattle.server_core.specs.Here.{here as told_here, attached as told_attached};
 ghost use Rattle.server_table.specs.declared.event.Event.TheVariants as event;
 
@@ -40,6 +43,24 @@ impl<I: Image, E: Eligibility<Alloc = I::Alloc>> Model for Server<I, E> {
     ghost invariant = { λ s. IsServed s.members.items (E.contents s.eligible) (E.asked s.eligible) s.now s.inflight s.served };
 }
 
+/// The exports of a configuration, each in its opening state.
+fn open_members<I: Image>(
+    alloc: I::Alloc,
+    exports: &[ExportConfig<I::Alloc>],
+    inflight: usize,
+) -> Result<Vec<Member<I>, I::Alloc>, NoMemory>
+    requires { IsWithin 4096 inflight }
+    ensures members { IfOk result (λ made. made.items ≡ map (λ export. opening_standing inflight (terms_of export)) exports.now) }
+    ensures short { IfOk result (λ made. All (λ member. AreShort member.part.terms) made.items) }
+{
+    let mut members = Vec::with_capacity(alloc, exports.len())?;
+    for export in exports {
+        let member = Member::new(alloc, export, inflight)?;
+        members.push(member)?;
+    }
+    Ok(members)
+}
+
 /// A refusal of an export alone, as one of the server.
 fn here<T>(said: Result<T, NotOpen>) -> Result<T, SessionRefusal>
     ensures { result ≡ told_here said }
@@ -64,6 +85,23 @@ fn attached(export: u32, said: Result<u64, NotAttachedAlone>) -> Result<SessionI
 
 impl<I: Image, E: Eligibility<Alloc = I::Alloc>> Server<I, E> {
     ghost use Rattle.server_core.specs.Served.{Stepped, attach_says, leave_says, gone_says, take_says, opening_served, setup_for};
+
+    /// A server of the exports of a configuration, each in its opening state.
+    pub fn new(alloc: I::Alloc, config: &Config<I::Alloc>) -> Result<Self, NoMemory>
+        ensures { IfOk result (λ server. server ≡ opening_served (setup_for config.now)) }
+    {
+        let exports = config.exports();
+        let inflight = config.inflight();
+        let members = open_members(alloc, exports, inflight)?;
+        let eligible = E::new(alloc, exports.len() as u32)?;
+        Ok(Server {
+            members,
+            eligible,
+            now: Moment::zero(),
+            served: 0,
+            inflight,
+        })
+    }
 
     /// Nothing more arrives on a session that is open. It takes no memory.
     pub fn leave(&mut self, session: SessionId) -> Result<(), SessionRefusal>
