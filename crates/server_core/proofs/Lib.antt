@@ -7,3 +7,4 @@ pub mod Changed
 pub mod Members
 pub mod Served
 pub mod Opened
+pub mod Done

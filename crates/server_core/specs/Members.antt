@@ -1,5 +1,5 @@
 -- What a contract sees of one export of a server, and what its calls do to it.
-use Rattle.std.specs.Prelude.{◌≡◌, ◌≤◌, ◌^◌, nat_le, false, filter, Result, Ok, Err, ⊤, ℕ, List, [], ◌∷◌, map, length, Option, Some, None, if◌then◌else◌, ◌==◌}
+use Rattle.std.specs.Prelude.{◌≡◌, ◌≤◌, ◌^◌, nat_le, false, filter, Result, Ok, Err, ⊤, ℕ, List, [], ◌∷◌, map, length, Option, Some, None, if◌then◌else◌, ◌==◌, Bool, not}
 use Rattle.nbd_commands.specs.Terms.{Terms}
 use Rattle.tag_clock.specs.declared.Tags.{Tags}
 use Rattle.tag_clock.specs.Clocks.{Share}
@@ -10,7 +10,9 @@ use Rattle.lone_export.specs.declared.refusal.NotAttached.{NotAttached}
 use Rattle.lone_export.specs.declared.refusal.NotAttached.TheVariants.{Refused, NoMemory}
 use Rattle.lone_export.specs.declared.step.Step.{Step}
 use Rattle.lone_export.specs.declared.step.StepAnswer.{StepAnswer}
-use Rattle.server_table.specs.Parts.{Entry, Part, alone_of, with_alone}
+use Rattle.lone_export.specs.declared.step.Step.TheVariants.{Perform}
+use Rattle.lone_export.specs.declared.step.StepAnswer.TheVariants.{Performed}
+use Rattle.server_table.specs.Parts.{Entry, Part, alone_of, with_alone, performed_part}
 use Rattle.server_core.specs.declared.member.Sent.{Sent}
 
 -- a request that is out is found by its slot
@@ -113,3 +115,16 @@ abbrev pub WantsMemory : Standing → Result ℕ NotAttached → Type 0
 WantsMemory standing (Ok n) = ⊤
 WantsMemory standing (Err (Refused e)) = ⊤
 WantsMemory standing (Err NoMemory) = MayOpen standing
+
+-- ---- a request that is out is done
+abbrev pub seats_without : ℕ → List Seat → List Seat
+seats_without n seats = filter (λ seat. not (seat.number == n)) seats
+
+abbrev pub done_standing : ℕ → Alone → Standing → Standing
+done_standing n state standing = record { part = performed_part n state standing.part; inflight = standing.inflight; seats = seats_without n standing.seats }
+
+module _ (A : Type 0) where
+  -- the request of this number was out, and is done as it is of the export alone
+  pub record Performs (old new : Standing) (n : ℕ) (memory : Bool) : Type 0 where
+    pub standing : new ≡ done_standing n (own {A = A} old (Perform n memory)).state old
+    pub told : (own {A = A} old (Perform n memory)).answer ≡ Performed memory

@@ -1,5 +1,6 @@
 //! One export of a server: the export alone, and beside it the tags of its requests.
-ghost use Rattle.std.specs.Prelude.{◌≡◌, IfOk};
+ghost use Rattle.std.specs.Prelude.{◌≡◌, ◌≢◌, ◌==◌, not, filter, find, is_some, IfOk, IfSome, IfNone, Some};
+ghost use Rattle.std.specs.Vec.{vec_capacity};
 ghost use Rattle.nbd_commands.specs.Terms.{terms_of};
 ghost use Rattle.nbd_commands.specs.Exports.{IsWithin};
 ghost use Rattle.lone_export.specs.Lone.{leave_said, gone_said, take_said, attach_said};
@@ -43,7 +44,7 @@ impl<I: Image> Model for Member<I> {
 }
 
 impl<I: Image> Member<I> {
-    ghost use Rattle.server_core.specs.Members.{opening_standing, Went, WentOr, WantsMemory};
+    ghost use Rattle.server_core.specs.Members.{opening_standing, slot_in, Went, WentOr, WantsMemory, Performs};
     ghost use Rattle.server_core.specs.Kept.{AreShort};
 
     /// An export in its opening state. All the room that its requests will want is taken here.
@@ -100,4 +101,33 @@ impl<I: Image> Member<I> {
         }
         self.lone.attach()
     }
+
+    /// The slot in which the request of this number is in service.
+    pub(crate) fn slot_of(&self, number: u64) -> Option<usize>
+        ensures slot { result ≡ slot_in self.now.seats number }
+        ensures out { is_some result ≡ is_some (find (λ entry. entry.number == number) self.now.part.out) }
+    {
+        self.lone.slot_of(number)
+    }
+
+    /// The request that is in service in `slot` under `number` is done, and its reply goes to its session. The answer
+    /// tells whether memory was there for it; None where the slot doesn't hold that number.
+    pub(crate) fn perform(&mut self, slot: usize, number: u64) -> Option<bool>
+        ensures some { IfSome result (λ memory. (slot_in self.old.seats number ≡ Some slot) × Performs I.Alloc self.old self.new number memory) }
+        ensures none { IfNone result ((slot_in self.old.seats number ≢ Some slot) × (self.new ≡ self.old)) }
+    {
+        let Some(memory) = self.lone.perform(slot, number) else {
+            return None;
+        };
+        forget(&mut self.out, number);
+        Some(memory)
+    }
+}
+
+/// The request of this number is in service no longer.
+fn forget<A: Allocator>(out: &mut Vec<Sent, A>, number: u64)
+    ensures out { out.new.items ≡ filter (λ one. not (one.number == number)) out.old.items }
+    ensures room { vec_capacity out.new ≡ vec_capacity out.old }
+{
+    out.retain(|one| one.number != number);
 }
