@@ -139,7 +139,7 @@ module _ (A : Type 0) where
       subst (λ k. (after state memory (Some x)).state ≡ done_state k state (after state memory (Some x)).state) (found_number n state.out x is)
       (if_one (λ (m : Moved A). m.state ≡ done_state x.number state m.state) (not memory && may_want_memory x.request) refl refl)
 
-  was_out : (state : Alone) (n : ℕ) (memory told : Bool) (o : Option Job) → (after state memory o).answer ≡ Performed told → is_some o ≡ true
+  pub was_out : (state : Alone) (n : ℕ) (memory told : Bool) (o : Option Job) → (after state memory o).answer ≡ Performed told → is_some o ≡ true
   was_out state n memory told None said = absurd (cc)
   was_out state n memory told (Some x) said = refl
 

@@ -8,3 +8,4 @@ pub mod Members
 pub mod Served
 pub mod Opened
 pub mod Done
+pub mod Performed

@@ -1,5 +1,6 @@
 pub mod Kept
 pub mod Tagging
 pub mod Members
+pub mod Tickets
 pub mod Here
 pub mod Served

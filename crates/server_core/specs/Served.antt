@@ -13,7 +13,8 @@ use Rattle.server_table.specs.Steps.{step}
 use Rattle.server_table.specs.Shares.{mark_of}
 use Rattle.server_table.specs.Parts.{Part, table_of, setup_of}
 use Rattle.server_core.specs.Kept.{IsServer}
-use Rattle.server_core.specs.Members.{Standing, Seat}
+use Rattle.server_core.specs.Members.{Standing, Seat, slot_in}
+use Rattle.server_core.specs.Tickets.{Place}
 use Rattle.server_core.specs.declared.session.SessionId.{SessionId}
 use Rattle.server_core.specs.declared.refusal.NotAttached.{NotAttached}
 use Rattle.server_core.specs.declared.refusal.NotAttached.TheVariants as attaching
@@ -32,6 +33,10 @@ setup_for offer = record { exports = map terms_of offer.exports; inflight = offe
 -- a server before its first event
 abbrev pub opening_served : Setup → Served
 opening_served setup = record { setup = setup; table = opening_table setup; seats = map (λ terms. []) setup.exports }
+
+-- the request is out, in that slot
+abbrev pub Holds : Served → Place → Type 0
+Holds served place = slot_in (get_or served.seats place.export []) place.number ≡ Some place.slot
 
 -- ---- as it is kept
 abbrev pub parts : List Standing → List Part

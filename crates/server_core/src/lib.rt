@@ -6,7 +6,9 @@ mod refusal;
 mod server;
 mod session;
 mod tagging;
+mod ticket;
 
 pub use refusal::{NotAttached, SessionRefusal};
 pub use server::Server;
 pub use session::SessionId;
+pub use ticket::{Chosen, Ticket};

@@ -1,16 +1,20 @@
 //! The server.
-ghost use Rattle.std.specs.Prelude.{◌≡◌, ◌≤◌, map, length, IfOk};
+ghost use Rattle.std.specs.Prelude.{◌≡◌, ◌≤◌, map, length, find, is_some, IfOk, IfSome, IfNone, OnSome};
+ghost use Rattle.nbd_base.specs.Words.{change_at};
+ghost use Rattle.server_table.specs.Steps.{is_out_row};
+ghost use Rattle.server_table.specs.declared.event.Answer.TheVariants as answer;
 ghost use Rattle.nbd_commands.specs.Terms.{terms_of};
 ghost use Rattle.nbd_commands.specs.Exports.{IsWithin};
 ghost use Rattle.std.specs.List.{All};
 ghost use Rattle.server_core.specs.Kept.{AreShort};
-ghost use Rattle.server_core.specs.Members.{opening_standing};
+ghost use Rattle.server_core.specs.Members.{opening_standing, seats_without};
 ghost use Rattle.server_core.specs.Here.{here as told_here, attached as told_attached};
 ghost use Rattle.server_table.specs.declared.event.Event.TheVariants as event;
 
 use crate::member::Member;
 use crate::refusal::{NotAttached, SessionRefusal};
 use crate::session::SessionId;
+use crate::ticket::Ticket;
 use eligibility::Eligibility;
 use lone_export::{AttachRefusal, NotAttached as NotAttachedAlone};
 use export_store::Image;
@@ -27,7 +31,7 @@ pub struct Server<I: Image, E: Eligibility<Alloc = I::Alloc>> {
     members: Vec<Member<I>, I::Alloc>,
     eligible: E,
     // The greatest moment that was handed to a dispatch.
-    now: Moment,
+    latest: Moment,
     // How many requests are out.
     served: usize,
     inflight: usize,
@@ -38,9 +42,9 @@ impl<I: Image, E: Eligibility<Alloc = I::Alloc>> Model for Server<I, E> {
 
     ghost Value = { Served };
 
-    ghost view = { λ s. served_of s.members.items s.now s.inflight };
+    ghost view = { λ s. served_of s.members.items s.latest s.inflight };
 
-    ghost invariant = { λ s. IsServed s.members.items (E.contents s.eligible) (E.asked s.eligible) s.now s.inflight s.served };
+    ghost invariant = { λ s. IsServed s.members.items (E.contents s.eligible) (E.asked s.eligible) s.latest s.inflight s.served };
 }
 
 /// The exports of a configuration, each in its opening state.
@@ -84,7 +88,7 @@ fn attached(export: u32, said: Result<u64, NotAttachedAlone>) -> Result<SessionI
 }
 
 impl<I: Image, E: Eligibility<Alloc = I::Alloc>> Server<I, E> {
-    ghost use Rattle.server_core.specs.Served.{Stepped, attach_says, leave_says, gone_says, take_says, opening_served, setup_for};
+    ghost use Rattle.server_core.specs.Served.{Holds, Stepped, attach_says, leave_says, gone_says, take_says, opening_served, setup_for};
 
     /// A server of the exports of a configuration, each in its opening state.
     pub fn new(alloc: I::Alloc, config: &Config<I::Alloc>) -> Result<Self, NoMemory>
@@ -97,7 +101,7 @@ impl<I: Image, E: Eligibility<Alloc = I::Alloc>> Server<I, E> {
         Ok(Server {
             members,
             eligible,
-            now: Moment::zero(),
+            latest: Moment::zero(),
             served: 0,
             inflight,
         })
@@ -150,5 +154,42 @@ impl<I: Image, E: Eligibility<Alloc = I::Alloc>> Server<I, E> {
         }
         let member = &mut self.members[export as usize];
         attached(export, member.attach())
+    }
+
+    /// The request that is in service under this number, where one is. It takes no memory.
+    pub fn find(&self, export: u32, number: u64) -> Option<Ticket>
+        ensures ticket { IfSome result (λ ticket. (ticket.export ≡ export) × (ticket.number ≡ number) × Holds self.now ticket) }
+        ensures out { is_some result ≡ is_some (find (is_out_row export number) self.now.table.rows) }
+    {
+        if export as usize >= self.members.len() {
+            return None;
+        }
+        let Some(slot) = self.members[export as usize].slot_of(number) else {
+            return None;
+        };
+        Some(Ticket {
+            export,
+            number,
+            slot,
+        })
+    }
+
+    /// The request in service is done, and its reply goes to its session. The answer tells whether memory was there for
+    /// it; None where the ticket's slot doesn't hold its number any more.
+    pub fn perform(&mut self, ticket: Ticket) -> Option<bool>
+        ensures some { IfSome result (λ memory. Holds self.old ticket
+            × Stepped {A = I.Alloc} self.old (event.Perform ticket.export ticket.number) self.new (answer.Performed memory)) }
+        ensures none { IfNone result ((Holds self.old ticket → ⊥) × (self.new ≡ self.old)) }
+        ensures seats { OnSome result (self.new.seats ≡ change_at (seats_without ticket.number) ticket.export self.old.seats) }
+    {
+        if ticket.export as usize >= self.members.len() {
+            return None;
+        }
+        let member = &mut self.members[ticket.export as usize];
+        let Some(memory) = member.perform(ticket.slot, ticket.number) else {
+            return None;
+        };
+        self.served -= 1;
+        Some(memory)
     }
 }

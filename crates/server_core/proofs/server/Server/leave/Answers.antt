@@ -13,14 +13,14 @@ returns-then-session-len-clause-step g c =
     let e = c.args.session.export in
     let s = c.args.session.number in
     let le : length i.members.items ≤ e = search rules in
-    subst (λ (v : Served). Stepped v (Leave e s) v NoExport) c.self.view_is (absent_leave i.members.items i.now i.inflight e s le)
+    subst (λ (v : Served). Stepped v (Leave e s) v NoExport) c.self.view_is (absent_leave i.members.items i.latest i.inflight e s le)
 
 pub invariant_of-self : goal.invariant_of-self
 invariant_of-self g c =
     let i = c.self.inside in
     let e = c.args.session.export in
     let lt : e < length i.members.items = search rules in
-    kept_own i.members.items (g.E.Eligibility.contents i.eligible) (g.E.Eligibility.asked i.eligible) i.now i.inflight i.served e c.index_mut-member.result.now c.leave.new.self (own.Leave c.args.session.number) (leave_said c.leave.result) c.self.invariant lt c.index_mut-member.ensures.value c.leave.ensures
+    kept_own i.members.items (g.E.Eligibility.contents i.eligible) (g.E.Eligibility.asked i.eligible) i.latest i.inflight i.served e c.index_mut-member.result.now c.leave.new.self (own.Leave c.args.session.number) (leave_said c.leave.result) c.self.invariant lt c.index_mut-member.ensures.value c.leave.ensures
 
 pub returns-clause-step : goal.returns-clause-step
 returns-clause-step g c =
@@ -29,9 +29,9 @@ returns-clause-step g c =
     let s = c.args.session.number in
     let m' = c.leave.new.self in
     let lt : e < length i.members.items = search rules in
-    let one = stepped_leave i.members.items i.now i.inflight e s c.index_mut-member.result.now m' c.leave.result lt c.index_mut-member.ensures.value c.leave.ensures in
-    let two = subst (λ r. Stepped (served_of i.members.items i.now i.inflight) (Leave e s) (served_of (set i.members.items e m') i.now i.inflight) (leave_says r)) (sym c.here.ensures) one in
-    subst (λ (v : Served). Stepped v (Leave e s) (served_of (set i.members.items e m') i.now i.inflight) (leave_says c.here.result)) c.self.view_is two
+    let one = stepped_leave i.members.items i.latest i.inflight e s c.index_mut-member.result.now m' c.leave.result lt c.index_mut-member.ensures.value c.leave.ensures in
+    let two = subst (λ r. Stepped (served_of i.members.items i.latest i.inflight) (Leave e s) (served_of (set i.members.items e m') i.latest i.inflight) (leave_says r)) (sym c.here.ensures) one in
+    subst (λ (v : Served). Stepped v (Leave e s) (served_of (set i.members.items e m') i.latest i.inflight) (leave_says c.here.result)) c.self.view_is two
 
 pub returns-clause-seats : goal.returns-clause-seats
 returns-clause-seats g c =

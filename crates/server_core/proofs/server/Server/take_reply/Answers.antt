@@ -13,14 +13,14 @@ returns-then-session-len-clause-step g c =
     let e = c.args.session.export in
     let s = c.args.session.number in
     let le : length i.members.items ≤ e = search rules in
-    subst (λ (v : Served). Stepped v (Take e s) v NoExport) c.self.view_is (absent_take i.members.items i.now i.inflight e s le)
+    subst (λ (v : Served). Stepped v (Take e s) v NoExport) c.self.view_is (absent_take i.members.items i.latest i.inflight e s le)
 
 pub invariant_of-self : goal.invariant_of-self
 invariant_of-self g c =
     let i = c.self.inside in
     let e = c.args.session.export in
     let lt : e < length i.members.items = search rules in
-    kept_own i.members.items (g.E.Eligibility.contents i.eligible) (g.E.Eligibility.asked i.eligible) i.now i.inflight i.served e c.index_mut-member.result.now c.take.new.self (own.Take c.args.session.number) (take_said c.take.result) c.self.invariant lt c.index_mut-member.ensures.value c.take.ensures
+    kept_own i.members.items (g.E.Eligibility.contents i.eligible) (g.E.Eligibility.asked i.eligible) i.latest i.inflight i.served e c.index_mut-member.result.now c.take.new.self (own.Take c.args.session.number) (take_said c.take.result) c.self.invariant lt c.index_mut-member.ensures.value c.take.ensures
 
 pub returns-clause-step : goal.returns-clause-step
 returns-clause-step g c =
@@ -29,9 +29,9 @@ returns-clause-step g c =
     let s = c.args.session.number in
     let m' = c.take.new.self in
     let lt : e < length i.members.items = search rules in
-    let one = stepped_take i.members.items i.now i.inflight e s c.index_mut-member.result.now m' c.take.result lt c.index_mut-member.ensures.value c.take.ensures in
-    let two = subst (λ r. Stepped (served_of i.members.items i.now i.inflight) (Take e s) (served_of (set i.members.items e m') i.now i.inflight) (take_says r)) (sym c.here.ensures) one in
-    subst (λ (v : Served). Stepped v (Take e s) (served_of (set i.members.items e m') i.now i.inflight) (take_says c.here.result)) c.self.view_is two
+    let one = stepped_take i.members.items i.latest i.inflight e s c.index_mut-member.result.now m' c.take.result lt c.index_mut-member.ensures.value c.take.ensures in
+    let two = subst (λ r. Stepped (served_of i.members.items i.latest i.inflight) (Take e s) (served_of (set i.members.items e m') i.latest i.inflight) (take_says r)) (sym c.here.ensures) one in
+    subst (λ (v : Served). Stepped v (Take e s) (served_of (set i.members.items e m') i.latest i.inflight) (take_says c.here.result)) c.self.view_is two
 
 pub returns-clause-seats : goal.returns-clause-seats
 returns-clause-seats g c =
