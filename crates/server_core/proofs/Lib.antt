@@ -9,3 +9,4 @@ pub mod Served
 pub mod Opened
 pub mod Done
 pub mod Performed
+pub mod Picking

@@ -91,7 +91,7 @@ module _ {A : Type 0} where
   pub went_kept : (m : Kept) (new : Whole) (step : Step A) (answer : StepAnswer A) → IsMember m → Does m.whole new step answer → new.slots ≡ m.whole.slots → KeepsRequests m.whole.terms m.whole.state step → IsMember (record m { whole = new })
   went_kept m new step answer h does slots keeps =
       subst (λ (w : Whole). IsMember (record m { whole = w })) (sym (same_whole m.whole new step answer does slots keeps))
-      (record { tagged = h.tagged; sent = h.sent; seated = h.seated; r_interval = h.r_interval; p_interval = h.p_interval; few = h.few; waiting_room = h.waiting_room; out_room = h.out_room })
+      (record { tagged = h.tagged; sent = h.sent; seated = h.seated; r_interval = h.r_interval; interval = h.interval; p_interval = h.p_interval; few = h.few; waiting_room = h.waiting_room; out_room = h.out_room })
 
   -- the same where the call may have found no memory
   pub went_or : (m : Kept) (new : Whole) (step : Step A) (answer : Option (StepAnswer A)) → IsMember m → DoesOr m.whole new step answer → new.slots ≡ m.whole.slots → KeepsRequests m.whole.terms m.whole.state step → WentOr (standing_of m) (standing_of (record m { whole = new })) step answer

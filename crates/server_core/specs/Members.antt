@@ -1,7 +1,8 @@
 -- What a contract sees of one export of a server, and what its calls do to it.
-use Rattle.std.specs.Prelude.{◌≡◌, ◌≤◌, ◌^◌, nat_le, false, filter, Result, Ok, Err, ⊤, ℕ, List, [], ◌∷◌, map, length, Option, Some, None, if◌then◌else◌, ◌==◌, Bool, not}
+use Rattle.std.specs.Prelude.{◌≡◌, ◌≤◌, ◌^◌, nat_le, false, filter, Result, Ok, Err, ⊤, ℕ, List, [], ◌∷◌, map, length, Option, Some, None, ◌++◌, if◌then◌else◌, ◌==◌, Bool, not}
 use Rattle.nbd_commands.specs.Terms.{Terms}
 use Rattle.tag_clock.specs.declared.Tags.{Tags}
+use Rattle.tag_clock.specs.declared.Phase.{Phase}
 use Rattle.tag_clock.specs.Clocks.{Share}
 use Rattle.lone_export.specs.Alone.{Alone, Job, Moved, own_step, opening}
 use Rattle.lone_export.specs.Lone.{Whole}
@@ -13,6 +14,7 @@ use Rattle.lone_export.specs.declared.step.StepAnswer.{StepAnswer}
 use Rattle.lone_export.specs.declared.step.Step.TheVariants.{Perform}
 use Rattle.lone_export.specs.declared.step.StepAnswer.TheVariants.{Performed}
 use Rattle.server_table.specs.Parts.{Entry, Part, alone_of, with_alone, performed_part}
+use Rattle.server_table.specs.Picks.{part_picked}
 use Rattle.server_core.specs.declared.member.Sent.{Sent}
 
 -- a request that is out is found by its slot
@@ -41,6 +43,7 @@ slot_in (seat ∷ seats) n = if seat.number == n then Some seat.slot else slot_i
 pub record Kept : Type 0 where
   pub whole : Whole
   pub share : Share
+  pub interval : Option ℕ
   pub waiting : List Tags
   pub waiting_room : ℕ
   pub out : List Sent
@@ -82,6 +85,7 @@ pub record IsMember (m : Kept) : Type 0 where
   pub sent : map (λ (one : Sent). one.number) m.out ≡ map (λ (job : Job). job.number) m.whole.state.out
   pub seated : length m.whole.slots ≡ length m.whole.state.out
   pub r_interval : m.share.r_interval ≡ m.whole.terms.r_interval
+  pub interval : m.interval ≡ m.whole.terms.r_interval
   pub p_interval : m.share.p_interval ≡ m.whole.terms.p_interval
   pub few : length m.whole.state.waiting ≤ m.whole.terms.depth
   pub waiting_room : m.whole.terms.depth ≤ m.waiting_room
@@ -128,3 +132,17 @@ module _ (A : Type 0) where
   pub record Performs (old new : Standing) (n : ℕ) (memory : Bool) : Type 0 where
     pub standing : new ≡ done_standing n (own {A = A} old (Perform n memory)).state old
     pub told : (own {A = A} old (Perform n memory)).answer ≡ Performed memory
+
+-- ---- a request is picked
+abbrev pub first_number : List Entry → Option ℕ
+first_number [] = None
+first_number (entry ∷ entries) = Some entry.number
+
+abbrev pub picked_standing : Phase → Seat → Standing → Standing
+picked_standing phase seat standing = record { part = part_picked phase standing.part; inflight = standing.inflight; seats = standing.seats ++ seat ∷ [] }
+
+-- the first request that waited is out, in its seat
+pub record Picks (old new : Standing) (phase : Phase) (seat : Seat) : Type 0 where
+  pub standing : new ≡ picked_standing phase seat old
+  pub number : first_number old.part.waiting ≡ Some seat.number
+  pub held : slot_in new.seats seat.number ≡ Some seat.slot

@@ -1,10 +1,12 @@
 //! One export of a server: the export alone, and beside it the tags of its requests.
-ghost use Rattle.std.specs.Prelude.{◌≡◌, ◌≢◌, ◌==◌, not, filter, find, is_some, IfOk, IfSome, IfNone, Some};
+ghost use Rattle.std.specs.Prelude.{◌≡◌, ◌≢◌, ◌<◌, ◌++◌, length, slice_get, IsSome, ◌==◌, not, filter, find, is_some, IfOk, IfSome, IfNone, Some};
 ghost use Rattle.std.specs.Vec.{vec_capacity};
 ghost use Rattle.nbd_commands.specs.Terms.{terms_of};
 ghost use Rattle.nbd_commands.specs.Exports.{IsWithin};
 ghost use Rattle.lone_export.specs.Lone.{leave_said, gone_said, take_said, attach_said};
 
+use crate::tagging::give_credit;
+use export_queue::Picked;
 use export_store::Image;
 use lone_export::{Lone, NotAttached, Step, StepAnswer};
 use nbd_base::NoMemory;
@@ -13,7 +15,7 @@ use reply_box::{NotOpen, Taken};
 use std::alloc::Allocator;
 use std::collections::VecDeque;
 use std::marker::Model;
-use tag_clock::{ShareClock, Tags, Tuning};
+use tag_clock::{Phase, ShareClock, Tags, Tuning};
 
 /// The tags of a request in service.
 #[derive(Clone, Copy, Debug, PartialEq, Eq, Drop)]
@@ -27,6 +29,7 @@ pub(crate) struct Sent {
 pub(crate) struct Member<I: Image> {
     lone: Lone<I>,
     shares: ShareClock,
+    r_interval: Option<u64>,
     waiting: VecDeque<Tags, I::Alloc>,
     out: Vec<Sent, I::Alloc>,
 }
@@ -38,14 +41,16 @@ impl<I: Image> Model for Member<I> {
 
     ghost Value = { Standing };
 
-    ghost view = { λ m. standing_of (record { whole = m.lone; share = m.shares; waiting = m.waiting.items; waiting_room = deque_capacity m.waiting; out = m.out.items; out_room = vec_capacity m.out }) };
+    ghost view = { λ m. standing_of (record { whole = m.lone; share = m.shares; interval = m.r_interval; waiting = m.waiting.items; waiting_room = deque_capacity m.waiting; out = m.out.items; out_room = vec_capacity m.out }) };
 
-    ghost invariant = { λ m. IsMember (record { whole = m.lone; share = m.shares; waiting = m.waiting.items; waiting_room = deque_capacity m.waiting; out = m.out.items; out_room = vec_capacity m.out }) };
+    ghost invariant = { λ m. IsMember (record { whole = m.lone; share = m.shares; interval = m.r_interval; waiting = m.waiting.items; waiting_room = deque_capacity m.waiting; out = m.out.items; out_room = vec_capacity m.out }) };
 }
 
 impl<I: Image> Member<I> {
-    ghost use Rattle.server_core.specs.Members.{opening_standing, slot_in, Went, WentOr, WantsMemory, Performs};
-    ghost use Rattle.server_core.specs.Kept.{AreShort};
+    ghost use Rattle.server_core.specs.Members.{opening_standing, slot_in, Went, WentOr, WantsMemory, Performs, Picks};
+    ghost use Rattle.server_table.specs.Order.{IsNumbered, head_tags};
+    ghost use Rattle.server_table.specs.Picks.{part_picked};
+    ghost use Rattle.server_core.specs.Kept.{AreShort, TagsInRange};
 
     /// An export in its opening state. All the room that its requests will want is taken here.
     pub(crate) fn new(
@@ -65,6 +70,7 @@ impl<I: Image> Member<I> {
         Ok(Member {
             lone,
             shares: ShareClock::new(tuning.r_interval(), tuning.p_interval()),
+            r_interval: tuning.r_interval(),
             waiting,
             out,
         })
@@ -110,6 +116,36 @@ impl<I: Image> Member<I> {
         self.lone.slot_of(number)
     }
 
+    /// The tags of the first request that waits.
+    pub(crate) fn first(&self) -> Option<Tags>
+        ensures { result ≡ head_tags self.now.part.waiting }
+    {
+        first_of(&self.waiting)
+    }
+
+    /// The first request that waits is in service now, chosen by this phase.
+    pub(crate) fn pick(&mut self, phase: Phase) -> Option<Picked>
+        requires waiting { 0 < length self.old.part.waiting }
+        requires room { length self.old.part.out < self.old.inflight }
+        requires numbered { IsNumbered (self.old.part.out ++ self.old.part.waiting) }
+        requires in_range { TagsInRange (part_picked phase self.old.part) }
+        ensures picked { IfSome result (λ picked. Picks self.old self.new phase (record { number = picked.number; slot = picked.slot })) }
+        ensures some { IsSome result }
+    {
+        let Some(tags) = self.waiting.pop_front() else {
+            return None;
+        };
+        let Some(picked) = self.lone.pick() else {
+            return None;
+        };
+        self.out.push_reserved(Sent {
+            number: picked.number,
+            tags,
+        });
+        give_credit(&mut self.waiting, &mut self.shares, self.r_interval, phase);
+        Some(picked)
+    }
+
     /// The request that is in service in `slot` under `number` is done, and its reply goes to its session. The answer
     /// tells whether memory was there for it; None where the slot doesn't hold that number.
     pub(crate) fn perform(&mut self, slot: usize, number: u64) -> Option<bool>
@@ -121,6 +157,15 @@ impl<I: Image> Member<I> {
         };
         forget(&mut self.out, number);
         Some(memory)
+    }
+}
+
+fn first_of<A: Allocator>(waiting: &VecDeque<Tags, A>) -> Option<Tags>
+    ensures { result ≡ slice_get waiting.now.items 0 }
+{
+    match waiting.front() {
+        Some(tags) => Some(*tags),
+        None => None,
     }
 }
 

@@ -4,11 +4,11 @@ ghost use Rattle.nbd_base.specs.Range.{IsOptionInRange};
 ghost use Rattle.std.specs.VecDeque.{deque_capacity};
 ghost use Rattle.tag_clock.specs.Clocks.{lowered};
 ghost use Rattle.tag_clock.specs.Tags.{shifted, AreInRange};
-ghost use Rattle.server_core.specs.Tagging.{tags_credited, AllTagsInRange};
+ghost use Rattle.server_core.specs.Tagging.{tags_credited, AllTagsInRange, credit_due, waiting_credited, share_credited_by};
 
 use std::alloc::Allocator;
 use std::collections::VecDeque;
-use tag_clock::Tags;
+use tag_clock::{Phase, ShareClock, Tags};
 
 /// A tag less an interval, where there is one.
 fn lowered_by(tag: Option<i128>, interval: u64) -> Option<i128>
@@ -71,4 +71,28 @@ pub(crate) fn shift_all<A: Allocator>(tags: &mut VecDeque<Tags, A>, delta: i128)
     ensures capacity { deque_capacity tags.old ≤ deque_capacity tags.new }
 {
     shift_each(tags.make_contiguous(), delta);
+}
+
+/// The credit after a choice: where it was by weight, the interval of the reservation is subtracted from the R tag of
+/// each request that waits, and from the last one (mClock, tag adjustment).
+pub(crate) fn give_credit<A: Allocator>(
+    waiting: &mut VecDeque<Tags, A>,
+    shares: &mut ShareClock,
+    r_interval: Option<u64>,
+    phase: Phase,
+)
+    requires interval { shares.old.r_interval ≡ r_interval }
+    requires waiting { AllTagsInRange (waiting_credited (credit_due phase r_interval) waiting.old.items) }
+    requires last { IsOptionInRange (share_credited_by (credit_due phase r_interval) shares.old).last_r }
+    ensures waiting { waiting.new.items ≡ waiting_credited (credit_due phase r_interval) waiting.old.items }
+    ensures shares { shares.new ≡ share_credited_by (credit_due phase r_interval) shares.old }
+    ensures capacity { deque_capacity waiting.old ≤ deque_capacity waiting.new }
+{
+    match (phase, r_interval) {
+        (Phase::Weight, Some(interval)) => {
+            credit_all(waiting, interval);
+            shares.credit();
+        }
+        _ => {}
+    }
 }
