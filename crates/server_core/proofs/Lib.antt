@@ -10,3 +10,4 @@ pub mod Opened
 pub mod Done
 pub mod Performed
 pub mod Picking
+pub mod Dispatched

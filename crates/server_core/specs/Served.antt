@@ -1,5 +1,6 @@
 -- What a contract sees of a server, and what its calls answer, as events.
-use Rattle.std.specs.Prelude.{◌≡◌, ◌≤◌, ℕ, List, [], ◌∷◌, map, length, get_or, Option, Some, None, Result, Ok, Err, ⊤}
+use Rattle.std.specs.Prelude.{◌≡◌, ◌≤◌, ℕ, List, [], ◌∷◌, ◌++◌, map, length, get_or, Option, Some, None, Result, Ok, Err, ⊤}
+use Rattle.nbd_base.specs.Words.{change_at}
 use Rattle.nbd_commands.specs.Terms.{Terms, terms_of}
 use Rattle.nbd_commands.specs.Exports.{Offer}
 use Rattle.tag_clock.specs.declared.Tags.{Tags}
@@ -15,6 +16,7 @@ use Rattle.server_table.specs.Parts.{Part, table_of, setup_of}
 use Rattle.server_core.specs.Kept.{IsServer}
 use Rattle.server_core.specs.Members.{Standing, Seat, slot_in}
 use Rattle.server_core.specs.Tickets.{Place}
+use Rattle.server_core.specs.declared.ticket.Chosen.{Chosen}
 use Rattle.server_core.specs.declared.session.SessionId.{SessionId}
 use Rattle.server_core.specs.declared.refusal.NotAttached.{NotAttached}
 use Rattle.server_core.specs.declared.refusal.NotAttached.TheVariants as attaching
@@ -85,3 +87,12 @@ module _ {A : Type 0} where
   attach_says (Err attaching.Worn) = said.Worn
   attach_says (Err attaching.Full) = said.Full
   attach_says (Err attaching.NoMemory) = said.NoMemory
+
+  abbrev pub dispatch_says : Option Chosen → Answer A
+  dispatch_says None = said.Nothing
+  dispatch_says (Some chosen) = said.Picked chosen.ticket.export chosen.ticket.number chosen.phase
+
+-- the seats once a request was chosen
+abbrev pub seats_chosen : Option Chosen → List (List Seat) → List (List Seat)
+seats_chosen None seats = seats
+seats_chosen (Some chosen) seats = change_at (λ these. these ++ record { number = chosen.ticket.number; slot = chosen.ticket.slot } ∷ []) chosen.ticket.export seats

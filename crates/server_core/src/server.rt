@@ -1,5 +1,6 @@
 //! The server.
-ghost use Rattle.std.specs.Prelude.{◌≡◌, ◌≤◌, map, length, find, is_some, IfOk, IfSome, IfNone, OnSome};
+ghost use Rattle.std.specs.Prelude.{◌≡◌, ◌≤◌, map, length, find, is_some, slice_set, IfOk, IfSome, IfNone, OnSome};
+ghost use Rattle.eligibility.specs.Choice.{IsActive, IsSlotInRange};
 ghost use Rattle.nbd_base.specs.Words.{change_at};
 ghost use Rattle.server_table.specs.Steps.{is_out_row};
 ghost use Rattle.server_table.specs.declared.event.Answer.TheVariants as answer;
@@ -14,7 +15,7 @@ ghost use Rattle.server_table.specs.declared.event.Event.TheVariants as event;
 use crate::member::Member;
 use crate::refusal::{NotAttached, SessionRefusal};
 use crate::session::SessionId;
-use crate::ticket::Ticket;
+use crate::ticket::{Chosen, Ticket};
 use eligibility::Eligibility;
 use lone_export::{AttachRefusal, NotAttached as NotAttachedAlone};
 use export_store::Image;
@@ -23,7 +24,7 @@ use nbd_commands::{Config, ExportConfig};
 use reply_box::{NotOpen, Taken};
 use std::alloc::Allocator;
 use std::marker::Model;
-use tag_clock::Moment;
+use tag_clock::{Moment, Tags};
 
 /// Many exports, which share the service of one server after mClock.
 #[derive(Drop)]
@@ -88,7 +89,7 @@ fn attached(export: u32, said: Result<u64, NotAttachedAlone>) -> Result<SessionI
 }
 
 impl<I: Image, E: Eligibility<Alloc = I::Alloc>> Server<I, E> {
-    ghost use Rattle.server_core.specs.Served.{Holds, Stepped, attach_says, leave_says, gone_says, take_says, opening_served, setup_for};
+    ghost use Rattle.server_core.specs.Served.{Holds, Stepped, attach_says, leave_says, gone_says, take_says, dispatch_says, seats_chosen, opening_served, setup_for};
 
     /// A server of the exports of a configuration, each in its opening state.
     pub fn new(alloc: I::Alloc, config: &Config<I::Alloc>) -> Result<Self, NoMemory>
@@ -191,5 +192,49 @@ impl<I: Image, E: Eligibility<Alloc = I::Alloc>> Server<I, E> {
         };
         self.served -= 1;
         Some(memory)
+    }
+
+    /// Chooses the request that is served next: none where as many are in service as may be, or nothing is due (mClock,
+    /// request scheduling). It takes no memory.
+    pub fn dispatch(&mut self, moment: Moment) -> Option<Chosen>
+        ensures step { Stepped {A = I.Alloc} self.old (event.Dispatch moment) self.new (dispatch_says result) }
+        ensures ticket { IfSome result (λ chosen. Holds self.new chosen.ticket) }
+        ensures seats { self.new.seats ≡ seats_chosen result self.old.seats }
+    {
+        self.latest = self.latest.later(moment);
+        if self.served >= self.inflight {
+            return None;
+        }
+        let Some((export, phase)) = self.eligible.choose(self.latest) else {
+            return None;
+        };
+        let member = &mut self.members[export as usize];
+        let Some(picked) = member.pick(phase) else {
+            return None;
+        };
+        let first = member.first();
+        self.served += 1;
+        renew(&mut self.eligible, export, first);
+        Some(Chosen {
+            ticket: Ticket {
+                export,
+                number: picked.number,
+                slot: picked.slot,
+            },
+            phase,
+        })
+    }
+}
+
+/// An active export has another first request, or none.
+fn renew<E: Eligibility>(eligible: &mut E, export: u32, first: Option<Tags>)
+    requires active { IsActive (E.contents eligible.old) export }
+    requires in_range { IsSlotInRange first }
+    ensures asked { E.asked eligible.new ≤ E.asked eligible.old }
+    ensures contents { E.contents eligible.new ≡ slice_set (E.contents eligible.old) export first }
+{
+    match first {
+        Some(tags) => eligible.rekey(export, tags),
+        None => eligible.leave(export),
     }
 }
