@@ -1,6 +1,8 @@
 -- What a contract sees of a `Lone`, and what its calls answer, as steps.
 use Rattle.std.specs.Prelude.{◌≡◌, ℕ, ◌^◌, ◌==◌, nat_le, true, false, not, List, [], ◌∷◌, ◌++◌, length, filter, if◌then◌else◌, Option, Some, None, Result, Ok, Err}
+use Rattle.nbd_wire.specs.Grammar.{RequestMessage}
 use Rattle.nbd_commands.specs.Terms.{Terms}
+use Rattle.nbd_commands.specs.Verdict.{verdict_of}
 use Rattle.reply_box.specs.Sessions.{is_open_at, is_here}
 use Rattle.reply_box.specs.declared.fault.NotOpen.{NotOpen}
 use Rattle.reply_box.specs.declared.seat.Taken.{Taken}
@@ -63,6 +65,14 @@ MayArrive w s (Ok done) = (is_open_at w.state.sessions s ≡ true) × (nat_le (2
 MayArrive w s (Err arriving.NotOpen) = is_open_at w.state.sessions s ≡ false
 MayArrive w s (Err arriving.Worn) = (is_open_at w.state.sessions s ≡ true) × (nat_le (2 ^ 56) w.state.count ≡ true)
 MayArrive w s (Err arriving.Hold) = (is_open_at w.state.sessions s ≡ true) × (nat_le (2 ^ 56) w.state.count ≡ false) × ((outstanding w.state s == w.terms.window) ≡ true)
+
+-- a request of session s would wait, if it arrived
+pub record Admits (terms : Terms) (state : Alone) (s : ℕ) (q : RequestMessage) : Type 0 where
+  pub is_open : is_open_at state.sessions s ≡ true
+  pub young : nat_le (2 ^ 56) state.count ≡ false
+  pub spare : (outstanding state s == terms.window) ≡ false
+  pub fine : (verdict_of terms q == 0) ≡ true
+  pub shallow : (length state.waiting == terms.depth) ≡ false
 
 module _ {A : Type 0} where
   -- a call is this step, with this answer

@@ -3,7 +3,7 @@ ghost use Rattle.std.specs.Prelude.{◌≡◌, ◌≢◌, ◌<◌, [], length, �
 ghost use Rattle.std.specs.Bool.{OnTrue, OnFalse};
 ghost use Rattle.nbd_commands.specs.Terms.{terms_of};
 ghost use Rattle.nbd_commands.specs.Exports.{IsWithin};
-ghost use Rattle.lone_export.specs.Lone.{opening_of, Does, DoesOr, pick_said, leave_said, gone_said, take_said, attach_said, arrived_said, slots_picked, slots_without, slot_at, MayAttach, MayArrive};
+ghost use Rattle.lone_export.specs.Lone.{opening_of, Does, DoesOr, pick_said, leave_said, gone_said, take_said, attach_said, arrived_said, slots_picked, slots_without, slot_at, MayAttach, MayArrive, Admits};
 
 use crate::refusal::{ArriveRefusal, Arrived, AttachRefusal, NotArrived, NotAttached};
 use crate::row::Row;
@@ -173,6 +173,19 @@ impl<I: Image> Lone<I> {
                 Ok(())
             }
         }
+    }
+
+    /// Whether a request of the session would wait, if it arrived.
+    pub fn admits(&self, session: u64, request: &Request<I::Alloc>) -> bool
+        ensures { IsTrue result ↔ Admits self.now.terms self.now.state session request.now }
+    {
+        if let Err(_) = self.may_arrive(session) {
+            return false;
+        }
+        if verdict(&self.info, request) != 0 {
+            return false;
+        }
+        !self.queue.is_full()
     }
 
     /// The slot in which the request of this number is in service.

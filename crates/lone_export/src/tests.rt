@@ -62,6 +62,7 @@ fn one_request_is_served(rt: HostRuntime) -> Result<(), Fail> {
     assert!(rt; lone.may_attach().is_ok() && lone.may_arrive(0).is_err());
     assert_eq!(rt; lone.attach(), Ok(0));
     assert!(rt; lone.may_arrive(0).is_ok());
+    assert!(rt; lone.admits(0, &read_of(7, 0, 8)) && !lone.admits(0, &read_of(7, 1, 8)));
     assert_eq!(rt; arrival(&mut lone, 0, read_of(7, 0, 8)), 100);
     assert_eq!(rt; arrival(&mut lone, 0, read_of(8, 1, 8)), 22);
     assert_eq!(rt; arrival(&mut lone, 0, read_of(9, 0, 8)), 103);

@@ -1,20 +1,26 @@
 -- What a contract sees of one export of a server, and what its calls do to it.
-use Rattle.std.specs.Prelude.{◌≡◌, ◌≤◌, ◌^◌, nat_le, false, filter, Result, Ok, Err, ⊤, ℕ, List, [], ◌∷◌, map, length, Option, Some, None, ◌++◌, if◌then◌else◌, ◌==◌, Bool, not}
+use Rattle.std.specs.Prelude.{◌≡◌, ◌≤◌, ◌^◌, nat_le, false, filter, Result, Ok, Err, ⊤, ℕ, List, [], ◌∷◌, map, length, Option, Some, None, ◌++◌, if◌then◌else◌, ◌==◌, Bool, not, ℤ}
+use Rattle.nbd_wire.specs.Grammar.{RequestMessage}
 use Rattle.nbd_commands.specs.Terms.{Terms}
 use Rattle.tag_clock.specs.declared.Tags.{Tags}
 use Rattle.tag_clock.specs.declared.Phase.{Phase}
 use Rattle.tag_clock.specs.Clocks.{Share}
 use Rattle.lone_export.specs.Alone.{Alone, Job, Moved, own_step, opening}
-use Rattle.lone_export.specs.Lone.{Whole}
+use Rattle.lone_export.specs.Lone.{Whole, Admits, refusal_said}
+use Rattle.lone_export.specs.declared.refusal.Arrived.{Arrived}
+use Rattle.lone_export.specs.declared.refusal.Arrived.TheVariants.{Accepted, Answered}
+use Rattle.lone_export.specs.declared.refusal.NotArrived.{NotArrived}
 use Rattle.reply_box.specs.Sessions.{is_here}
 use Rattle.lone_export.specs.declared.refusal.NotAttached.{NotAttached}
 use Rattle.lone_export.specs.declared.refusal.NotAttached.TheVariants.{Refused, NoMemory}
 use Rattle.lone_export.specs.declared.step.Step.{Step}
 use Rattle.lone_export.specs.declared.step.StepAnswer.{StepAnswer}
-use Rattle.lone_export.specs.declared.step.Step.TheVariants.{Perform}
+use Rattle.lone_export.specs.declared.step.Step.TheVariants.{Arrive, Perform}
+use Rattle.lone_export.specs.declared.step.StepAnswer.TheVariants as said
 use Rattle.lone_export.specs.declared.step.StepAnswer.TheVariants.{Performed}
 use Rattle.server_table.specs.Parts.{Entry, Part, alone_of, with_alone, performed_part}
 use Rattle.server_table.specs.Picks.{part_picked}
+use Rattle.server_table.specs.Ways.{part_shifted, part_tags, accepted_part}
 use Rattle.server_core.specs.declared.member.Sent.{Sent}
 
 -- a request that is out is found by its slot
@@ -146,3 +152,22 @@ pub record Picks (old new : Standing) (phase : Phase) (seat : Seat) : Type 0 whe
   pub standing : new ≡ picked_standing phase seat old
   pub number : first_number old.part.waiting ≡ Some seat.number
   pub held : slot_in new.seats seat.number ≡ Some seat.slot
+
+-- ---- a request arrives
+abbrev pub accepted_standing : ℕ → ℕ → RequestMessage → Standing → Standing
+accepted_standing s t q standing = record standing { part = accepted_part s q (part_tags standing.part t) standing.part }
+
+-- the export would let it wait
+abbrev pub AdmitsAt : Standing → ℕ → RequestMessage → Type 0
+AdmitsAt standing s q = Admits standing.part.terms (alone_of standing.part) s q
+
+-- it waits with its tags exactly where it is admitted; else the call is the step of the export alone
+abbrev pub Arrives : {A : Type 0} → Standing → Standing → ℕ → ℕ → RequestMessage → Result Arrived (NotArrived A) → Type 0
+Arrives old new s t q (Ok (Accepted number limit_tag)) =
+    AdmitsAt old s q × (new ≡ accepted_standing s t q old) × (number ≡ old.part.next) × (limit_tag ≡ (part_tags old.part t).l)
+Arrives {A} old new s t q (Ok (Answered error)) = (AdmitsAt old s q → ⊥) × Went {A = A} old new (Arrive s t q) (said.Answered error)
+Arrives {A} old new s t q (Err e) = (AdmitsAt old s q → ⊥) × Went {A = A} old new (Arrive s t q) (refusal_said e.refusal)
+
+-- ---- the P tags fall
+abbrev pub shifted_standing : ℤ → Standing → Standing
+shifted_standing delta standing = record standing { part = part_shifted delta standing.part }

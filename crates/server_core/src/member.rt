@@ -1,21 +1,22 @@
 //! One export of a server: the export alone, and beside it the tags of its requests.
-ghost use Rattle.std.specs.Prelude.{◌≡◌, ◌≢◌, ◌<◌, ◌++◌, length, slice_get, IsSome, ◌==◌, not, filter, find, is_some, IfOk, IfSome, IfNone, Some};
+ghost use Rattle.std.specs.Prelude.{◌≡◌, ◌≢◌, ◌<◌, ◌++◌, length, slice_get, ◌↔◌, IsTrue, IfErr, IsSome, ◌==◌, not, filter, find, is_some, IfOk, IfSome, IfNone, Some};
 ghost use Rattle.std.specs.Vec.{vec_capacity};
 ghost use Rattle.nbd_commands.specs.Terms.{terms_of};
 ghost use Rattle.nbd_commands.specs.Exports.{IsWithin};
 ghost use Rattle.lone_export.specs.Lone.{leave_said, gone_said, take_said, attach_said};
 
-use crate::tagging::give_credit;
+use crate::tagging::{give_credit, shift_all};
 use export_queue::Picked;
 use export_store::Image;
-use lone_export::{Lone, NotAttached, Step, StepAnswer};
+use lone_export::{Arrived, Lone, NotArrived, NotAttached, Step, StepAnswer};
 use nbd_base::NoMemory;
 use nbd_commands::ExportConfig;
+use nbd_wire::Request;
 use reply_box::{NotOpen, Taken};
 use std::alloc::Allocator;
 use std::collections::VecDeque;
 use std::marker::Model;
-use tag_clock::{Phase, ShareClock, Tags, Tuning};
+use tag_clock::{Moment, Phase, ShareClock, Tags, Tuning};
 
 /// The tags of a request in service.
 #[derive(Clone, Copy, Debug, PartialEq, Eq, Drop)]
@@ -47,7 +48,8 @@ impl<I: Image> Model for Member<I> {
 }
 
 impl<I: Image> Member<I> {
-    ghost use Rattle.server_core.specs.Members.{opening_standing, slot_in, Went, WentOr, WantsMemory, Performs, Picks};
+    ghost use Rattle.server_core.specs.Members.{opening_standing, slot_in, Went, WentOr, WantsMemory, Performs, Picks, AdmitsAt, Arrives, shifted_standing};
+    ghost use Rattle.server_table.specs.Ways.{part_shifted};
     ghost use Rattle.server_table.specs.Order.{IsNumbered, head_tags};
     ghost use Rattle.server_table.specs.Picks.{part_picked};
     ghost use Rattle.server_core.specs.Kept.{AreShort, TagsInRange};
@@ -114,6 +116,51 @@ impl<I: Image> Member<I> {
         ensures out { is_some result ≡ is_some (find (λ entry. entry.number == number) self.now.part.out) }
     {
         self.lone.slot_of(number)
+    }
+
+    /// Whether a request of the session would wait, if it arrived.
+    pub(crate) fn admits(&self, session: u64, request: &Request<I::Alloc>) -> bool
+        ensures { IsTrue result ↔ AdmitsAt self.now session request.now }
+    {
+        self.lone.admits(session, request)
+    }
+
+    /// A request of a session arrives at a moment. One that is refused is handed back.
+    pub(crate) fn arrive(
+        &mut self,
+        session: u64,
+        moment: Moment,
+        request: Request<I::Alloc>,
+    ) -> Result<Arrived, NotArrived<I::Alloc>>
+        requires in_range { TagsInRange self.old.part }
+        ensures arrives { Arrives {A = I.Alloc} self.old self.new session moment request result }
+        ensures back { IfErr result (λ e. e.request ≡ request) }
+    {
+        match self.lone.arrive(session, moment, request) {
+            Ok(Arrived::Accepted { number, limit_tag }) => {
+                let (r, p) = self.shares.admit(moment);
+                self.waiting.push_back_reserved(Tags {
+                    r,
+                    l: limit_tag,
+                    p,
+                });
+                Ok(Arrived::Accepted { number, limit_tag })
+            }
+            Ok(Arrived::Answered(error)) => Ok(Arrived::Answered(error)),
+            Err(refused) => Err(refused),
+        }
+    }
+
+    /// The P tags fall where a request waits.
+    pub(crate) fn shift(&mut self, delta: i128)
+        requires { TagsInRange (part_shifted delta self.old.part) }
+        ensures { self.new ≡ shifted_standing delta self.old }
+    {
+        if self.waiting.is_empty() {
+            return;
+        }
+        shift_all(&mut self.waiting, delta);
+        self.shares.shift(delta);
     }
 
     /// The tags of the first request that waits.
