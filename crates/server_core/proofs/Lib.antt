@@ -11,3 +11,5 @@ pub mod Done
 pub mod Performed
 pub mod Picking
 pub mod Dispatched
+pub mod Arriving
+pub mod Shifting

@@ -49,7 +49,7 @@ tags_in_range (j ∷ js) (t ∷ ts) same h = at (tags_in_range js ts (omega arit
     at rest (suc i) d lt = rest i d (omega arith)
 
 -- ---- lists that grow
-entries_pushed : (jobs : List Job) (tags : List Tags) (job : Job) (one : Tags) → length tags ≡ length jobs → entries_of (jobs ++ job ∷ []) (tags ++ one ∷ []) ≡ entries_of jobs tags ++ record { number = job.number; session = job.session; request = job.request; tags = one } ∷ []
+pub entries_pushed : (jobs : List Job) (tags : List Tags) (job : Job) (one : Tags) → length tags ≡ length jobs → entries_of (jobs ++ job ∷ []) (tags ++ one ∷ []) ≡ entries_of jobs tags ++ record { number = job.number; session = job.session; request = job.request; tags = one } ∷ []
 entries_pushed [] [] job one same = refl
 entries_pushed [] (t ∷ ts) job one same = absurd (omega arith)
 entries_pushed (j ∷ js) [] job one same = absurd (omega arith)

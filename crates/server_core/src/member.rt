@@ -133,9 +133,12 @@ impl<I: Image> Member<I> {
         request: Request<I::Alloc>,
     ) -> Result<Arrived, NotArrived<I::Alloc>>
         requires in_range { TagsInRange self.old.part }
+        requires short { AreShort self.old.part.terms }
         ensures arrives { Arrives {A = I.Alloc} self.old self.new session moment request result }
         ensures back { IfErr result (λ e. e.request ≡ request) }
     {
+        // A moment is below 2^62.
+        let _ = moment.nanoseconds();
         match self.lone.arrive(session, moment, request) {
             Ok(Arrived::Accepted { number, limit_tag }) => {
                 let (r, p) = self.shares.admit(moment);
