@@ -156,7 +156,7 @@ head_within : (total n j k : ℕ) (w : List Entry) → AllEntries (λ e. TagsWit
 head_within total n j k [] h = tt
 head_within total n j k (x ∷ xs) h = h.0.p
 
-least_within : (total k : ℕ) (ps : List Part) → AllParts (IsPart total) ps → IsKeyWithin total (least (candidates (λ tags. Some tags.p) k (heads ps)))
+pub least_within : (total k : ℕ) (ps : List Part) → AllParts (IsPart total) ps → IsKeyWithin total (least (candidates (λ tags. Some tags.p) k (heads ps)))
 least_within total k [] h = tt
 least_within total k (p ∷ ps) h = sooner_within total (keyed (slot_key (λ tags. Some tags.p) (head_tags p.waiting)) k) (least (candidates (λ tags. Some tags.p) (k + 1) (heads ps))) (head_within total p.next (picked p) k p.waiting h.0.tags) (least_within total (k + 1) ps h.1)
 

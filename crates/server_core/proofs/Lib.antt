@@ -13,3 +13,5 @@ pub mod Picking
 pub mod Dispatched
 pub mod Arriving
 pub mod Shifting
+pub mod Ways
+pub mod Accepting

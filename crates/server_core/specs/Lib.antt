@@ -4,3 +4,4 @@ pub mod Members
 pub mod Tickets
 pub mod Here
 pub mod Served
+pub mod Way

@@ -16,6 +16,11 @@ use Rattle.server_table.specs.Parts.{Part, table_of, setup_of}
 use Rattle.server_core.specs.Kept.{IsServer}
 use Rattle.server_core.specs.Members.{Standing, Seat, slot_in}
 use Rattle.server_core.specs.Tickets.{Place}
+use Rattle.lone_export.specs.declared.refusal.Arrived.{Arrived}
+use Rattle.lone_export.specs.declared.refusal.Arrived.TheVariants as arrival
+use Rattle.server_core.specs.declared.refusal.NotArrived.{NotArrived}
+use Rattle.server_core.specs.declared.refusal.ArriveRefusal.{ArriveRefusal}
+use Rattle.server_core.specs.declared.refusal.ArriveRefusal.TheVariants as arriving
 use Rattle.server_core.specs.declared.ticket.Chosen.{Chosen}
 use Rattle.server_core.specs.declared.session.SessionId.{SessionId}
 use Rattle.server_core.specs.declared.refusal.NotAttached.{NotAttached}
@@ -87,6 +92,17 @@ module _ {A : Type 0} where
   attach_says (Err attaching.Worn) = said.Worn
   attach_says (Err attaching.Full) = said.Full
   attach_says (Err attaching.NoMemory) = said.NoMemory
+
+  abbrev pub arrive_refusal_says : ArriveRefusal → Answer A
+  arrive_refusal_says arriving.NoExport = said.NoExport
+  arrive_refusal_says arriving.NotOpen = said.NotOpen
+  arrive_refusal_says arriving.Worn = said.Worn
+  arrive_refusal_says arriving.Hold = said.Hold
+
+  abbrev pub arrive_says : Result Arrived (NotArrived A) → Answer A
+  arrive_says (Ok (arrival.Accepted n tag)) = said.Accepted n tag
+  arrive_says (Ok (arrival.Answered error)) = said.Answered error
+  arrive_says (Err e) = arrive_refusal_says e.refusal
 
   abbrev pub dispatch_says : Option Chosen → Answer A
   dispatch_says None = said.Nothing

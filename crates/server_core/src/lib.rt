@@ -7,8 +7,9 @@ mod server;
 mod session;
 mod tagging;
 mod ticket;
+mod way;
 
-pub use refusal::{NotAttached, SessionRefusal};
+pub use refusal::{ArriveRefusal, NotArrived, NotAttached, SessionRefusal};
 pub use server::Server;
 pub use session::SessionId;
 pub use ticket::{Chosen, Ticket};

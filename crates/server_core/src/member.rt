@@ -118,6 +118,13 @@ impl<I: Image> Member<I> {
         self.lone.slot_of(number)
     }
 
+    /// How many requests wait.
+    pub(crate) fn waiting(&self) -> usize
+        ensures { result ≡ length self.now.part.waiting }
+    {
+        self.lone.waiting()
+    }
+
     /// Whether a request of the session would wait, if it arrived.
     pub(crate) fn admits(&self, session: u64, request: &Request<I::Alloc>) -> bool
         ensures { IsTrue result ↔ AdmitsAt self.now session request.now }

@@ -1,5 +1,7 @@
 //! What the calls of a server are refused for. A refusal leaves all as it was.
 
+use nbd_wire::Request;
+use std::alloc::Allocator;
 use thiserror::Error;
 
 /// Why a call on a session is refused.
@@ -27,4 +29,28 @@ pub enum NotAttached {
     Full,
     #[error("no memory")]
     NoMemory,
+}
+
+/// Why an arrival is refused.
+#[derive(Clone, Copy, Debug, PartialEq, Eq, Error)]
+pub enum ArriveRefusal {
+    /// There is no such export.
+    #[error("no export")]
+    NoExport,
+    /// The session was never attached, has left or is gone.
+    #[error("not open")]
+    NotOpen,
+    /// The export has made as many steps as it ever may.
+    #[error("worn")]
+    Worn,
+    /// As many requests of the session as the window are under way, or replies of it not yet taken.
+    #[error("hold")]
+    Hold,
+}
+
+/// A request that was refused before it was looked at, handed back.
+#[derive(Drop)]
+pub struct NotArrived<A: Allocator> {
+    pub refusal: ArriveRefusal,
+    pub request: Request<A>,
 }

@@ -1,5 +1,5 @@
 //! The server.
-ghost use Rattle.std.specs.Prelude.{◌≡◌, ◌≤◌, map, length, find, is_some, slice_set, IfOk, IfSome, IfNone, OnSome};
+ghost use Rattle.std.specs.Prelude.{◌≡◌, ◌≤◌, map, length, find, is_some, slice_set, IfOk, IfErr, IfSome, IfNone, OnSome};
 ghost use Rattle.eligibility.specs.Choice.{IsActive, IsSlotInRange};
 ghost use Rattle.nbd_base.specs.Words.{change_at};
 ghost use Rattle.server_table.specs.Steps.{is_out_row};
@@ -9,18 +9,23 @@ ghost use Rattle.nbd_commands.specs.Exports.{IsWithin};
 ghost use Rattle.std.specs.List.{All};
 ghost use Rattle.server_core.specs.Kept.{AreShort};
 ghost use Rattle.server_core.specs.Members.{opening_standing, seats_without};
-ghost use Rattle.server_core.specs.Here.{here as told_here, attached as told_attached};
+ghost use Rattle.server_core.specs.Here.{here as told_here, attached as told_attached, arrived as told_arrived, refusal_here};
 ghost use Rattle.server_table.specs.declared.event.Event.TheVariants as event;
 
 use crate::member::Member;
-use crate::refusal::{NotAttached, SessionRefusal};
+use crate::refusal::{ArriveRefusal, NotArrived, NotAttached, SessionRefusal};
 use crate::session::SessionId;
 use crate::ticket::{Chosen, Ticket};
+use crate::way::{make_way, put_first};
 use eligibility::Eligibility;
-use lone_export::{AttachRefusal, NotAttached as NotAttachedAlone};
+use lone_export::{
+    ArriveRefusal as ArriveRefusalAlone, Arrived, AttachRefusal, NotArrived as NotArrivedAlone,
+    NotAttached as NotAttachedAlone,
+};
 use export_store::Image;
 use nbd_base::NoMemory;
 use nbd_commands::{Config, ExportConfig};
+use nbd_wire::Request;
 use reply_box::{NotOpen, Taken};
 use std::alloc::Allocator;
 use std::marker::Model;
@@ -88,8 +93,33 @@ fn attached(export: u32, said: Result<u64, NotAttachedAlone>) -> Result<SessionI
     }
 }
 
+fn arrive_refusal(refusal: ArriveRefusalAlone) -> ArriveRefusal
+    ensures { result ≡ refusal_here refusal }
+{
+    match refusal {
+        ArriveRefusalAlone::NotOpen => ArriveRefusal::NotOpen,
+        ArriveRefusalAlone::Worn => ArriveRefusal::Worn,
+        ArriveRefusalAlone::Hold => ArriveRefusal::Hold,
+    }
+}
+
+/// What an arrival was answered, as the server answers it.
+fn arrived<A: Allocator>(
+    said: Result<Arrived, NotArrivedAlone<A>>,
+) -> Result<Arrived, NotArrived<A>>
+    ensures { result ≡ told_arrived said }
+{
+    match said {
+        Ok(arrived) => Ok(arrived),
+        Err(refused) => Err(NotArrived {
+            refusal: arrive_refusal(refused.refusal),
+            request: refused.request,
+        }),
+    }
+}
+
 impl<I: Image, E: Eligibility<Alloc = I::Alloc>> Server<I, E> {
-    ghost use Rattle.server_core.specs.Served.{Holds, Stepped, attach_says, leave_says, gone_says, take_says, dispatch_says, seats_chosen, opening_served, setup_for};
+    ghost use Rattle.server_core.specs.Served.{Holds, Stepped, attach_says, leave_says, gone_says, take_says, arrive_says, dispatch_says, seats_chosen, opening_served, setup_for};
 
     /// A server of the exports of a configuration, each in its opening state.
     pub fn new(alloc: I::Alloc, config: &Config<I::Alloc>) -> Result<Self, NoMemory>
@@ -192,6 +222,41 @@ impl<I: Image, E: Eligibility<Alloc = I::Alloc>> Server<I, E> {
         };
         self.served -= 1;
         Some(memory)
+    }
+
+    /// A request of a session arrives at a moment, which needn't be later than the moments of others. One that is refused
+    /// is handed back. It takes no memory.
+    pub fn arrive(
+        &mut self,
+        session: SessionId,
+        moment: Moment,
+        request: Request<I::Alloc>,
+    ) -> Result<Arrived, NotArrived<I::Alloc>>
+        ensures step { Stepped {A = I.Alloc} self.old (event.Arrive session.export session.number moment request) self.new (arrive_says result) }
+        ensures seats { self.new.seats ≡ self.old.seats }
+        ensures back { IfErr result (λ e. e.request ≡ request) }
+    {
+        if session.export as usize >= self.members.len() {
+            return Err(NotArrived {
+                refusal: ArriveRefusal::NoExport,
+                request,
+            });
+        }
+        let member = &self.members[session.export as usize];
+        let waiting = member.waiting();
+        let was = member.first();
+        if !member.admits(session.number, &request) {
+            let member = &mut self.members[session.export as usize];
+            return arrived(member.arrive(session.number, moment, request));
+        }
+        // A moment is below 2^62.
+        let _ = moment.nanoseconds();
+        make_way(&mut self.members, &mut self.eligible, waiting, moment);
+        let member = &mut self.members[session.export as usize];
+        let said = member.arrive(session.number, moment, request);
+        let first = member.first();
+        put_first(&mut self.eligible, session.export, was, first);
+        arrived(said)
     }
 
     /// Chooses the request that is served next: none where as many are in service as may be, or nothing is due (mClock,
