@@ -1,6 +1,7 @@
 //! All exports of a server behind one type: each call is one step of the table of all exports.
 #![tactic(auto)]
 
+mod event;
 mod member;
 mod refusal;
 mod server;
