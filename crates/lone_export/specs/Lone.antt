@@ -3,6 +3,7 @@ use Rattle.std.specs.Prelude.{◌≡◌, ℕ, ◌+◌, ◌<◌, ◌≤◌, ◌^�
 use Rattle.nbd_base.specs.Words.{when_some}
 use Rattle.nbd_wire.specs.Grammar.{RequestMessage}
 use Rattle.nbd_commands.specs.Terms.{Terms}
+use Rattle.nbd_commands.specs.Verdict.{verdict_of}
 use Rattle.nbd_commands.specs.Meaning.{may_want_memory}
 use Rattle.reply_box.specs.Sessions.{is_open_at, is_here, is_here_at}
 use Rattle.reply_box.specs.declared.fault.NotOpen.{NotOpen}
@@ -84,6 +85,14 @@ MayArrive w s (Err arriving.Hold) = (is_open_at w.state.sessions s ≡ true) × 
 -- whether a request that is performed by this mark has memory: one that wants none has
 abbrev pub mark_again : Bool → RequestMessage → Bool
 mark_again memory request = not (not memory && may_want_memory request)
+
+-- a request of session s would wait, if it arrived
+pub record Admits (terms : Terms) (state : Alone) (s : ℕ) (q : RequestMessage) : Type 0 where
+  pub is_open : is_open_at state.sessions s ≡ true
+  pub young : nat_le (2 ^ 56) state.count ≡ false
+  pub spare : (outstanding state s == terms.window) ≡ false
+  pub fine : (verdict_of terms q == 0) ≡ true
+  pub shallow : (length state.waiting == terms.depth) ≡ false
 
 module _ {A : Type 0} where
   -- a call is this step, with this answer

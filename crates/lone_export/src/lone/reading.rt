@@ -1,11 +1,13 @@
 //! What is read of an export, and what its steps are refused for.
 ghost use Rattle.std.specs.Prelude.{◌≡◌, ◌<◌, length, ◌↔◌, IsTrue};
 ghost use Rattle.lone_export.specs.Calls.{to_come};
-ghost use Rattle.lone_export.specs.Lone.{slot_at, MayAttach, MayArrive, IsInBounds};
+ghost use Rattle.lone_export.specs.Lone.{slot_at, MayAttach, MayArrive, Admits, IsInBounds};
 
 use crate::lone::Lone;
 use crate::refusal::{ArriveRefusal, AttachRefusal};
 use export_store::Image;
+use nbd_commands::verdict;
+use nbd_wire::Request;
 use reply_box::AdmitFault;
 
 /// The most steps that are counted by attaches and arrivals: 2^56.
@@ -89,6 +91,19 @@ impl<I: Image> Lone<I> {
                 Ok(())
             }
         }
+    }
+
+    /// Whether a request of the session would wait, if it arrived.
+    pub fn admits(&self, session: u64, request: &Request<I::Alloc>) -> bool
+        ensures { IsTrue result ↔ Admits self.now.terms self.now.state session request.now }
+    {
+        if let Err(_) = self.may_arrive(session) {
+            return false;
+        }
+        if verdict(&self.info, request) != 0 {
+            return false;
+        }
+        !self.queue.is_full()
     }
 
     /// Does nothing: its contract says what is true of every export.

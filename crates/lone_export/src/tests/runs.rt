@@ -293,6 +293,7 @@ fn one_request_is_served(rt: HostRuntime) -> Result<(), Fail> {
     assert_eq!(rt; lone.may_arrive(0), Err(ArriveRefusal::NotOpen));
     assert_eq!(rt; lone.attach(), Ok(0));
     assert_eq!(rt; (lone.may_arrive(0), lone.to_come()), (Ok(()), 2));
+    assert!(rt; lone.admits(0, &read_of(7, 0, 8)) && !lone.admits(0, &read_of(7, 1, 8)));
     assert!(rt; lone.arrive(0, Moment::zero(), read_of(7, 0, 8)).is_ok());
     assert_eq!(rt; (lone.waiting(), lone.to_come()), (1, 5));
     let picked = if lone.may_pick() { lone.pick() } else { None };

@@ -1,0 +1,246 @@
+-- An arrival, over the exports of a server.
+use Rattle.std.proofs.Common.{◌≡◌, ℕ, zero, suc, ◌+◌, ◌*◌, ◌^◌, ◌<◌, ◌≤◌, Bool, true, false, cond, Option, Some, None, Result, Ok, Err, List, [], ◌∷◌, ◌++◌, map, length, set, get_or, refl, sym, ◌∙◌, ap, subst, arith}
+use Rattle.std.specs.Prelude.{⊤, ℤ, pos, negsuc, ◌-ℤ◌, slice_get, IfSome, IfErr, not, ◌==◌}
+use Rattle.std.proofs.lemmas.Int.{ints}
+use Rattle.std.proofs.lemmas.Bool.Decides.{nat_tests}
+use Rattle.std.proofs.lemmas.List.{length-map, length-set, map-set, get_or-map, get_or-set_same, get_or_default}
+use Rattle.std.proofs.lemmas.Option.{slice_get-get_or}
+use Rattle.nbd_base.specs.Range.{InRange}
+use Rattle.nbd_wire.specs.Grammar.{RequestMessage}
+use Rattle.tag_clock.specs.declared.Tags.{Tags}
+use Rattle.tag_clock.specs.Clocks.{lowered}
+use Rattle.tag_clock.specs.declared.Phase.TheVariants.{Weight}
+use Rattle.eligibility.specs.Choice.{IsSlotInRange}
+use Rattle.lone_export.specs.Lone.{refusal_said, arrived_said}
+use Rattle.lone_export.specs.declared.refusal.Arrived.{Arrived}
+use Rattle.lone_export.specs.declared.refusal.Arrived.TheVariants as arrival
+use Rattle.lone_export.specs.declared.refusal.NotArrived.{NotArrived as NotArrivedAlone}
+use Rattle.lone_export.specs.declared.refusal.ArriveRefusal.{ArriveRefusal as ArriveRefusalAlone}
+use Rattle.lone_export.specs.declared.refusal.ArriveRefusal.TheVariants as arriving
+use Rattle.lone_export.specs.declared.step.Step.TheVariants as own
+use Rattle.lone_export.specs.declared.step.StepAnswer.TheVariants as alone
+use Rattle.server_table.specs.declared.event.Event.TheVariants.{Arrive}
+use Rattle.server_table.specs.declared.event.Answer.TheVariants.{Accepted, NoExport}
+use Rattle.server_table.specs.Parts.{Entry, Part, table_of, setup_of, alone_of, job_of_entry}
+use Rattle.server_table.specs.Order.{AllParts, head_tags, heads}
+use Rattle.server_table.specs.Ways.{entry_shifted, part_shifted, least_first_p, parts_for, way_for, part_tags, accepted_part}
+use Rattle.server_table.specs.Steps.{Outcome, outcome}
+use Rattle.server_table.proofs.Arrived.{Admits, step_accepts, step_refuses, way_same, way_length}
+use Rattle.server_table.proofs.Refused.{no_arrive}
+use Rattle.server_core.specs.Here.{arrived, refusal_here}
+use Rattle.server_core.specs.declared.refusal.NotArrived.{NotArrived}
+use Rattle.server_core.specs.Kept.{AreShort, IsPart, IsServer, Within, TagsInRange, total}
+use Rattle.server_core.specs.Members.{Standing, Seat, shifted_standing, accepted_standing, AdmitsAt, Arrives, Went}
+use Rattle.server_core.specs.Served.{Served, parts, served_of, AllMembers, IsServed, Stepped, arrive_says}
+use Rattle.server_core.specs.Way.{lowered_to, way_of, IsFallInRange}
+use Rattle.server_core.proofs.Entries.{part_at}
+use Rattle.server_core.proofs.Picked.{total_small}
+use Rattle.server_core.proofs.Fallen.{least_within, IsKeyWithin}
+use Rattle.server_core.proofs.Changed.{in_order, before_way, after_way, kept_arrived, new_in_range}
+use Rattle.server_core.proofs.Served.{part_there, within_parts, parts_set, same_setup, members_set, member_at, beyond, stepped_own, kept_own, same_seats}
+use Rattle.server_core.proofs.Performed.{all_seats}
+use Rattle.server_core.proofs.Ways.{parts_way, parts_shifted}
+
+-- ---- admitted, by the part
+pub admits_part : (m : Standing) (s : ℕ) (q : RequestMessage) → AdmitsAt m s q → Admits m.part s q
+admits_part m s q a = record { is_open = a.is_open; young = a.young; spare = a.spare; fine = a.fine; shallow = ap (λ n. n == m.part.terms.depth) (sym (length-map m.part.waiting job_of_entry)) ∙ a.shallow }
+
+never_part : (m : Standing) (s : ℕ) (q : RequestMessage) → (AdmitsAt m s q → ⊥) → Admits m.part s q → ⊥
+never_part m s q never a = never (record { is_open = a.is_open; young = a.young; spare = a.spare; fine = a.fine; shallow = ap (λ n. n == m.part.terms.depth) (length-map m.part.waiting job_of_entry) ∙ a.shallow })
+
+-- ---- one that is refused
+module _ (A : Type 0) where
+  pub refused_went : (m m' : Standing) (s t : ℕ) (q : RequestMessage) (r : Result Arrived (NotArrivedAlone A)) → (AdmitsAt m s q → ⊥) → Arrives {A = A} m m' s t q r → Went {A = A} m m' (own.Arrive s t q) (arrived_said r)
+  refused_went m m' s t q (Ok (arrival.Accepted n tag)) never arrives = absurd (never arrives.0)
+  refused_went m m' s t q (Ok (arrival.Answered error)) never arrives = arrives.1
+  refused_went m m' s t q (Err e) never arrives = arrives.1
+
+  refused_step : (ms : List Standing) (now inflight e s t : ℕ) (q : RequestMessage) (m m' : Standing) (x : ArriveRefusalAlone) → e < length ms → m ≡ get_or ms e m → (AdmitsAt m s q → ⊥) → Went {A = A} m m' (own.Arrive s t q) (refusal_said x) → Stepped {A = A} (served_of ms now inflight) (Arrive e s t q) (served_of (set ms e m') now inflight) (arrive_says {A = A} (Err (record { refusal = refusal_here x; request = q })))
+  refused_step ms now inflight e s t q m m' arriving.NotOpen lt at never went = stepped_own ms now inflight e m m' (Arrive e s t q) (own.Arrive s t q) alone.NotOpen at went (step_refuses (parts ms) now inflight e s t q m.part Weight (within_parts ms e lt) (part_there ms e m lt at) (never_part m s q never))
+  refused_step ms now inflight e s t q m m' arriving.Worn lt at never went = stepped_own ms now inflight e m m' (Arrive e s t q) (own.Arrive s t q) alone.Worn at went (step_refuses (parts ms) now inflight e s t q m.part Weight (within_parts ms e lt) (part_there ms e m lt at) (never_part m s q never))
+  refused_step ms now inflight e s t q m m' arriving.Hold lt at never went = stepped_own ms now inflight e m m' (Arrive e s t q) (own.Arrive s t q) alone.Hold at went (step_refuses (parts ms) now inflight e s t q m.part Weight (within_parts ms e lt) (part_there ms e m lt at) (never_part m s q never))
+
+  pub stepped_refused : (ms : List Standing) (now inflight e s t : ℕ) (q : RequestMessage) (m m' : Standing) (r : Result Arrived (NotArrivedAlone A)) → e < length ms → m ≡ get_or ms e m → (AdmitsAt m s q → ⊥) → Arrives {A = A} m m' s t q r → Stepped {A = A} (served_of ms now inflight) (Arrive e s t q) (served_of (set ms e m') now inflight) (arrive_says {A = A} (arrived r))
+  stepped_refused ms now inflight e s t q m m' (Ok (arrival.Accepted n tag)) lt at never arrives = absurd (never arrives.0)
+  stepped_refused ms now inflight e s t q m m' (Ok (arrival.Answered error)) lt at never arrives = stepped_own ms now inflight e m m' (Arrive e s t q) (own.Arrive s t q) (alone.Answered error) at arrives.1 (step_refuses (parts ms) now inflight e s t q m.part Weight (within_parts ms e lt) (part_there ms e m lt at) (never_part m s q never))
+  stepped_refused ms now inflight e s t q m m' (Err x) lt at never arrives = refused_step ms now inflight e s t q m m' x.refusal lt at never arrives.1
+
+  pub kept_refused : (ms : List Standing) (slots : List (Option Tags)) (asked now inflight served e s t : ℕ) (q : RequestMessage) (m m' : Standing) (r : Result Arrived (NotArrivedAlone A)) → IsServed ms slots asked now inflight served → e < length ms → m ≡ get_or ms e m → (AdmitsAt m s q → ⊥) → Arrives {A = A} m m' s t q r → IsServed (set ms e m') slots asked now inflight served
+  kept_refused ms slots asked now inflight served e s t q m m' r kept lt at never arrives = kept_own {A = A} ms slots asked now inflight served e m m' (own.Arrive s t q) (arrived_said r) kept lt at (refused_went m m' s t q r never arrives)
+
+  pub seats_refused : (ms : List Standing) (e s t : ℕ) (q : RequestMessage) (m m' : Standing) (r : Result Arrived (NotArrivedAlone A)) → m ≡ get_or ms e m → (AdmitsAt m s q → ⊥) → Arrives {A = A} m m' s t q r → all_seats (set ms e m') ≡ all_seats ms
+  seats_refused ms e s t q m m' r at never arrives = same_seats ms e m m' at (ap (λ (x : Standing). x.seats) (refused_went m m' s t q r never arrives).standing)
+
+  pub absent_arrive : (ms : List Standing) (now inflight e s t : ℕ) (q : RequestMessage) → length ms ≤ e → Stepped {A = A} (served_of ms now inflight) (Arrive e s t q) (served_of ms now inflight) NoExport
+  absent_arrive ms now inflight e s t q le = record { stepped = no_arrive (parts ms) now inflight e s t q true (beyond ms e le); setup = refl }
+
+  -- the request is handed back
+  pub back_told : (r : Result Arrived (NotArrivedAlone A)) (said : Result Arrived (NotArrived A)) (q : RequestMessage) → IfErr r (λ e. e.request ≡ q) → said ≡ arrived r → IfErr said (λ e. e.request ≡ q)
+  back_told r said q back is = subst (λ (x : Result Arrived (NotArrived A)). IfErr x (λ e. e.request ≡ q)) (sym is) (by r back)
+    where
+      by : (r : Result Arrived (NotArrivedAlone A)) → IfErr r (λ e. e.request ≡ q) → IfErr (arrived r) (λ e. e.request ≡ q)
+      by (Ok x) back = tt
+      by (Err x) back = back
+
+-- ---- ranges
+pub part_range : (ms : List Standing) (slots : List (Option Tags)) (asked now inflight served e : ℕ) (m : Standing) → IsServed ms slots asked now inflight served → e < length ms → m ≡ get_or ms e m → TagsInRange m.part
+part_range ms slots asked now inflight served e m kept lt at = part_at TagsInRange (parts ms) e m.part (before_way (parts ms) slots asked now inflight served kept.server) (within_parts ms e lt) (part_there ms e m lt at)
+
+pub terms_short : (ms : List Standing) (slots : List (Option Tags)) (asked now inflight served e : ℕ) (m : Standing) → IsServed ms slots asked now inflight served → e < length ms → m ≡ get_or ms e m → AreShort m.part.terms
+terms_short ms slots asked now inflight served e m kept lt at =
+    let one : IsPart (total (parts ms)) m.part = part_at (IsPart (total (parts ms))) (parts ms) e m.part kept.server.each (within_parts ms e lt) (part_there ms e m lt at) in
+    one.terms
+
+fall_range : (total t : ℕ) (z : ℤ) → total ≤ 2 ^ 62 → t < 2 ^ 62 → Within 0 (total * 2 ^ 63) z → InRange (z -ℤ pos t)
+fall_range total t (pos n) few small h = record { in_range = let up = h.not_above in search (arith, ints) }
+fall_range total t (negsuc n) few small h = absurd (let down = h.not_below in omega (arith, ints))
+
+pub falls : (ms : List Standing) (slots : List (Option Tags)) (asked now inflight served t : ℕ) → IsServed ms slots asked now inflight served → t < 2 ^ 62 → IsFallInRange (least_first_p (parts ms)) (pos t)
+falls ms slots asked now inflight served t kept small = by (least_first_p (parts ms)) (least_within (total (parts ms)) 0 (parts ms) kept.server.each)
+  where
+    few : total (parts ms) ≤ 2 ^ 62
+    few = let n = kept.server.few in let s = total_small (total (parts ms)) (parts ms) kept.server.each in omega arith
+
+    by : (o : Option (ℤ × ℕ)) → IsKeyWithin (total (parts ms)) o → IsFallInRange o (pos t)
+    by None h = tt
+    by (Some a) h = fall_range (total (parts ms)) t a.0 few small h
+
+pub way_range : (ms : List Standing) (slots : List (Option Tags)) (asked now inflight served n t : ℕ) → IsServed ms slots asked now inflight served → t < 2 ^ 62 → AllParts TagsInRange (way_for n (pos t) (parts ms))
+way_range ms slots asked now inflight served n t kept small = after_way (parts ms) slots asked now inflight served n t kept.server small
+
+-- ---- once way is made
+shifted_idle : (d : ℤ) (m : Standing) → (length m.part.waiting == 0) ≡ true → shifted_standing d m ≡ m
+shifted_idle d m is = by m.part.waiting refl
+  where
+    by : (w : List Entry) → m.part.waiting ≡ w → shifted_standing d m ≡ m
+    by [] none =
+        ap (λ (b : Bool). record m { part = record m.part { waiting = map (entry_shifted d) m.part.waiting; last_p = cond b m.part.last_p (lowered d m.part.last_p) } }) is
+        ∙ ap (λ (l : List Entry). record m { part = record m.part { waiting = l } }) (ap (map (entry_shifted d)) none ∙ sym none)
+    by (x ∷ xs) some = absurd (let n = ap length some in grind (arith, nat_tests, is, n))
+
+pub member_same : (t : ℤ) (ms : List Standing) (e : ℕ) (m d : Standing) → e < length ms → m ≡ get_or ms e m → get_or (way_of (length m.part.waiting) t ms) e d ≡ m
+member_same t ms e m d lt at = by_test (length m.part.waiting == 0) refl
+  where
+    by_first : (o : Option (ℤ × ℕ)) → (length m.part.waiting == 0) ≡ true → get_or (lowered_to o t ms) e d ≡ m
+    by_first None is = get_or_default ms e d m lt ∙ sym at
+    by_first (Some a) is = get_or-map (shifted_standing (a.0 -ℤ t)) ms e m d lt ∙ ap (shifted_standing (a.0 -ℤ t)) (sym at) ∙ shifted_idle (a.0 -ℤ t) m is
+
+    by_test : (b : Bool) → (length m.part.waiting == 0) ≡ b → get_or (cond b (lowered_to (least_first_p (parts ms)) t ms) ms) e d ≡ m
+    by_test true is = by_first (least_first_p (parts ms)) is
+    by_test false is = get_or_default ms e d m lt ∙ sym at
+
+-- the member that is found after the way is the one before it
+pub found_same : (t n : ℕ) (ms way : List Standing) (e : ℕ) (m d : Standing) → e < length ms → m ≡ get_or ms e m → n ≡ length m.part.waiting → way ≡ way_of n (pos t) ms → d ≡ get_or way e d → d ≡ m
+found_same t n ms way e m d lt at is way_is there =
+    there ∙ ap (λ (l : List Standing). get_or l e d) (way_is ∙ ap (λ k. way_of k (pos t) ms) is) ∙ member_same (pos t) ms e m d lt at
+
+same_by : {X : Type 0} (f : List Standing → X) → ((d : ℤ) (ms : List Standing) → f (map (shifted_standing d) ms) ≡ f ms) → (n : ℕ) (t : ℤ) (ms : List Standing) → f (way_of n t ms) ≡ f ms
+same_by f same n t ms = by_test (n == 0) (least_first_p (parts ms))
+  where
+    by_test : (b : Bool) (o : Option (ℤ × ℕ)) → f (cond b (lowered_to o t ms) ms) ≡ f ms
+    by_test false o = refl
+    by_test true None = refl
+    by_test true (Some a) = same (a.0 -ℤ t) ms
+
+terms_shifted : (d : ℤ) (ms : List Standing) → map (λ (p : Part). p.terms) (parts (map (shifted_standing d) ms)) ≡ map (λ (p : Part). p.terms) (parts ms)
+terms_shifted d [] = refl
+terms_shifted d (m ∷ ms) = ap (λ l. m.part.terms ∷ l) (terms_shifted d ms)
+
+seats_shifted : (d : ℤ) (ms : List Standing) → all_seats (map (shifted_standing d) ms) ≡ all_seats ms
+seats_shifted d [] = refl
+seats_shifted d (m ∷ ms) = ap (λ l. m.seats ∷ l) (seats_shifted d ms)
+
+
+pub length_way : (n : ℕ) (t : ℤ) (ms : List Standing) → length (way_of n t ms) ≡ length ms
+length_way n t ms = same_by length (λ d l. length-map l (shifted_standing d)) n t ms
+
+room_shifted : (inflight : ℕ) (d : ℤ) (ms : List Standing) → AllMembers (λ m. m.inflight ≡ inflight) ms → AllMembers (λ m. m.inflight ≡ inflight) (map (shifted_standing d) ms)
+room_shifted inflight d [] h = tt
+room_shifted inflight d (m ∷ ms) h = (h.0, room_shifted inflight d ms h.1)
+
+room_way : (inflight n : ℕ) (t : ℤ) (ms : List Standing) → AllMembers (λ m. m.inflight ≡ inflight) ms → AllMembers (λ m. m.inflight ≡ inflight) (way_of n t ms)
+room_way inflight n t ms h = by_test (n == 0) (least_first_p (parts ms))
+  where
+    by_test : (b : Bool) (o : Option (ℤ × ℕ)) → AllMembers (λ m. m.inflight ≡ inflight) (cond b (lowered_to o t ms) ms)
+    by_test false o = h
+    by_test true None = h
+    by_test true (Some a) = room_shifted inflight (a.0 -ℤ t) ms h
+
+-- ---- one that is accepted
+module _ (A : Type 0) where
+  pub accepted_at : (m m' : Standing) (s t : ℕ) (q : RequestMessage) (r : Result Arrived (NotArrivedAlone A)) → AdmitsAt m s q → Arrives {A = A} m m' s t q r → m' ≡ accepted_standing s t q m
+  accepted_at m m' s t q (Ok (arrival.Accepted n tag)) a arrives = arrives.1
+  accepted_at m m' s t q (Ok (arrival.Answered error)) a arrives = absurd (arrives.0 a)
+  accepted_at m m' s t q (Err e) a arrives = absurd (arrives.0 a)
+
+  accepted_told : (m m' : Standing) (s t : ℕ) (q : RequestMessage) (r : Result Arrived (NotArrivedAlone A)) → AdmitsAt m s q → Arrives {A = A} m m' s t q r → Accepted m.part.next (part_tags m.part t).l ≡ arrive_says {A = A} (arrived r)
+  accepted_told m m' s t q (Ok (arrival.Accepted n tag)) a arrives = ap (λ k. Accepted k (part_tags m.part t).l) (sym arrives.2) ∙ ap (λ l. Accepted n l) (sym arrives.3)
+  accepted_told m m' s t q (Ok (arrival.Answered error)) a arrives = absurd (arrives.0 a)
+  accepted_told m m' s t q (Err e) a arrives = absurd (arrives.0 a)
+
+  pub stepped_accepted : (ms : List Standing) (slots : List (Option Tags)) (asked now inflight served e s t : ℕ) (q : RequestMessage) (m m' : Standing) (r : Result Arrived (NotArrivedAlone A)) → IsServed ms slots asked now inflight served → e < length ms → m ≡ get_or ms e m → AdmitsAt m s q → Arrives {A = A} m m' s t q r → Stepped {A = A} (served_of ms now inflight) (Arrive e s t q) (served_of (set (way_of (length m.part.waiting) (pos t) ms) e m') now inflight) (arrive_says {A = A} (arrived r))
+  stepped_accepted ms slots asked now inflight served e s t q m m' r kept lt at a arrives =
+      let order = in_order (total (parts ms)) (parts ms) kept.server.each in
+      let way = way_of (length m.part.waiting) (pos t) ms in
+      let after = accepted_part s q (part_tags m.part t) m.part in
+      let is : m' ≡ accepted_standing s t q m = accepted_at m m' s t q r a arrives in
+      let l : set (way_for (length m.part.waiting) (pos t) (parts ms)) e after ≡ parts (set way e m') =
+          ap (λ (ps : List Part). set ps e after) (sym (parts_way (length m.part.waiting) (pos t) ms)) ∙ ap (λ (x : Standing). set (parts way) e x.part) (sym is) ∙ sym (parts_set way e m') in
+      let there : m ≡ get_or way e m = sym (member_same (pos t) ms e m m lt at) in
+      subst (Stepped {A = A} (served_of ms now inflight) (Arrive e s t q) (served_of (set way e m') now inflight)) (accepted_told m m' s t q r a arrives)
+      (record {
+        stepped = step_accepts (parts ms) now inflight e s t q m.part order.0 order.1 (within_parts ms e lt) (part_there ms e m lt at) (admits_part m s q a)
+            ∙ ap (λ (ps : List Part). outcome {A = A} (table_of ps now) (Accepted m.part.next (part_tags m.part t).l)) l;
+        setup = ap (λ l. record { exports = l; inflight = inflight }) (same_setup way e m m' there (ap (λ (x : Standing). x.part.terms) is) ∙ same_by (λ (l : List Standing). map (λ (p : Part). p.terms) (parts l)) terms_shifted (length m.part.waiting) (pos t) ms);
+      })
+
+  pub kept_accepted : (ms : List Standing) (slots slots' : List (Option Tags)) (asked asked' now inflight served e s t : ℕ) (q : RequestMessage) (m m' : Standing) (r : Result Arrived (NotArrivedAlone A)) → IsServed ms slots asked now inflight served → e < length ms → m ≡ get_or ms e m → AdmitsAt m s q → Arrives {A = A} m m' s t q r → t < 2 ^ 62 → slots' ≡ set (heads (parts (way_of (length m.part.waiting) (pos t) ms))) e (head_tags m'.part.waiting) → asked' ≤ now → IsServed (set (way_of (length m.part.waiting) (pos t) ms) e m') slots' asked' now inflight served
+  kept_accepted ms slots slots' asked asked' now inflight served e s t q m m' r kept lt at a arrives small firsts le =
+      let way = way_of (length m.part.waiting) (pos t) ms in
+      let after = accepted_part s q (part_tags m.part t) m.part in
+      let is : m' ≡ accepted_standing s t q m = accepted_at m m' s t q r a arrives in
+      let l : set (way_for (length m.part.waiting) (pos t) (parts ms)) e after ≡ parts (set way e m') =
+          ap (λ (ps : List Part). set ps e after) (sym (parts_way (length m.part.waiting) (pos t) ms)) ∙ ap (λ (x : Standing). set (parts way) e x.part) (sym is) ∙ sym (parts_set way e m') in
+      let f : slots' ≡ set (heads (way_for (length m.part.waiting) (pos t) (parts ms))) e (head_tags after.waiting) =
+          firsts ∙ ap (λ (ps : List Part). set (heads ps) e (head_tags m'.part.waiting)) (parts_way (length m.part.waiting) (pos t) ms) ∙ ap (λ (x : Standing). set (heads (way_for (length m.part.waiting) (pos t) (parts ms))) e (head_tags x.part.waiting)) is in
+      record {
+        server = subst (λ (ps : List Part). IsServer ps slots' asked' now inflight served) l
+            (kept_arrived (parts ms) slots slots' asked asked' now inflight served e s t q m.part kept.server (within_parts ms e lt) (part_there ms e m lt at) (admits_part m s q a) small f le);
+        room = members_set (λ (x : Standing). x.inflight ≡ inflight) way e m' (room_way inflight (length m.part.waiting) (pos t) ms kept.room) (ap (λ (x : Standing). x.inflight) is ∙ member_at (λ (x : Standing). x.inflight ≡ inflight) ms e m kept.room lt at);
+      }
+
+  pub first_in_range : (ms : List Standing) (slots : List (Option Tags)) (asked now inflight served e s t : ℕ) (q : RequestMessage) (m m' : Standing) (r : Result Arrived (NotArrivedAlone A)) → IsServed ms slots asked now inflight served → e < length ms → m ≡ get_or ms e m → AdmitsAt m s q → Arrives {A = A} m m' s t q r → t < 2 ^ 62 → IsSlotInRange (head_tags m'.part.waiting)
+  first_in_range ms slots asked now inflight served e s t q m m' r kept lt at a arrives small =
+      subst (λ (x : Standing). IsSlotInRange (head_tags x.part.waiting)) (sym (accepted_at m m' s t q r a arrives))
+      (new_in_range (parts ms) slots asked now inflight served e s t q m.part kept.server (within_parts ms e lt) (part_there ms e m lt at) (admits_part m s q a) small)
+
+  pub seats_accepted : (ms : List Standing) (e s t : ℕ) (q : RequestMessage) (m m' : Standing) (r : Result Arrived (NotArrivedAlone A)) → e < length ms → m ≡ get_or ms e m → AdmitsAt m s q → Arrives {A = A} m m' s t q r → all_seats (set (way_of (length m.part.waiting) (pos t) ms) e m') ≡ all_seats ms
+  seats_accepted ms e s t q m m' r lt at a arrives =
+      same_seats (way_of (length m.part.waiting) (pos t) ms) e m m' (sym (member_same (pos t) ms e m m lt at)) (ap (λ (x : Standing). x.seats) (accepted_at m m' s t q r a arrives))
+      ∙ same_by all_seats seats_shifted (length m.part.waiting) (pos t) ms
+
+  -- where one waited, the first request is the same
+  pub same_first : (m m' : Standing) (s t : ℕ) (q : RequestMessage) (r : Result Arrived (NotArrivedAlone A)) (was first : Option Tags) → AdmitsAt m s q → Arrives {A = A} m m' s t q r → was ≡ head_tags m.part.waiting → first ≡ head_tags m'.part.waiting → IfSome was (λ tags. first ≡ Some tags)
+  same_first m m' s t q r was first a arrives was_is first_is =
+      subst (λ (o : Option Tags). IfSome o (λ tags. first ≡ Some tags)) (sym was_is)
+      (subst (λ (o : Option Tags). IfSome (head_tags m.part.waiting) (λ tags. o ≡ Some tags)) (sym (first_is ∙ ap (λ (x : Standing). head_tags x.part.waiting) (accepted_at m m' s t q r a arrives)))
+      (by m.part.waiting))
+    where
+      by : (w : List Entry) → IfSome (head_tags w) (λ tags. head_tags (w ++ record { number = m.part.next; session = s; request = q; tags = part_tags m.part t } ∷ []) ≡ Some tags)
+      by [] = tt
+      by (x ∷ xs) = refl
+
+pub slot_was : (t n : ℕ) (ms way : List Standing) (slots : List (Option Tags)) (e : ℕ) (m : Standing) (was : Option Tags) → e < length ms → m ≡ get_or ms e m → n ≡ length m.part.waiting → way ≡ way_of n (pos t) ms → slots ≡ heads (parts way) → was ≡ head_tags m.part.waiting → slice_get slots e ≡ Some was
+slot_was t n ms way slots e m was lt at is way_is slots_is was_is =
+    let within : e < length way = subst (λ k. e < k) (sym (ap length way_is ∙ length_way n (pos t) ms)) lt in
+    let there : m ≡ get_or way e m = sym (member_same (pos t) ms e m m lt at) ∙ ap (λ k. get_or (way_of k (pos t) ms) e m) (sym is) ∙ ap (λ (l : List Standing). get_or l e m) (sym way_is) in
+    ap (λ l. slice_get l e) slots_is
+    ∙ slice_get-get_or (heads (parts way)) e was (subst (λ k. e < k) (sym (length-map (parts way) (λ (p : Part). head_tags p.waiting))) (within_parts way e within))
+    ∙ ap Some (get_or-map (λ (p : Part). head_tags p.waiting) (parts way) e m.part was (within_parts way e within) ∙ ap (λ (p : Part). head_tags p.waiting) (sym (part_there way e m within there)) ∙ sym was_is)
+
+-- the export that is read twice is the same
+pub same_read : (ms : List Standing) (e : ℕ) (m d : Standing) → e < length ms → m ≡ get_or ms e m → d ≡ get_or ms e d → d ≡ m
+same_read ms e m d lt at there = there ∙ get_or_default ms e d m lt ∙ sym at
+
+pub few_members : (ms : List Standing) (slots : List (Option Tags)) (asked now inflight served : ℕ) → IsServed ms slots asked now inflight served → length ms ≤ 64
+few_members ms slots asked now inflight served kept = subst (λ n. n ≤ 64) (length-map ms (λ (m : Standing). m.part)) kept.server.few

@@ -1,0 +1,123 @@
+-- A dispatch, over the exports of a server.
+use Rattle.std.proofs.Common.{◌≡◌, ℕ, zero, suc, ◌+◌, ◌<◌, ◌≤◌, max, Bool, true, false, Option, Some, None, List, [], ◌∷◌, ◌++◌, map, length, set, get_or, refl, sym, ◌∙◌, ap, subst, arith}
+use Rattle.std.specs.Prelude.{pos, slice_get}
+use Rattle.nbd_base.specs.Words.{change_at}
+use Rattle.tag_clock.specs.declared.Tags.{Tags}
+use Rattle.tag_clock.specs.declared.Phase.{Phase}
+use Rattle.tag_clock.specs.declared.Phase.TheVariants.{Reservation, Weight}
+use Rattle.eligibility.specs.Choice.{choice, IsActive, IsSlotInRange}
+use Rattle.server_table.specs.declared.event.Event.TheVariants.{Dispatch}
+use Rattle.server_table.specs.declared.event.Answer.TheVariants.{Picked, Nothing}
+use Rattle.server_table.specs.Parts.{Entry, Part, table_of, setup_of}
+use Rattle.server_table.specs.Order.{AllParts, IsNumbered, head_tags, heads}
+use Rattle.server_table.specs.Picks.{part_sent, part_credited, part_picked}
+use Rattle.server_table.specs.Steps.{Outcome, outcome}
+use Rattle.server_table.proofs.Dispatch.{Chosen, step_full, step_none, step_chosen}
+use Rattle.server_core.specs.Kept.{IsPart, IsServer, TagsInRange, total}
+use Rattle.server_core.specs.Members.{Standing, Seat, slot_in, first_number, picked_standing, Picks}
+use Rattle.server_core.specs.Served.{Served, parts, served_of, AllMembers, IsServed, Stepped}
+use Rattle.server_core.proofs.Entries.{part_at}
+use Rattle.server_core.proofs.Picked.{head_in_range}
+use Rattle.server_core.proofs.Changed.{in_order, kept_picked, pick_in_range, some_waits, present_head, few_out}
+use Rattle.server_core.proofs.Served.{part_there, within_parts, parts_set, same_setup, members_set, member_at}
+use Rattle.std.proofs.lemmas.List.{length-map, length-set, get_or-set_same}
+use Rattle.server_core.proofs.Performed.{all_seats, seats_change, seats_there}
+
+picked_terms : (phase : Phase) (p : Part) → (part_picked phase p).terms ≡ p.terms
+picked_terms Reservation p = refl
+picked_terms Weight p = by_interval p.terms.r_interval
+  where
+    by_interval : (o : Option ℕ) → (part_credited o (part_sent p)).terms ≡ p.terms
+    by_interval None = refl
+    by_interval (Some interval) = refl
+
+-- a later moment alone
+pub kept_later : (ms : List Standing) (slots slots' : List (Option Tags)) (asked asked' now now' inflight served : ℕ) → IsServed ms slots asked now inflight served → slots' ≡ slots → asked' ≤ now' → IsServed ms slots' asked' now' inflight served
+kept_later ms slots slots' asked asked' now now' inflight served kept same le =
+    let s = kept.server in
+    record {
+      server = record { few = s.few; firsts = same ∙ s.firsts; not_later = le; counted = s.counted; within = s.within; each = s.each };
+      room = kept.room;
+    }
+
+pub asked_before : (ms : List Standing) (slots : List (Option Tags)) (asked now t inflight served : ℕ) → IsServed ms slots asked now inflight served → asked ≤ max now t
+asked_before ms slots asked now t inflight served kept = let le = kept.server.not_later in omega arith
+
+module _ (A : Type 0) where
+  pub stepped_full : (ms : List Standing) (slots : List (Option Tags)) (asked now t inflight served : ℕ) → IsServed ms slots asked now inflight served → inflight ≤ served → Stepped {A = A} (served_of ms now inflight) (Dispatch t) (served_of ms (max now t) inflight) Nothing
+  stepped_full ms slots asked now t inflight served kept full = record { stepped = step_full (parts ms) now inflight t true (let c = kept.server.counted in omega arith); setup = refl }
+
+  pub stepped_none : (ms : List Standing) (slots : List (Option Tags)) (asked now t inflight served : ℕ) → IsServed ms slots asked now inflight served → choice (pos (max now t)) slots ≡ None → Stepped {A = A} (served_of ms now inflight) (Dispatch t) (served_of ms (max now t) inflight) Nothing
+  stepped_none ms slots asked now t inflight served kept none =
+      let order = in_order (total (parts ms)) (parts ms) kept.server.each in
+      record { stepped = step_none (parts ms) now inflight t true order.0 order.1 (ap (choice (pos (max now t))) (sym kept.server.firsts) ∙ none); setup = refl }
+
+  pub chosen : (ms : List Standing) (slots : List (Option Tags)) (asked now t inflight served e : ℕ) (phase : Phase) → IsServed ms slots asked now inflight served → served < inflight → choice (pos (max now t)) slots ≡ Some (e, phase) → Chosen A (parts ms) now inflight t e phase
+  chosen ms slots asked now t inflight served e phase kept free is =
+      let order = in_order (total (parts ms)) (parts ms) kept.server.each in
+      step_chosen (parts ms) now inflight t e phase order.0 order.1 (let c = kept.server.counted in omega arith) (ap (choice (pos (max now t))) (sym kept.server.firsts) ∙ is)
+
+  pub chosen_within : (ms : List Standing) (now t inflight e : ℕ) (phase : Phase) → Chosen A (parts ms) now inflight t e phase → e < length ms
+  chosen_within ms now t inflight e phase ch = subst (λ n. e < n) (length-map ms (λ (x : Standing). x.part)) ch.within
+
+  -- what the pick asks
+  pub pick_waiting : (ms : List Standing) (now t inflight e : ℕ) (phase : Phase) (m : Standing) → Chosen A (parts ms) now inflight t e phase → e < length ms → m ≡ get_or ms e m → 0 < length m.part.waiting
+  pick_waiting ms now t inflight e phase m ch lt at = some_waits (parts ms) now t inflight e phase m.part ch (part_there ms e m lt at)
+
+  pub pick_range : (ms : List Standing) (slots : List (Option Tags)) (asked now t inflight served e : ℕ) (phase : Phase) (m : Standing) → IsServed ms slots asked now inflight served → Chosen A (parts ms) now inflight t e phase → e < length ms → m ≡ get_or ms e m → TagsInRange (part_picked phase m.part)
+  pick_range ms slots asked now t inflight served e phase m kept ch lt at = pick_in_range (parts ms) slots asked now t inflight served e phase m.part kept.server ch (part_there ms e m lt at)
+
+  -- what the call leaves
+  pub active : (ms : List Standing) (slots : List (Option Tags)) (asked now t inflight served e : ℕ) (phase : Phase) → IsServed ms slots asked now inflight served → Chosen A (parts ms) now inflight t e phase → IsActive slots e
+  active ms slots asked now t inflight served e phase kept ch = present_head (parts ms) slots asked now t inflight served e phase kept.server ch
+
+  pub first_range : (ms : List Standing) (slots : List (Option Tags)) (asked now t inflight served e : ℕ) (phase : Phase) (m m' : Standing) (seat : Seat) → IsServed ms slots asked now inflight served → Chosen A (parts ms) now inflight t e phase → e < length ms → m ≡ get_or ms e m → Picks m m' phase seat → IsSlotInRange (head_tags m'.part.waiting)
+  first_range ms slots asked now t inflight served e phase m m' seat kept ch lt at picks =
+      let q : m'.part ≡ part_picked phase m.part = ap (λ (x : Standing). x.part) picks.standing in
+      subst (λ (p : Part). IsSlotInRange (head_tags p.waiting)) (sym q) (head_in_range (part_picked phase m.part) (pick_range ms slots asked now t inflight served e phase m kept ch lt at))
+
+  pub kept_chosen : (ms : List Standing) (slots : List (Option Tags)) (asked asked' now now' t inflight served e : ℕ) (phase : Phase) (m m' : Standing) (seat : Seat) → IsServed ms slots asked now inflight served → served < inflight → Chosen A (parts ms) now inflight t e phase → e < length ms → m ≡ get_or ms e m → Picks m m' phase seat → asked' ≤ now' → IsServed (set ms e m') (set slots e (head_tags m'.part.waiting)) asked' now' inflight (served + 1)
+  kept_chosen ms slots asked asked' now now' t inflight served e phase m m' seat kept free ch lt at picks le =
+      let q : m'.part ≡ part_picked phase m.part = ap (λ (x : Standing). x.part) picks.standing in
+      let r : m'.inflight ≡ m.inflight = ap (λ (x : Standing). x.inflight) picks.standing in
+      record {
+        server = subst (λ (l : List Part). IsServer l (set slots e (head_tags m'.part.waiting)) asked' now' inflight (served + 1)) (ap (set (parts ms) e) (sym q) ∙ sym (parts_set ms e m'))
+            (subst (λ (p : Part). IsServer (set (parts ms) e (part_picked phase m.part)) (set slots e (head_tags p.waiting)) asked' now' inflight (served + 1)) (sym q)
+            (kept_picked (parts ms) slots asked asked' now now' t inflight served e phase m.part kept.server free ch (part_there ms e m lt at) le));
+        room = members_set (λ (x : Standing). x.inflight ≡ inflight) ms e m' kept.room (r ∙ member_at (λ (x : Standing). x.inflight ≡ inflight) ms e m kept.room lt at);
+      }
+
+  pub stepped_picked : (ms : List Standing) (now t inflight e : ℕ) (phase : Phase) (m m' : Standing) (seat : Seat) → Chosen A (parts ms) now inflight t e phase → e < length ms → m ≡ get_or ms e m → Picks m m' phase seat → Stepped {A = A} (served_of ms now inflight) (Dispatch t) (served_of (set ms e m') (max now t) inflight) (Picked e seat.number phase)
+  stepped_picked ms now t inflight e phase m m' seat ch lt at picks =
+      let q : m'.part ≡ part_picked phase m.part = ap (λ (x : Standing). x.part) picks.standing in
+      let there = part_there ms e m lt at in
+      let waiting : m.part.waiting ≡ ch.head ∷ ch.rest = ap (λ (p : Part). p.waiting) there ∙ ch.waiting m.part in
+      let same : ch.head.number ≡ seat.number = some_same ch.head.number seat.number (ap first_number (sym waiting) ∙ picks.number) in
+      record {
+        stepped = ch.stepped m.part true there
+            ∙ ap (λ (z : Part). outcome {A = A} (table_of (set (parts ms) e z) (max now t)) (Picked e ch.head.number phase)) (sym q)
+            ∙ ap (λ (l : List Part). outcome {A = A} (table_of l (max now t)) (Picked e ch.head.number phase)) (sym (parts_set ms e m'))
+            ∙ ap (λ n. outcome {A = A} (table_of (parts (set ms e m')) (max now t)) (Picked e n phase)) same;
+        setup = ap (λ l. record { exports = l; inflight = inflight }) (same_setup ms e m m' at (ap (λ (p : Part). p.terms) q ∙ picked_terms phase m.part));
+      }
+    where
+      some_same : {X : Type 0} (a b : X) → Some a ≡ Some b → a ≡ b
+      some_same a b e = cc
+
+pub pick_room : (ms : List Standing) (slots : List (Option Tags)) (asked now inflight served e : ℕ) (m : Standing) → IsServed ms slots asked now inflight served → served < inflight → e < length ms → m ≡ get_or ms e m → length m.part.out < m.inflight
+pick_room ms slots asked now inflight served e m kept free lt at =
+    let room = member_at (λ (x : Standing). x.inflight ≡ inflight) ms e m kept.room lt at in
+    subst (λ n. length m.part.out < n) (sym room) (few_out (parts ms) slots asked now inflight served e m.part kept.server free (within_parts ms e lt) (part_there ms e m lt at))
+
+pub pick_numbered : (ms : List Standing) (slots : List (Option Tags)) (asked now inflight served e : ℕ) (m : Standing) → IsServed ms slots asked now inflight served → e < length ms → m ≡ get_or ms e m → IsNumbered (m.part.out ++ m.part.waiting)
+pick_numbered ms slots asked now inflight served e m kept lt at =
+    let one : IsPart (total (parts ms)) m.part = part_at (IsPart (total (parts ms))) (parts ms) e m.part kept.server.each (within_parts ms e lt) (part_there ms e m lt at) in
+    one.numbered
+
+-- ---- seats
+pub seats_picked : (ms : List Standing) (e : ℕ) (phase : Phase) (m m' : Standing) (seat : Seat) → m ≡ get_or ms e m → Picks m m' phase seat → all_seats (set ms e m') ≡ change_at (λ (these : List Seat). these ++ seat ∷ []) e (all_seats ms)
+seats_picked ms e phase m m' seat at picks = seats_change (λ (these : List Seat). these ++ seat ∷ []) ms e m m' at (ap (λ (x : Standing). x.seats) picks.standing)
+
+pub held_picked : (ms : List Standing) (e : ℕ) (phase : Phase) (m m' : Standing) (seat : Seat) → e < length ms → Picks m m' phase seat → slot_in (get_or (all_seats (set ms e m')) e []) seat.number ≡ Some seat.slot
+held_picked ms e phase m m' seat lt picks =
+    ap (λ (l : List Seat). slot_in l seat.number) (seats_there (set ms e m') e m' (subst (λ n. e < n) (sym (length-set ms e m')) lt) (sym (get_or-set_same ms e m' m' lt))) ∙ picks.held

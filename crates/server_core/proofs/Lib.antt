@@ -1,0 +1,17 @@
+pub mod Entries
+pub mod Bounds
+pub mod Picked
+pub mod Came
+pub mod Fallen
+pub mod Changed
+pub mod Members
+pub mod Served
+pub mod Opened
+pub mod Done
+pub mod Performed
+pub mod Picking
+pub mod Dispatched
+pub mod Arriving
+pub mod Shifting
+pub mod Ways
+pub mod Accepting

@@ -1,0 +1,437 @@
+use Rattle.std.proofs.Common.{ℕ, ◌≡◌, ◌<◌, ◌≤◌, ◌^◌, true, false, length, set, get_or, Option, Some, Result, List, refl, sym, ◌∙◌, ap, subst, arith, rules}
+use Rattle.std.specs.Prelude.{pos, IfSome, IfErr}
+use Rattle.tag_clock.specs.declared.Tags.{Tags}
+use Rattle.eligibility.specs.Choice.{IsSlotInRange}
+use Rattle.server_table.specs.declared.event.Event.TheVariants.{Arrive}
+use Rattle.server_table.specs.declared.event.Answer.TheVariants.{NoExport}
+use Rattle.server_table.specs.Parts.{Part}
+use Rattle.server_table.specs.Order.{AllParts, head_tags, heads}
+use Rattle.server_table.specs.Ways.{least_first_p, way_for}
+use Rattle.server_core.specs.Kept.{AreShort, TagsInRange}
+use Rattle.server_core.specs.Members.{Standing, AdmitsAt, Arrives}
+use Rattle.server_core.specs.Served.{Served, parts, served_of, Stepped, IsServed, arrive_says}
+use Rattle.server_core.specs.Here.{arrived as told_arrived}
+use Rattle.server_core.specs.Way.{way_of}
+use Rattle.server_core.proofs.Changed.{before_way}
+use Rattle.server_core.proofs.Performed.{all_seats}
+use Rattle.server_core.proofs.Accepting.{absent_arrive, same_read, few_members, part_range, terms_short, stepped_refused, kept_refused, seats_refused, back_told, falls, way_range, found_same, length_way, slot_was, same_first, accepted_at, first_in_range, kept_accepted, stepped_accepted, seats_accepted}
+use Rattle.server_core.proofs.server.Server.arrive.Goals as goal
+
+pub returns-then-session-len-clause-step : goal.returns-then-session-len-clause-step
+returns-then-session-len-clause-step g c =
+    let i = c.self.inside in
+    let A = g.row.I-Alloc.Denot in
+    let ms = i.members.items in
+    let slots = g.E.Eligibility.contents i.eligible in
+    let asked = g.E.Eligibility.asked i.eligible in
+    let e = c.args.session.export in
+    let s = c.args.session.number in
+    let t = c.args.moment in
+    let q = c.args.request in
+    let le : length ms ≤ e = search rules in
+    subst (λ (v : Served). Stepped {A = A} v (Arrive e s t q) v NoExport) c.self.view_is (absent_arrive A ms i.latest i.inflight e s t q le)
+
+pub arrive-requires-clause-in_range : goal.arrive-requires-clause-in_range
+arrive-requires-clause-in_range g c =
+    let i = c.self.inside in
+    let A = g.row.I-Alloc.Denot in
+    let ms = i.members.items in
+    let slots = g.E.Eligibility.contents i.eligible in
+    let asked = g.E.Eligibility.asked i.eligible in
+    let e = c.args.session.export in
+    let s = c.args.session.number in
+    let t = c.args.moment in
+    let q = c.args.request in
+    let lt : e < length ms = search rules in
+    let m = c.index-member.result.now in
+    let at = c.index-member.ensures in
+    let d = c.index_mut-member.result.now in
+    let d_at = c.index_mut-member.ensures.value in
+    let d_is : d ≡ m = same_read ms e m d lt at d_at in
+    part_range ms slots asked i.latest i.inflight i.served e d c.self.invariant lt d_at
+
+pub arrive-requires-clause-short : goal.arrive-requires-clause-short
+arrive-requires-clause-short g c =
+    let i = c.self.inside in
+    let A = g.row.I-Alloc.Denot in
+    let ms = i.members.items in
+    let slots = g.E.Eligibility.contents i.eligible in
+    let asked = g.E.Eligibility.asked i.eligible in
+    let e = c.args.session.export in
+    let s = c.args.session.number in
+    let t = c.args.moment in
+    let q = c.args.request in
+    let lt : e < length ms = search rules in
+    let m = c.index-member.result.now in
+    let at = c.index-member.ensures in
+    let d = c.index_mut-member.result.now in
+    let d_at = c.index_mut-member.ensures.value in
+    let d_is : d ≡ m = same_read ms e m d lt at d_at in
+    terms_short ms slots asked i.latest i.inflight i.served e d c.self.invariant lt d_at
+
+pub invariant_of-self : goal.invariant_of-self
+invariant_of-self g c =
+    let i = c.self.inside in
+    let A = g.row.I-Alloc.Denot in
+    let ms = i.members.items in
+    let slots = g.E.Eligibility.contents i.eligible in
+    let asked = g.E.Eligibility.asked i.eligible in
+    let e = c.args.session.export in
+    let s = c.args.session.number in
+    let t = c.args.moment in
+    let q = c.args.request in
+    let lt : e < length ms = search rules in
+    let m = c.index-member.result.now in
+    let at = c.index-member.ensures in
+    let d = c.index_mut-member.result.now in
+    let d_at = c.index_mut-member.ensures.value in
+    let d_is : d ≡ m = same_read ms e m d lt at d_at in
+    let never : AdmitsAt d s q → ⊥ = λ a. let told : c.admits.result ≡ true = c.admits.ensures.1 (subst (λ (x : Standing). AdmitsAt x s q) d_is a) in let other = c.if-not-admits.true in absurd (cc) in
+    let m' = c.arrive.new.self in
+    let r = c.arrive.result in
+    kept_refused A ms slots asked i.latest i.inflight i.served e s t q d m' r c.self.invariant lt d_at never c.arrive.ensures.arrives
+
+pub returns-then-not-admits-clause-step : goal.returns-then-not-admits-clause-step
+returns-then-not-admits-clause-step g c =
+    let i = c.self.inside in
+    let A = g.row.I-Alloc.Denot in
+    let ms = i.members.items in
+    let slots = g.E.Eligibility.contents i.eligible in
+    let asked = g.E.Eligibility.asked i.eligible in
+    let e = c.args.session.export in
+    let s = c.args.session.number in
+    let t = c.args.moment in
+    let q = c.args.request in
+    let lt : e < length ms = search rules in
+    let m = c.index-member.result.now in
+    let at = c.index-member.ensures in
+    let d = c.index_mut-member.result.now in
+    let d_at = c.index_mut-member.ensures.value in
+    let d_is : d ≡ m = same_read ms e m d lt at d_at in
+    let never : AdmitsAt d s q → ⊥ = λ a. let told : c.admits.result ≡ true = c.admits.ensures.1 (subst (λ (x : Standing). AdmitsAt x s q) d_is a) in let other = c.if-not-admits.true in absurd (cc) in
+    let m' = c.arrive.new.self in
+    let r = c.arrive.result in
+    let one = stepped_refused A ms i.latest i.inflight e s t q d m' r lt d_at never c.arrive.ensures.arrives in
+    let two = subst (λ x. Stepped {A = A} (served_of ms i.latest i.inflight) (Arrive e s t q) (served_of (set ms e m') i.latest i.inflight) (arrive_says {A = A} x)) (sym c.arrived.ensures) one in
+    subst (λ (v : Served). Stepped {A = A} v (Arrive e s t q) (served_of (set ms e m') i.latest i.inflight) (arrive_says {A = A} c.arrived.result)) c.self.view_is two
+
+pub returns-then-not-admits-clause-seats : goal.returns-then-not-admits-clause-seats
+returns-then-not-admits-clause-seats g c =
+    let i = c.self.inside in
+    let A = g.row.I-Alloc.Denot in
+    let ms = i.members.items in
+    let slots = g.E.Eligibility.contents i.eligible in
+    let asked = g.E.Eligibility.asked i.eligible in
+    let e = c.args.session.export in
+    let s = c.args.session.number in
+    let t = c.args.moment in
+    let q = c.args.request in
+    let lt : e < length ms = search rules in
+    let m = c.index-member.result.now in
+    let at = c.index-member.ensures in
+    let d = c.index_mut-member.result.now in
+    let d_at = c.index_mut-member.ensures.value in
+    let d_is : d ≡ m = same_read ms e m d lt at d_at in
+    let never : AdmitsAt d s q → ⊥ = λ a. let told : c.admits.result ≡ true = c.admits.ensures.1 (subst (λ (x : Standing). AdmitsAt x s q) d_is a) in let other = c.if-not-admits.true in absurd (cc) in
+    let m' = c.arrive.new.self in
+    let r = c.arrive.result in
+    seats_refused A ms e s t q d m' r d_at never c.arrive.ensures.arrives ∙ ap (λ (v : Served). v.seats) c.self.view_is
+
+pub returns-then-not-admits-clause-back : goal.returns-then-not-admits-clause-back
+returns-then-not-admits-clause-back g c =
+    let i = c.self.inside in
+    let A = g.row.I-Alloc.Denot in
+    let ms = i.members.items in
+    let slots = g.E.Eligibility.contents i.eligible in
+    let asked = g.E.Eligibility.asked i.eligible in
+    let e = c.args.session.export in
+    let s = c.args.session.number in
+    let t = c.args.moment in
+    let q = c.args.request in
+    back_told A c.arrive.result c.arrived.result q c.arrive.ensures.back c.arrived.ensures
+
+pub make_way-requires-clause-few : goal.make_way-requires-clause-few
+make_way-requires-clause-few g c =
+    let i = c.self.inside in
+    let A = g.row.I-Alloc.Denot in
+    let ms = i.members.items in
+    let slots = g.E.Eligibility.contents i.eligible in
+    let asked = g.E.Eligibility.asked i.eligible in
+    let e = c.args.session.export in
+    let s = c.args.session.number in
+    let t = c.args.moment in
+    let q = c.args.request in
+    few_members ms slots asked i.latest i.inflight i.served c.self.invariant
+
+pub make_way-requires-clause-falls : goal.make_way-requires-clause-falls
+make_way-requires-clause-falls g c =
+    let i = c.self.inside in
+    let A = g.row.I-Alloc.Denot in
+    let ms = i.members.items in
+    let slots = g.E.Eligibility.contents i.eligible in
+    let asked = g.E.Eligibility.asked i.eligible in
+    let e = c.args.session.export in
+    let s = c.args.session.number in
+    let t = c.args.moment in
+    let q = c.args.request in
+    falls ms slots asked i.latest i.inflight i.served t c.self.invariant c.nanoseconds.ensures.below
+
+pub make_way-requires-clause-before : goal.make_way-requires-clause-before
+make_way-requires-clause-before g c =
+    let i = c.self.inside in
+    let A = g.row.I-Alloc.Denot in
+    let ms = i.members.items in
+    let slots = g.E.Eligibility.contents i.eligible in
+    let asked = g.E.Eligibility.asked i.eligible in
+    let e = c.args.session.export in
+    let s = c.args.session.number in
+    let t = c.args.moment in
+    let q = c.args.request in
+    before_way (parts ms) slots asked i.latest i.inflight i.served c.self.invariant.server
+
+pub make_way-requires-clause-after : goal.make_way-requires-clause-after
+make_way-requires-clause-after g c =
+    let i = c.self.inside in
+    let A = g.row.I-Alloc.Denot in
+    let ms = i.members.items in
+    let slots = g.E.Eligibility.contents i.eligible in
+    let asked = g.E.Eligibility.asked i.eligible in
+    let e = c.args.session.export in
+    let s = c.args.session.number in
+    let t = c.args.moment in
+    let q = c.args.request in
+    way_range ms slots asked i.latest i.inflight i.served c.waiting-waiting.result t c.self.invariant c.nanoseconds.ensures.below
+
+pub index_mut-member-requires-2 : goal.index_mut-member-requires-2
+index_mut-member-requires-2 g c =
+    let i = c.self.inside in
+    let A = g.row.I-Alloc.Denot in
+    let ms = i.members.items in
+    let slots = g.E.Eligibility.contents i.eligible in
+    let asked = g.E.Eligibility.asked i.eligible in
+    let e = c.args.session.export in
+    let s = c.args.session.number in
+    let t = c.args.moment in
+    let q = c.args.request in
+    let lt : e < length ms = search rules in
+    let m = c.index-member.result.now in
+    let at = c.index-member.ensures in
+    let n : length c.make_way.new.members.items ≡ length ms = ap length c.make_way.ensures.members ∙ length_way c.waiting-waiting.result (pos t) ms in
+    let more : e < length c.make_way.new.members.items = omega arith in
+    search rules
+
+pub arrive-said-requires-clause-in_range : goal.arrive-said-requires-clause-in_range
+arrive-said-requires-clause-in_range g c =
+    let i = c.self.inside in
+    let A = g.row.I-Alloc.Denot in
+    let ms = i.members.items in
+    let slots = g.E.Eligibility.contents i.eligible in
+    let asked = g.E.Eligibility.asked i.eligible in
+    let e = c.args.session.export in
+    let s = c.args.session.number in
+    let t = c.args.moment in
+    let q = c.args.request in
+    let lt : e < length ms = search rules in
+    let m = c.index-member.result.now in
+    let at = c.index-member.ensures in
+    let a : AdmitsAt m s q = c.admits.ensures.0 c.if-not-admits.false in
+    let small = c.nanoseconds.ensures.below in
+    let n = c.waiting-waiting.result in
+    let way = c.make_way.new.members.items in
+    let d = c.index_mut-member-2.result.now in
+    let d_is : d ≡ m = found_same t n ms way e m d lt at c.waiting-waiting.ensures c.make_way.ensures.members c.index_mut-member-2.ensures.value in
+    subst (λ (x : Standing). TagsInRange x.part) (sym d_is) (part_range ms slots asked i.latest i.inflight i.served e m c.self.invariant lt at)
+
+pub arrive-said-requires-clause-short : goal.arrive-said-requires-clause-short
+arrive-said-requires-clause-short g c =
+    let i = c.self.inside in
+    let A = g.row.I-Alloc.Denot in
+    let ms = i.members.items in
+    let slots = g.E.Eligibility.contents i.eligible in
+    let asked = g.E.Eligibility.asked i.eligible in
+    let e = c.args.session.export in
+    let s = c.args.session.number in
+    let t = c.args.moment in
+    let q = c.args.request in
+    let lt : e < length ms = search rules in
+    let m = c.index-member.result.now in
+    let at = c.index-member.ensures in
+    let a : AdmitsAt m s q = c.admits.ensures.0 c.if-not-admits.false in
+    let small = c.nanoseconds.ensures.below in
+    let n = c.waiting-waiting.result in
+    let way = c.make_way.new.members.items in
+    let d = c.index_mut-member-2.result.now in
+    let d_is : d ≡ m = found_same t n ms way e m d lt at c.waiting-waiting.ensures c.make_way.ensures.members c.index_mut-member-2.ensures.value in
+    subst (λ (x : Standing). AreShort x.part.terms) (sym d_is) (terms_short ms slots asked i.latest i.inflight i.served e m c.self.invariant lt at)
+
+pub put_first-requires-clause-was : goal.put_first-requires-clause-was
+put_first-requires-clause-was g c =
+    let i = c.self.inside in
+    let A = g.row.I-Alloc.Denot in
+    let ms = i.members.items in
+    let slots = g.E.Eligibility.contents i.eligible in
+    let asked = g.E.Eligibility.asked i.eligible in
+    let e = c.args.session.export in
+    let s = c.args.session.number in
+    let t = c.args.moment in
+    let q = c.args.request in
+    let lt : e < length ms = search rules in
+    let m = c.index-member.result.now in
+    let at = c.index-member.ensures in
+    let a : AdmitsAt m s q = c.admits.ensures.0 c.if-not-admits.false in
+    let small = c.nanoseconds.ensures.below in
+    let n = c.waiting-waiting.result in
+    let way = c.make_way.new.members.items in
+    let d = c.index_mut-member-2.result.now in
+    let d_is : d ≡ m = found_same t n ms way e m d lt at c.waiting-waiting.ensures c.make_way.ensures.members c.index_mut-member-2.ensures.value in
+    slot_was t n ms way (g.E.Eligibility.contents c.make_way.new.eligible) e m c.first-was.result lt at c.waiting-waiting.ensures c.make_way.ensures.members c.make_way.ensures.slots c.first-was.ensures
+
+pub put_first-requires-clause-same : goal.put_first-requires-clause-same
+put_first-requires-clause-same g c =
+    let i = c.self.inside in
+    let A = g.row.I-Alloc.Denot in
+    let ms = i.members.items in
+    let slots = g.E.Eligibility.contents i.eligible in
+    let asked = g.E.Eligibility.asked i.eligible in
+    let e = c.args.session.export in
+    let s = c.args.session.number in
+    let t = c.args.moment in
+    let q = c.args.request in
+    let lt : e < length ms = search rules in
+    let m = c.index-member.result.now in
+    let at = c.index-member.ensures in
+    let a : AdmitsAt m s q = c.admits.ensures.0 c.if-not-admits.false in
+    let small = c.nanoseconds.ensures.below in
+    let n = c.waiting-waiting.result in
+    let way = c.make_way.new.members.items in
+    let d = c.index_mut-member-2.result.now in
+    let d_is : d ≡ m = found_same t n ms way e m d lt at c.waiting-waiting.ensures c.make_way.ensures.members c.index_mut-member-2.ensures.value in
+    let m' = c.arrive-said.new.self in
+    let r = c.arrive-said.result in
+    let arrives : Arrives {A = A} m m' s t q r = subst (λ (x : Standing). Arrives {A = A} x m' s t q r) d_is c.arrive-said.ensures.arrives in
+    same_first A m m' s t q r c.first-was.result c.first-first.result a arrives c.first-was.ensures c.first-first.ensures
+
+pub put_first-requires-clause-in_range : goal.put_first-requires-clause-in_range
+put_first-requires-clause-in_range g c =
+    let i = c.self.inside in
+    let A = g.row.I-Alloc.Denot in
+    let ms = i.members.items in
+    let slots = g.E.Eligibility.contents i.eligible in
+    let asked = g.E.Eligibility.asked i.eligible in
+    let e = c.args.session.export in
+    let s = c.args.session.number in
+    let t = c.args.moment in
+    let q = c.args.request in
+    let lt : e < length ms = search rules in
+    let m = c.index-member.result.now in
+    let at = c.index-member.ensures in
+    let a : AdmitsAt m s q = c.admits.ensures.0 c.if-not-admits.false in
+    let small = c.nanoseconds.ensures.below in
+    let n = c.waiting-waiting.result in
+    let way = c.make_way.new.members.items in
+    let d = c.index_mut-member-2.result.now in
+    let d_is : d ≡ m = found_same t n ms way e m d lt at c.waiting-waiting.ensures c.make_way.ensures.members c.index_mut-member-2.ensures.value in
+    let m' = c.arrive-said.new.self in
+    let r = c.arrive-said.result in
+    let arrives : Arrives {A = A} m m' s t q r = subst (λ (x : Standing). Arrives {A = A} x m' s t q r) d_is c.arrive-said.ensures.arrives in
+    subst IsSlotInRange (sym c.first-first.ensures) (first_in_range A ms slots asked i.latest i.inflight i.served e s t q m m' r c.self.invariant lt at a arrives small)
+
+pub invariant_of-self-2 : goal.invariant_of-self-2
+invariant_of-self-2 g c =
+    let i = c.self.inside in
+    let A = g.row.I-Alloc.Denot in
+    let ms = i.members.items in
+    let slots = g.E.Eligibility.contents i.eligible in
+    let asked = g.E.Eligibility.asked i.eligible in
+    let e = c.args.session.export in
+    let s = c.args.session.number in
+    let t = c.args.moment in
+    let q = c.args.request in
+    let lt : e < length ms = search rules in
+    let m = c.index-member.result.now in
+    let at = c.index-member.ensures in
+    let a : AdmitsAt m s q = c.admits.ensures.0 c.if-not-admits.false in
+    let small = c.nanoseconds.ensures.below in
+    let n = c.waiting-waiting.result in
+    let way = c.make_way.new.members.items in
+    let d = c.index_mut-member-2.result.now in
+    let d_is : d ≡ m = found_same t n ms way e m d lt at c.waiting-waiting.ensures c.make_way.ensures.members c.index_mut-member-2.ensures.value in
+    let m' = c.arrive-said.new.self in
+    let r = c.arrive-said.result in
+    let arrives : Arrives {A = A} m m' s t q r = subst (λ (x : Standing). Arrives {A = A} x m' s t q r) d_is c.arrive-said.ensures.arrives in
+    let way_is : way ≡ way_of (length m.part.waiting) (pos t) ms = c.make_way.ensures.members ∙ ap (λ k. way_of k (pos t) ms) c.waiting-waiting.ensures in
+    let firsts : g.E.Eligibility.contents c.put_first.new.eligible ≡ set (heads (parts (way_of (length m.part.waiting) (pos t) ms))) e (head_tags m'.part.waiting) =
+        c.put_first.ensures.contents ∙ ap (λ (l : List (Option Tags)). set l e c.first-first.result) c.make_way.ensures.slots
+        ∙ ap (λ (l : List Standing). set (heads (parts l)) e c.first-first.result) way_is ∙ ap (set (heads (parts (way_of (length m.part.waiting) (pos t) ms))) e) c.first-first.ensures in
+    let not_later = c.self.invariant.server.not_later in
+    let le : g.E.Eligibility.asked c.put_first.new.eligible ≤ i.latest = omega (arith, c.put_first.ensures.asked, c.make_way.ensures.asked) in
+    subst (λ (l : List Standing). IsServed (set l e m') (g.E.Eligibility.contents c.put_first.new.eligible) (g.E.Eligibility.asked c.put_first.new.eligible) i.latest i.inflight i.served) (sym way_is)
+    (kept_accepted A ms slots (g.E.Eligibility.contents c.put_first.new.eligible) asked (g.E.Eligibility.asked c.put_first.new.eligible) i.latest i.inflight i.served e s t q m m' r c.self.invariant lt at a arrives small firsts le)
+
+pub returns-clause-step : goal.returns-clause-step
+returns-clause-step g c =
+    let i = c.self.inside in
+    let A = g.row.I-Alloc.Denot in
+    let ms = i.members.items in
+    let slots = g.E.Eligibility.contents i.eligible in
+    let asked = g.E.Eligibility.asked i.eligible in
+    let e = c.args.session.export in
+    let s = c.args.session.number in
+    let t = c.args.moment in
+    let q = c.args.request in
+    let lt : e < length ms = search rules in
+    let m = c.index-member.result.now in
+    let at = c.index-member.ensures in
+    let a : AdmitsAt m s q = c.admits.ensures.0 c.if-not-admits.false in
+    let small = c.nanoseconds.ensures.below in
+    let n = c.waiting-waiting.result in
+    let way = c.make_way.new.members.items in
+    let d = c.index_mut-member-2.result.now in
+    let d_is : d ≡ m = found_same t n ms way e m d lt at c.waiting-waiting.ensures c.make_way.ensures.members c.index_mut-member-2.ensures.value in
+    let m' = c.arrive-said.new.self in
+    let r = c.arrive-said.result in
+    let arrives : Arrives {A = A} m m' s t q r = subst (λ (x : Standing). Arrives {A = A} x m' s t q r) d_is c.arrive-said.ensures.arrives in
+    let way_is : way ≡ way_of (length m.part.waiting) (pos t) ms = c.make_way.ensures.members ∙ ap (λ k. way_of k (pos t) ms) c.waiting-waiting.ensures in
+    let one = stepped_accepted A ms slots asked i.latest i.inflight i.served e s t q m m' r c.self.invariant lt at a arrives in
+    let two = subst (λ (l : List Standing). Stepped {A = A} (served_of ms i.latest i.inflight) (Arrive e s t q) (served_of (set l e m') i.latest i.inflight) (arrive_says {A = A} (told_arrived r))) (sym way_is) one in
+    let three = subst (λ x. Stepped {A = A} (served_of ms i.latest i.inflight) (Arrive e s t q) (served_of (set way e m') i.latest i.inflight) (arrive_says {A = A} x)) (sym c.arrived-2.ensures) two in
+    subst (λ (v : Served). Stepped {A = A} v (Arrive e s t q) (served_of (set way e m') i.latest i.inflight) (arrive_says {A = A} c.arrived-2.result)) c.self.view_is three
+
+pub returns-clause-seats : goal.returns-clause-seats
+returns-clause-seats g c =
+    let i = c.self.inside in
+    let A = g.row.I-Alloc.Denot in
+    let ms = i.members.items in
+    let slots = g.E.Eligibility.contents i.eligible in
+    let asked = g.E.Eligibility.asked i.eligible in
+    let e = c.args.session.export in
+    let s = c.args.session.number in
+    let t = c.args.moment in
+    let q = c.args.request in
+    let lt : e < length ms = search rules in
+    let m = c.index-member.result.now in
+    let at = c.index-member.ensures in
+    let a : AdmitsAt m s q = c.admits.ensures.0 c.if-not-admits.false in
+    let small = c.nanoseconds.ensures.below in
+    let n = c.waiting-waiting.result in
+    let way = c.make_way.new.members.items in
+    let d = c.index_mut-member-2.result.now in
+    let d_is : d ≡ m = found_same t n ms way e m d lt at c.waiting-waiting.ensures c.make_way.ensures.members c.index_mut-member-2.ensures.value in
+    let m' = c.arrive-said.new.self in
+    let r = c.arrive-said.result in
+    let arrives : Arrives {A = A} m m' s t q r = subst (λ (x : Standing). Arrives {A = A} x m' s t q r) d_is c.arrive-said.ensures.arrives in
+    let way_is : way ≡ way_of (length m.part.waiting) (pos t) ms = c.make_way.ensures.members ∙ ap (λ k. way_of k (pos t) ms) c.waiting-waiting.ensures in
+    ap (λ (l : List Standing). all_seats (set l e m')) way_is ∙ seats_accepted A ms e s t q m m' r lt at a arrives ∙ ap (λ (v : Served). v.seats) c.self.view_is
+
+pub returns-clause-back : goal.returns-clause-back
+returns-clause-back g c =
+    let i = c.self.inside in
+    let A = g.row.I-Alloc.Denot in
+    let ms = i.members.items in
+    let slots = g.E.Eligibility.contents i.eligible in
+    let asked = g.E.Eligibility.asked i.eligible in
+    let e = c.args.session.export in
+    let s = c.args.session.number in
+    let t = c.args.moment in
+    let q = c.args.request in
+    back_told A c.arrive-said.result c.arrived-2.result q c.arrive-said.ensures.back c.arrived-2.ensures

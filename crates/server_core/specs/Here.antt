@@ -1,0 +1,37 @@
+-- What an export alone answered, as the server answers it.
+use Rattle.std.specs.Prelude.{ℕ, Result, Ok, Err}
+use Rattle.reply_box.specs.declared.fault.NotOpen.{NotOpen}
+use Rattle.lone_export.specs.declared.refusal.NotAttached.{NotAttached as NotAttachedAlone}
+use Rattle.lone_export.specs.declared.refusal.NotAttached.TheVariants as alone
+use Rattle.lone_export.specs.declared.refusal.AttachRefusal.TheVariants as attaching
+use Rattle.lone_export.specs.declared.refusal.Arrived.{Arrived}
+use Rattle.lone_export.specs.declared.refusal.NotArrived.{NotArrived as NotArrivedAlone}
+use Rattle.lone_export.specs.declared.refusal.ArriveRefusal.{ArriveRefusal as ArriveRefusalAlone}
+use Rattle.lone_export.specs.declared.refusal.ArriveRefusal.TheVariants as arriving
+use Rattle.server_core.specs.declared.refusal.NotArrived.{NotArrived}
+use Rattle.server_core.specs.declared.refusal.ArriveRefusal.{ArriveRefusal}
+use Rattle.server_core.specs.declared.refusal.ArriveRefusal.TheVariants as refusal
+use Rattle.server_core.specs.declared.session.SessionId.{SessionId}
+use Rattle.server_core.specs.declared.refusal.NotAttached.{NotAttached}
+use Rattle.server_core.specs.declared.refusal.NotAttached.TheVariants.{Worn, Full, NoMemory}
+use Rattle.server_core.specs.declared.refusal.SessionRefusal.{SessionRefusal}
+use Rattle.server_core.specs.declared.refusal.SessionRefusal.TheVariants as refusing
+
+abbrev pub here : {T : Type 0} → Result T NotOpen → Result T SessionRefusal
+here (Ok t) = Ok t
+here (Err e) = Err refusing.NotOpen
+
+abbrev pub attached : ℕ → Result ℕ NotAttachedAlone → Result SessionId NotAttached
+attached e (Ok n) = Ok (record { export = e; number = n })
+attached e (Err (alone.Refused attaching.Worn)) = Err Worn
+attached e (Err (alone.Refused attaching.Full)) = Err Full
+attached e (Err alone.NoMemory) = Err NoMemory
+
+abbrev pub refusal_here : ArriveRefusalAlone → ArriveRefusal
+refusal_here arriving.NotOpen = refusal.NotOpen
+refusal_here arriving.Worn = refusal.Worn
+refusal_here arriving.Hold = refusal.Hold
+
+abbrev pub arrived : {A : Type 0} → Result Arrived (NotArrivedAlone A) → Result Arrived (NotArrived A)
+arrived (Ok said) = Ok said
+arrived (Err e) = Err (record { refusal = refusal_here e.refusal; request = e.request })

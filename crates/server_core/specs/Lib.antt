@@ -1,0 +1,7 @@
+pub mod Kept
+pub mod Tagging
+pub mod Members
+pub mod Tickets
+pub mod Here
+pub mod Served
+pub mod Way

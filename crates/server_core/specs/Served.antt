@@ -1,0 +1,114 @@
+-- What a contract sees of a server, and what its calls answer, as events.
+use Rattle.std.specs.Prelude.{◌≡◌, ◌≤◌, ℕ, List, [], ◌∷◌, ◌++◌, map, length, get_or, Option, Some, None, Result, Ok, Err, ⊤}
+use Rattle.nbd_base.specs.Words.{change_at}
+use Rattle.nbd_commands.specs.Terms.{Terms, terms_of}
+use Rattle.nbd_commands.specs.Exports.{Offer}
+use Rattle.tag_clock.specs.declared.Tags.{Tags}
+use Rattle.reply_box.specs.declared.seat.Taken.{Taken}
+use Rattle.reply_box.specs.declared.seat.Taken.TheVariants as taking
+use Rattle.server_table.specs.declared.event.Event.{Event}
+use Rattle.server_table.specs.declared.event.Answer.{Answer}
+use Rattle.server_table.specs.declared.event.Answer.TheVariants as said
+use Rattle.server_table.specs.Table.{Table, Setup, opening_table}
+use Rattle.server_table.specs.Steps.{step}
+use Rattle.server_table.specs.Shares.{mark_of}
+use Rattle.server_table.specs.Parts.{Part, table_of, setup_of}
+use Rattle.server_core.specs.Kept.{IsServer}
+use Rattle.server_core.specs.Members.{Standing, Seat, slot_in}
+use Rattle.server_core.specs.Tickets.{Place}
+use Rattle.lone_export.specs.declared.refusal.Arrived.{Arrived}
+use Rattle.lone_export.specs.declared.refusal.Arrived.TheVariants as arrival
+use Rattle.server_core.specs.declared.refusal.NotArrived.{NotArrived}
+use Rattle.server_core.specs.declared.refusal.ArriveRefusal.{ArriveRefusal}
+use Rattle.server_core.specs.declared.refusal.ArriveRefusal.TheVariants as arriving
+use Rattle.server_core.specs.declared.ticket.Chosen.{Chosen}
+use Rattle.server_core.specs.declared.session.SessionId.{SessionId}
+use Rattle.server_core.specs.declared.refusal.NotAttached.{NotAttached}
+use Rattle.server_core.specs.declared.refusal.NotAttached.TheVariants as attaching
+use Rattle.server_core.specs.declared.refusal.SessionRefusal.{SessionRefusal}
+use Rattle.server_core.specs.declared.refusal.SessionRefusal.TheVariants as refusing
+
+-- the table of all exports with what it is set up with, and by export the seats of the requests that are out
+pub record Served : Type 0 where
+  pub setup : Setup
+  pub table : Table
+  pub seats : List (List Seat)
+
+abbrev pub setup_for : Offer → Setup
+setup_for offer = record { exports = map terms_of offer.exports; inflight = offer.inflight }
+
+-- a server before its first event
+abbrev pub opening_served : Setup → Served
+opening_served setup = record { setup = setup; table = opening_table setup; seats = map (λ terms. []) setup.exports }
+
+-- the request is out, in that slot
+abbrev pub Holds : Served → Place → Type 0
+Holds served place = slot_in (get_or served.seats place.export []) place.number ≡ Some place.slot
+
+-- ---- as it is kept
+abbrev pub parts : List Standing → List Part
+parts members = map (λ member. member.part) members
+
+abbrev pub served_of : List Standing → ℕ → ℕ → Served
+served_of members now inflight = record { setup = setup_of (parts members) inflight; table = table_of (parts members) now; seats = map (λ member. member.seats) members }
+
+abbrev pub AllMembers : (Standing → Type 0) → List Standing → Type 0
+AllMembers P [] = ⊤
+AllMembers P (member ∷ members) = P member × AllMembers P members
+
+-- the parts are those of a server, and of each export as many may be out as of all
+pub record IsServed (members : List Standing) (slots : List (Option Tags)) (asked now inflight served : ℕ) : Type 0 where
+  pub server : IsServer (parts members) slots asked now inflight served
+  pub room : AllMembers (λ member. member.inflight ≡ inflight) members
+
+-- ---- what calls do
+module _ {A : Type 0} where
+  -- a call is one step of the table, with memory there as the answer tells, and answers it
+  pub record Stepped (old : Served) (event : Event A) (new : Served) (answer : Answer A) : Type 0 where
+    pub stepped : step old.setup old.table event (mark_of answer) ≡ record { table = new.table; answer = answer }
+    pub setup : new.setup ≡ old.setup
+
+  abbrev pub refusal_says : SessionRefusal → Answer A
+  refusal_says refusing.NoExport = said.NoExport
+  refusal_says refusing.NotOpen = said.NotOpen
+
+  abbrev pub leave_says : Result (Unit {0}) SessionRefusal → Answer A
+  leave_says (Ok done) = said.Left
+  leave_says (Err e) = refusal_says e
+
+  abbrev pub gone_says : Result (Unit {0}) SessionRefusal → Answer A
+  gone_says (Ok done) = said.Dropped
+  gone_says (Err e) = refusal_says e
+
+  abbrev pub take_says : Result (Taken A) SessionRefusal → Answer A
+  take_says (Ok (taking.Reply r)) = said.Reply r
+  take_says (Ok taking.Empty) = said.Empty
+  take_says (Ok taking.End) = said.End
+  take_says (Err e) = refusal_says e
+
+  abbrev pub attach_says : Result SessionId NotAttached → Answer A
+  attach_says (Ok session) = said.Session session.number
+  attach_says (Err attaching.NoExport) = said.NoExport
+  attach_says (Err attaching.Worn) = said.Worn
+  attach_says (Err attaching.Full) = said.Full
+  attach_says (Err attaching.NoMemory) = said.NoMemory
+
+  abbrev pub arrive_refusal_says : ArriveRefusal → Answer A
+  arrive_refusal_says arriving.NoExport = said.NoExport
+  arrive_refusal_says arriving.NotOpen = said.NotOpen
+  arrive_refusal_says arriving.Worn = said.Worn
+  arrive_refusal_says arriving.Hold = said.Hold
+
+  abbrev pub arrive_says : Result Arrived (NotArrived A) → Answer A
+  arrive_says (Ok (arrival.Accepted n tag)) = said.Accepted n tag
+  arrive_says (Ok (arrival.Answered error)) = said.Answered error
+  arrive_says (Err e) = arrive_refusal_says e.refusal
+
+  abbrev pub dispatch_says : Option Chosen → Answer A
+  dispatch_says None = said.Nothing
+  dispatch_says (Some chosen) = said.Picked chosen.ticket.export chosen.ticket.number chosen.phase
+
+-- the seats once a request was chosen
+abbrev pub seats_chosen : Option Chosen → List (List Seat) → List (List Seat)
+seats_chosen None seats = seats
+seats_chosen (Some chosen) seats = change_at (λ these. these ++ record { number = chosen.ticket.number; slot = chosen.ticket.slot } ∷ []) chosen.ticket.export seats

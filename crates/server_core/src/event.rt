@@ -1,0 +1,134 @@
+//! A server by its events.
+ghost use Rattle.std.specs.Prelude.{◌≡◌};
+ghost use Rattle.server_table.specs.declared.event.Event.TheVariants as event;
+ghost use Rattle.server_core.specs.Served.{Stepped, attach_says, arrive_says, dispatch_says, take_says, leave_says, gone_says};
+
+use crate::refusal::{ArriveRefusal, NotArrived, NotAttached, SessionRefusal};
+use crate::server::Server;
+use crate::session::SessionId;
+use crate::ticket::Chosen;
+use eligibility::Eligibility;
+use export_store::Image;
+use lone_export::Arrived;
+use reply_box::Taken;
+use server_table::{Answer, Event};
+use std::alloc::Allocator;
+
+fn attach_answer<A: Allocator>(said: Result<SessionId, NotAttached>) -> Answer<A>
+    ensures { result ≡ attach_says said }
+{
+    match said {
+        Ok(session) => Answer::Session(session.number),
+        Err(NotAttached::NoExport) => Answer::NoExport,
+        Err(NotAttached::Worn) => Answer::Worn,
+        Err(NotAttached::Full) => Answer::Full,
+        Err(NotAttached::NoMemory) => Answer::NoMemory,
+    }
+}
+
+fn arrive_answer<A: Allocator>(said: Result<Arrived, NotArrived<A>>) -> Answer<A>
+    ensures { result ≡ arrive_says said }
+{
+    match said {
+        Ok(Arrived::Accepted { number, limit_tag }) => Answer::Accepted { number, limit_tag },
+        Ok(Arrived::Answered(error)) => Answer::Answered(error),
+        Err(refused) => match refused.refusal {
+            ArriveRefusal::NoExport => Answer::NoExport,
+            ArriveRefusal::NotOpen => Answer::NotOpen,
+            ArriveRefusal::Worn => Answer::Worn,
+            ArriveRefusal::Hold => Answer::Hold,
+        },
+    }
+}
+
+fn dispatch_answer<A: Allocator>(said: Option<Chosen>) -> Answer<A>
+    ensures { result ≡ dispatch_says said }
+{
+    match said {
+        Some(chosen) => Answer::Picked {
+            export: chosen.ticket.export(),
+            number: chosen.ticket.number(),
+            phase: chosen.phase,
+        },
+        None => Answer::Nothing,
+    }
+}
+
+fn take_answer<A: Allocator>(said: Result<Taken<A>, SessionRefusal>) -> Answer<A>
+    ensures { result ≡ take_says said }
+{
+    match said {
+        Ok(Taken::Reply(reply)) => Answer::Reply(reply),
+        Ok(Taken::Empty) => Answer::Empty,
+        Ok(Taken::End) => Answer::End,
+        Err(SessionRefusal::NoExport) => Answer::NoExport,
+        Err(SessionRefusal::NotOpen) => Answer::NotOpen,
+    }
+}
+
+fn leave_answer<A: Allocator>(said: Result<(), SessionRefusal>) -> Answer<A>
+    ensures { result ≡ leave_says said }
+{
+    match said {
+        Ok(()) => Answer::Left,
+        Err(SessionRefusal::NoExport) => Answer::NoExport,
+        Err(SessionRefusal::NotOpen) => Answer::NotOpen,
+    }
+}
+
+fn gone_answer<A: Allocator>(said: Result<(), SessionRefusal>) -> Answer<A>
+    ensures { result ≡ gone_says said }
+{
+    match said {
+        Ok(()) => Answer::Dropped,
+        Err(SessionRefusal::NoExport) => Answer::NoExport,
+        Err(SessionRefusal::NotOpen) => Answer::NotOpen,
+    }
+}
+
+impl<I: Image, E: Eligibility<Alloc = I::Alloc>> Server<I, E> {
+    /// One event, and its answer. A request to be performed is named by its number.
+    pub fn event(&mut self, what: Event<I::Alloc>) -> Answer<I::Alloc>
+        ensures { Stepped {A = I.Alloc} self.old what self.new result }
+    {
+        match what {
+            Event::Attach { export } => attach_answer(self.attach(export)),
+            Event::Arrive {
+                export,
+                session,
+                moment,
+                request,
+            } => {
+                let number = session;
+                arrive_answer(self.arrive(SessionId { export, number }, moment, request))
+            }
+            Event::Dispatch { moment } => dispatch_answer(self.dispatch(moment)),
+            Event::Perform { export, number } => self.perform_number(export, number),
+            Event::Take { export, session } => {
+                let number = session;
+                take_answer(self.take_reply(SessionId { export, number }))
+            }
+            Event::Leave { export, session } => {
+                let number = session;
+                leave_answer(self.leave(SessionId { export, number }))
+            }
+            Event::Gone { export, session } => {
+                let number = session;
+                gone_answer(self.gone(SessionId { export, number }))
+            }
+        }
+    }
+
+    /// The request that is in service under this number is done.
+    fn perform_number(&mut self, export: u32, number: u64) -> Answer<I::Alloc>
+        ensures { Stepped {A = I.Alloc} self.old (event.Perform export number) self.new result }
+    {
+        let Some(ticket) = self.find(export, number) else {
+            return Answer::NotOut;
+        };
+        match self.perform(ticket) {
+            Some(memory) => Answer::Performed { memory },
+            None => Answer::NotOut,
+        }
+    }
+}

@@ -1,0 +1,16 @@
+//! All exports of a server behind one type: each call is one step of the table of all exports.
+#![tactic(auto)]
+
+mod event;
+mod member;
+mod refusal;
+mod server;
+mod session;
+mod tagging;
+mod ticket;
+mod way;
+
+pub use refusal::{ArriveRefusal, NotArrived, NotAttached, SessionRefusal};
+pub use server::Server;
+pub use session::SessionId;
+pub use ticket::{Chosen, Ticket};

@@ -1,0 +1,235 @@
+//! One export of a server: the export alone, and beside it the tags of its requests.
+ghost use Rattle.std.specs.Prelude.{◌≡◌, ◌≢◌, ◌<◌, ◌++◌, length, slice_get, ◌↔◌, IsTrue, IfErr, IsSome, ◌==◌, not, filter, find, is_some, IfOk, IfSome, IfNone, Some};
+ghost use Rattle.std.specs.Vec.{vec_capacity};
+ghost use Rattle.nbd_commands.specs.Terms.{terms_of};
+ghost use Rattle.nbd_commands.specs.Exports.{IsWithin};
+ghost use Rattle.lone_export.specs.Lone.{leave_said, gone_said, take_said, attach_said};
+
+use crate::tagging::{give_credit, shift_all};
+use export_queue::Picked;
+use export_store::Image;
+use lone_export::{Arrived, Lone, NotArrived, NotAttached, Step, StepAnswer};
+use nbd_base::NoMemory;
+use nbd_commands::ExportConfig;
+use nbd_wire::Request;
+use reply_box::{NotOpen, Taken};
+use std::alloc::Allocator;
+use std::collections::VecDeque;
+use std::marker::Model;
+use tag_clock::{Moment, Phase, ShareClock, Tags, Tuning};
+
+/// The tags of a request in service.
+#[derive(Clone, Copy, Debug, PartialEq, Eq, Drop)]
+pub(crate) struct Sent {
+    pub(crate) number: u64,
+    pub(crate) tags: Tags,
+}
+
+/// An export, with the tags of its requests in the order of their numbers.
+#[derive(Drop)]
+pub(crate) struct Member<I: Image> {
+    lone: Lone<I>,
+    shares: ShareClock,
+    r_interval: Option<u64>,
+    waiting: VecDeque<Tags, I::Alloc>,
+    out: Vec<Sent, I::Alloc>,
+}
+
+impl<I: Image> Model for Member<I> {
+    ghost use Rattle.std.specs.Vec.{vec_capacity};
+    ghost use Rattle.std.specs.VecDeque.{deque_capacity};
+    ghost use Rattle.server_core.specs.Members.{Standing, standing_of, IsMember};
+
+    ghost Value = { Standing };
+
+    ghost view = { λ m. standing_of (record { whole = m.lone; share = m.shares; interval = m.r_interval; waiting = m.waiting.items; waiting_room = deque_capacity m.waiting; out = m.out.items; out_room = vec_capacity m.out }) };
+
+    ghost invariant = { λ m. IsMember (record { whole = m.lone; share = m.shares; interval = m.r_interval; waiting = m.waiting.items; waiting_room = deque_capacity m.waiting; out = m.out.items; out_room = vec_capacity m.out }) };
+}
+
+impl<I: Image> Member<I> {
+    ghost use Rattle.server_core.specs.Members.{opening_standing, slot_in, Went, WentOr, WantsMemory, Performs, Picks, AdmitsAt, Arrives, shifted_standing};
+    ghost use Rattle.server_table.specs.Ways.{part_shifted};
+    ghost use Rattle.server_table.specs.Order.{IsNumbered, head_tags};
+    ghost use Rattle.server_table.specs.Picks.{part_picked};
+    ghost use Rattle.server_core.specs.Kept.{AreShort, TagsInRange};
+
+    /// An export in its opening state. All the room that its requests will want is taken here.
+    pub(crate) fn new(
+        alloc: I::Alloc,
+        config: &ExportConfig<I::Alloc>,
+        inflight: usize,
+    ) -> Result<Self, NoMemory>
+        requires { IsWithin 4096 inflight }
+        ensures { IfOk result (λ member. (member ≡ opening_standing inflight (terms_of config.now)) × AreShort (terms_of config.now)) }
+    {
+        let Some(tuning) = Tuning::new(config.reservation(), config.limit(), config.weight()) else {
+            return Err(NoMemory);
+        };
+        let lone = Lone::new(alloc, config, inflight)?;
+        let waiting = VecDeque::with_capacity(alloc, config.depth())?;
+        let out = Vec::with_capacity(alloc, inflight)?;
+        Ok(Member {
+            lone,
+            shares: ShareClock::new(tuning.r_interval(), tuning.p_interval()),
+            r_interval: tuning.r_interval(),
+            waiting,
+            out,
+        })
+    }
+
+    /// Nothing more arrives on the session.
+    pub(crate) fn leave(&mut self, session: u64) -> Result<(), NotOpen>
+        ensures { Went {A = I.Alloc} self.old self.new (Step.Leave session) (leave_said result) }
+    {
+        self.lone.leave(session)
+    }
+
+    /// The session is dropped with its replies.
+    pub(crate) fn gone(&mut self, session: u64) -> Result<(), NotOpen>
+        ensures { Went {A = I.Alloc} self.old self.new (Step.Gone session) (gone_said result) }
+    {
+        self.lone.gone(session)
+    }
+
+    /// The oldest reply of the session is taken.
+    pub(crate) fn take(&mut self, session: u64) -> Result<Taken<I::Alloc>, NotOpen>
+        ensures { Went {A = I.Alloc} self.old self.new (Step.Take session) (take_said result) }
+    {
+        self.lone.take(session)
+    }
+
+    /// Opens a session and gives its number.
+    pub(crate) fn attach(&mut self) -> Result<u64, NotAttached>
+        ensures step { WentOr {A = I.Alloc} self.old self.new Step.Attach (attach_said result) }
+        ensures memory { WantsMemory self.old result }
+    {
+        if let Err(refusal) = self.lone.may_attach() {
+            return Err(NotAttached::Refused(refusal));
+        }
+        self.lone.attach()
+    }
+
+    /// The slot in which the request of this number is in service.
+    pub(crate) fn slot_of(&self, number: u64) -> Option<usize>
+        ensures slot { result ≡ slot_in self.now.seats number }
+        ensures out { is_some result ≡ is_some (find (λ entry. entry.number == number) self.now.part.out) }
+    {
+        self.lone.slot_of(number)
+    }
+
+    /// How many requests wait.
+    pub(crate) fn waiting(&self) -> usize
+        ensures { result ≡ length self.now.part.waiting }
+    {
+        self.lone.waiting()
+    }
+
+    /// Whether a request of the session would wait, if it arrived.
+    pub(crate) fn admits(&self, session: u64, request: &Request<I::Alloc>) -> bool
+        ensures { IsTrue result ↔ AdmitsAt self.now session request.now }
+    {
+        self.lone.admits(session, request)
+    }
+
+    /// A request of a session arrives at a moment. One that is refused is handed back.
+    pub(crate) fn arrive(
+        &mut self,
+        session: u64,
+        moment: Moment,
+        request: Request<I::Alloc>,
+    ) -> Result<Arrived, NotArrived<I::Alloc>>
+        requires in_range { TagsInRange self.old.part }
+        requires short { AreShort self.old.part.terms }
+        ensures arrives { Arrives {A = I.Alloc} self.old self.new session moment request result }
+        ensures back { IfErr result (λ e. e.request ≡ request) }
+    {
+        // A moment is below 2^62.
+        let _ = moment.nanoseconds();
+        match self.lone.arrive(session, moment, request) {
+            Ok(Arrived::Accepted { number, limit_tag }) => {
+                let (r, p) = self.shares.admit(moment);
+                self.waiting.push_back_reserved(Tags {
+                    r,
+                    l: limit_tag,
+                    p,
+                });
+                Ok(Arrived::Accepted { number, limit_tag })
+            }
+            Ok(Arrived::Answered(error)) => Ok(Arrived::Answered(error)),
+            Err(refused) => Err(refused),
+        }
+    }
+
+    /// The P tags fall where a request waits.
+    pub(crate) fn shift(&mut self, delta: i128)
+        requires { TagsInRange (part_shifted delta self.old.part) }
+        ensures { self.new ≡ shifted_standing delta self.old }
+    {
+        if self.waiting.is_empty() {
+            return;
+        }
+        shift_all(&mut self.waiting, delta);
+        self.shares.shift(delta);
+    }
+
+    /// The tags of the first request that waits.
+    pub(crate) fn first(&self) -> Option<Tags>
+        ensures { result ≡ head_tags self.now.part.waiting }
+    {
+        first_of(&self.waiting)
+    }
+
+    /// The first request that waits is in service now, chosen by this phase.
+    pub(crate) fn pick(&mut self, phase: Phase) -> Option<Picked>
+        requires waiting { 0 < length self.old.part.waiting }
+        requires room { length self.old.part.out < self.old.inflight }
+        requires numbered { IsNumbered (self.old.part.out ++ self.old.part.waiting) }
+        requires in_range { TagsInRange (part_picked phase self.old.part) }
+        ensures picked { IfSome result (λ picked. Picks self.old self.new phase (record { number = picked.number; slot = picked.slot })) }
+        ensures some { IsSome result }
+    {
+        let Some(tags) = self.waiting.pop_front() else {
+            return None;
+        };
+        let Some(picked) = self.lone.pick() else {
+            return None;
+        };
+        self.out.push_reserved(Sent {
+            number: picked.number,
+            tags,
+        });
+        give_credit(&mut self.waiting, &mut self.shares, self.r_interval, phase);
+        Some(picked)
+    }
+
+    /// The request that is in service in `slot` under `number` is done, and its reply goes to its session. The answer
+    /// tells whether memory was there for it; None where the slot doesn't hold that number.
+    pub(crate) fn perform(&mut self, slot: usize, number: u64) -> Option<bool>
+        ensures some { IfSome result (λ memory. (slot_in self.old.seats number ≡ Some slot) × Performs I.Alloc self.old self.new number memory) }
+        ensures none { IfNone result ((slot_in self.old.seats number ≢ Some slot) × (self.new ≡ self.old)) }
+    {
+        let Some(memory) = self.lone.perform(slot, number) else {
+            return None;
+        };
+        forget(&mut self.out, number);
+        Some(memory)
+    }
+}
+
+fn first_of<A: Allocator>(waiting: &VecDeque<Tags, A>) -> Option<Tags>
+    ensures { result ≡ slice_get waiting.now.items 0 }
+{
+    match waiting.front() {
+        Some(tags) => Some(*tags),
+        None => None,
+    }
+}
+
+/// The request of this number is in service no longer.
+fn forget<A: Allocator>(out: &mut Vec<Sent, A>, number: u64)
+    ensures out { out.new.items ≡ filter (λ one. not (one.number == number)) out.old.items }
+    ensures room { vec_capacity out.new ≡ vec_capacity out.old }
+{
+    out.retain(|one| one.number != number);
+}

@@ -1,0 +1,305 @@
+//! The server.
+ghost use Rattle.std.specs.Prelude.{◌≡◌, ◌≤◌, map, length, find, is_some, slice_set, IfOk, IfErr, IfSome, IfNone, OnSome};
+ghost use Rattle.eligibility.specs.Choice.{IsActive, IsSlotInRange};
+ghost use Rattle.nbd_base.specs.Words.{change_at};
+ghost use Rattle.server_table.specs.Steps.{is_out_row};
+ghost use Rattle.server_table.specs.declared.event.Answer.TheVariants as answer;
+ghost use Rattle.nbd_commands.specs.Terms.{terms_of};
+ghost use Rattle.nbd_commands.specs.Exports.{IsWithin};
+ghost use Rattle.std.specs.List.{All};
+ghost use Rattle.server_core.specs.Kept.{AreShort};
+ghost use Rattle.server_core.specs.Members.{opening_standing, seats_without};
+ghost use Rattle.server_core.specs.Here.{here as told_here, attached as told_attached, arrived as told_arrived, refusal_here};
+ghost use Rattle.server_table.specs.declared.event.Event.TheVariants as event;
+
+use crate::member::Member;
+use crate::refusal::{ArriveRefusal, NotArrived, NotAttached, SessionRefusal};
+use crate::session::SessionId;
+use crate::ticket::{Chosen, Ticket};
+use crate::way::{make_way, put_first};
+use eligibility::Eligibility;
+use lone_export::{
+    ArriveRefusal as ArriveRefusalAlone, Arrived, AttachRefusal, NotArrived as NotArrivedAlone,
+    NotAttached as NotAttachedAlone,
+};
+use export_store::Image;
+use nbd_base::NoMemory;
+use nbd_commands::{Config, ExportConfig};
+use nbd_wire::Request;
+use reply_box::{NotOpen, Taken};
+use std::alloc::Allocator;
+use std::marker::Model;
+use tag_clock::{Moment, Tags};
+
+/// Many exports, which share the service of one server after mClock.
+#[derive(Drop)]
+pub struct Server<I: Image, E: Eligibility<Alloc = I::Alloc>> {
+    members: Vec<Member<I>, I::Alloc>,
+    eligible: E,
+    // The greatest moment that was handed to a dispatch.
+    latest: Moment,
+    // How many requests are out.
+    served: usize,
+    inflight: usize,
+}
+
+impl<I: Image, E: Eligibility<Alloc = I::Alloc>> Model for Server<I, E> {
+    ghost use Rattle.server_core.specs.Served.{Served, served_of, IsServed};
+
+    ghost Value = { Served };
+
+    ghost view = { λ s. served_of s.members.items s.latest s.inflight };
+
+    ghost invariant = { λ s. IsServed s.members.items (E.contents s.eligible) (E.asked s.eligible) s.latest s.inflight s.served };
+}
+
+/// The exports of a configuration, each in its opening state.
+fn open_members<I: Image>(
+    alloc: I::Alloc,
+    exports: &[ExportConfig<I::Alloc>],
+    inflight: usize,
+) -> Result<Vec<Member<I>, I::Alloc>, NoMemory>
+    requires { IsWithin 4096 inflight }
+    ensures members { IfOk result (λ made. made.items ≡ map (λ export. opening_standing inflight (terms_of export)) exports.now) }
+    ensures short { IfOk result (λ made. All (λ member. AreShort member.part.terms) made.items) }
+{
+    let mut members = Vec::with_capacity(alloc, exports.len())?;
+    for export in exports {
+        let member = Member::new(alloc, export, inflight)?;
+        members.push(member)?;
+    }
+    Ok(members)
+}
+
+/// A refusal of an export alone, as one of the server.
+fn here<T>(said: Result<T, NotOpen>) -> Result<T, SessionRefusal>
+    ensures { result ≡ told_here said }
+{
+    match said {
+        Ok(value) => Ok(value),
+        Err(_) => Err(SessionRefusal::NotOpen),
+    }
+}
+
+/// What an attach to this export was answered, as the server answers it.
+fn attached(export: u32, said: Result<u64, NotAttachedAlone>) -> Result<SessionId, NotAttached>
+    ensures { result ≡ told_attached export said }
+{
+    match said {
+        Ok(number) => Ok(SessionId { export, number }),
+        Err(NotAttachedAlone::Refused(AttachRefusal::Worn)) => Err(NotAttached::Worn),
+        Err(NotAttachedAlone::Refused(AttachRefusal::Full)) => Err(NotAttached::Full),
+        Err(NotAttachedAlone::NoMemory) => Err(NotAttached::NoMemory),
+    }
+}
+
+fn arrive_refusal(refusal: ArriveRefusalAlone) -> ArriveRefusal
+    ensures { result ≡ refusal_here refusal }
+{
+    match refusal {
+        ArriveRefusalAlone::NotOpen => ArriveRefusal::NotOpen,
+        ArriveRefusalAlone::Worn => ArriveRefusal::Worn,
+        ArriveRefusalAlone::Hold => ArriveRefusal::Hold,
+    }
+}
+
+/// What an arrival was answered, as the server answers it.
+fn arrived<A: Allocator>(
+    said: Result<Arrived, NotArrivedAlone<A>>,
+) -> Result<Arrived, NotArrived<A>>
+    ensures { result ≡ told_arrived said }
+{
+    match said {
+        Ok(arrived) => Ok(arrived),
+        Err(refused) => Err(NotArrived {
+            refusal: arrive_refusal(refused.refusal),
+            request: refused.request,
+        }),
+    }
+}
+
+impl<I: Image, E: Eligibility<Alloc = I::Alloc>> Server<I, E> {
+    ghost use Rattle.server_core.specs.Served.{Holds, Stepped, attach_says, leave_says, gone_says, take_says, arrive_says, dispatch_says, seats_chosen, opening_served, setup_for};
+
+    /// A server of the exports of a configuration, each in its opening state.
+    pub fn new(alloc: I::Alloc, config: &Config<I::Alloc>) -> Result<Self, NoMemory>
+        ensures { IfOk result (λ server. server ≡ opening_served (setup_for config.now)) }
+    {
+        let exports = config.exports();
+        let inflight = config.inflight();
+        let members = open_members(alloc, exports, inflight)?;
+        let eligible = E::new(alloc, exports.len() as u32)?;
+        Ok(Server {
+            members,
+            eligible,
+            latest: Moment::zero(),
+            served: 0,
+            inflight,
+        })
+    }
+
+    /// Nothing more arrives on a session that is open. It takes no memory.
+    pub fn leave(&mut self, session: SessionId) -> Result<(), SessionRefusal>
+        ensures step { Stepped {A = I.Alloc} self.old (event.Leave session.export session.number) self.new (leave_says result) }
+        ensures seats { self.new.seats ≡ self.old.seats }
+    {
+        if session.export as usize >= self.members.len() {
+            return Err(SessionRefusal::NoExport);
+        }
+        let member = &mut self.members[session.export as usize];
+        here(member.leave(session.number))
+    }
+
+    /// A session that isn't gone is dropped with its replies; its requests are still served. It takes no memory.
+    pub fn gone(&mut self, session: SessionId) -> Result<(), SessionRefusal>
+        ensures step { Stepped {A = I.Alloc} self.old (event.Gone session.export session.number) self.new (gone_says result) }
+        ensures seats { self.new.seats ≡ self.old.seats }
+    {
+        if session.export as usize >= self.members.len() {
+            return Err(SessionRefusal::NoExport);
+        }
+        let member = &mut self.members[session.export as usize];
+        here(member.gone(session.number))
+    }
+
+    /// The oldest reply of a session that isn't gone is taken. It takes no memory.
+    pub fn take_reply(&mut self, session: SessionId) -> Result<Taken<I::Alloc>, SessionRefusal>
+        ensures step { Stepped {A = I.Alloc} self.old (event.Take session.export session.number) self.new (take_says result) }
+        ensures seats { self.new.seats ≡ self.old.seats }
+    {
+        if session.export as usize >= self.members.len() {
+            return Err(SessionRefusal::NoExport);
+        }
+        let member = &mut self.members[session.export as usize];
+        here(member.take(session.number))
+    }
+
+    /// Opens a session of an export.
+    pub fn attach(&mut self, export: u32) -> Result<SessionId, NotAttached>
+        ensures step { Stepped {A = I.Alloc} self.old (event.Attach export) self.new (attach_says result) }
+        ensures seats { self.new.seats ≡ self.old.seats }
+        ensures export { IfOk result (λ session. session.export ≡ export) }
+    {
+        if export as usize >= self.members.len() {
+            return Err(NotAttached::NoExport);
+        }
+        let member = &mut self.members[export as usize];
+        attached(export, member.attach())
+    }
+
+    /// The request that is in service under this number, where one is. It takes no memory.
+    pub fn find(&self, export: u32, number: u64) -> Option<Ticket>
+        ensures ticket { IfSome result (λ ticket. (ticket.export ≡ export) × (ticket.number ≡ number) × Holds self.now ticket) }
+        ensures out { is_some result ≡ is_some (find (is_out_row export number) self.now.table.rows) }
+    {
+        if export as usize >= self.members.len() {
+            return None;
+        }
+        let Some(slot) = self.members[export as usize].slot_of(number) else {
+            return None;
+        };
+        Some(Ticket {
+            export,
+            number,
+            slot,
+        })
+    }
+
+    /// The request in service is done, and its reply goes to its session. The answer tells whether memory was there for
+    /// it; None where the ticket's slot doesn't hold its number any more.
+    pub fn perform(&mut self, ticket: Ticket) -> Option<bool>
+        ensures some { IfSome result (λ memory. Holds self.old ticket
+            × Stepped {A = I.Alloc} self.old (event.Perform ticket.export ticket.number) self.new (answer.Performed memory)) }
+        ensures none { IfNone result ((Holds self.old ticket → ⊥) × (self.new ≡ self.old)) }
+        ensures seats { OnSome result (self.new.seats ≡ change_at (seats_without ticket.number) ticket.export self.old.seats) }
+    {
+        if ticket.export as usize >= self.members.len() {
+            return None;
+        }
+        let member = &mut self.members[ticket.export as usize];
+        let Some(memory) = member.perform(ticket.slot, ticket.number) else {
+            return None;
+        };
+        self.served -= 1;
+        Some(memory)
+    }
+
+    /// A request of a session arrives at a moment, which needn't be later than the moments of others. One that is refused
+    /// is handed back. It takes no memory.
+    pub fn arrive(
+        &mut self,
+        session: SessionId,
+        moment: Moment,
+        request: Request<I::Alloc>,
+    ) -> Result<Arrived, NotArrived<I::Alloc>>
+        ensures step { Stepped {A = I.Alloc} self.old (event.Arrive session.export session.number moment request) self.new (arrive_says result) }
+        ensures seats { self.new.seats ≡ self.old.seats }
+        ensures back { IfErr result (λ e. e.request ≡ request) }
+    {
+        if session.export as usize >= self.members.len() {
+            return Err(NotArrived {
+                refusal: ArriveRefusal::NoExport,
+                request,
+            });
+        }
+        let member = &self.members[session.export as usize];
+        let waiting = member.waiting();
+        let was = member.first();
+        if !member.admits(session.number, &request) {
+            let member = &mut self.members[session.export as usize];
+            return arrived(member.arrive(session.number, moment, request));
+        }
+        // A moment is below 2^62.
+        let _ = moment.nanoseconds();
+        make_way(&mut self.members, &mut self.eligible, waiting, moment);
+        let member = &mut self.members[session.export as usize];
+        let said = member.arrive(session.number, moment, request);
+        let first = member.first();
+        put_first(&mut self.eligible, session.export, was, first);
+        arrived(said)
+    }
+
+    /// Chooses the request that is served next: none where as many are in service as may be, or nothing is due (mClock,
+    /// request scheduling). It takes no memory.
+    pub fn dispatch(&mut self, moment: Moment) -> Option<Chosen>
+        ensures step { Stepped {A = I.Alloc} self.old (event.Dispatch moment) self.new (dispatch_says result) }
+        ensures ticket { IfSome result (λ chosen. Holds self.new chosen.ticket) }
+        ensures seats { self.new.seats ≡ seats_chosen result self.old.seats }
+    {
+        self.latest = self.latest.later(moment);
+        if self.served >= self.inflight {
+            return None;
+        }
+        let Some((export, phase)) = self.eligible.choose(self.latest) else {
+            return None;
+        };
+        let member = &mut self.members[export as usize];
+        let Some(picked) = member.pick(phase) else {
+            return None;
+        };
+        let first = member.first();
+        self.served += 1;
+        renew(&mut self.eligible, export, first);
+        Some(Chosen {
+            ticket: Ticket {
+                export,
+                number: picked.number,
+                slot: picked.slot,
+            },
+            phase,
+        })
+    }
+}
+
+/// An active export has another first request, or none.
+fn renew<E: Eligibility>(eligible: &mut E, export: u32, first: Option<Tags>)
+    requires active { IsActive (E.contents eligible.old) export }
+    requires in_range { IsSlotInRange first }
+    ensures asked { E.asked eligible.new ≤ E.asked eligible.old }
+    ensures contents { E.contents eligible.new ≡ slice_set (E.contents eligible.old) export first }
+{
+    match first {
+        Some(tags) => eligible.rekey(export, tags),
+        None => eligible.leave(export),
+    }
+}
