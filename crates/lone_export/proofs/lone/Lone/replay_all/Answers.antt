@@ -11,7 +11,7 @@ loop-step-preserved g c =
     let count = so_far.count in
     let within = c.loop-step-test.true in
     let is : one ≡ slice_index_or c.args.steps.now c.loop-step.made one = c.step-item.is ∙ ap (λ n. slice_index_or c.args.steps.now n one) (sym count) in
-    let told : c.push_reserved.new.self.items ≡ c.loop-step.answers.items ++ c.in-Ok.answer ∷ [] = told-more _ _ _ c.in-Ok.answer c.push_reserved.ensures.items c.reserve.ensures.items in
+    let told : c.push_reserved.new.self.items ≡ c.loop-step.answers.items ++ c.in-Ok.answer ∷ [] = told-more c.loop-step.answers.items c.reserve.new.self.items c.push_reserved.new.self.items c.in-Ok.answer c.push_reserved.ensures.items c.reserve.ensures.items in
     record {
       count = omega arith;
       within = omega arith;
