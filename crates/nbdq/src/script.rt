@@ -1,6 +1,6 @@
 //! The head of a script: what is configured, up to the line `---`.
 
-ghost use Rattle.std.specs.Prelude.{◌≡◌, ◌<◌, ◌≤◌, ◌+◌, ◌-◌, ◌*◌, ◌^◌, true, length, IsNone, OnSome, IfSome, IfOk, OnErr};
+ghost use Rattle.std.specs.Prelude.{◌≡◌, ◌<◌, ◌≤◌, ◌+◌, ◌-◌, ◌*◌, ◌^◌, true, length, IsNone, OnSome, IfSome, IfOk, OnOk, OnErr, IsSome};
 ghost use Rattle.std.specs.Char.{is_ascii_digit};
 ghost use Rattle.nbdq.specs.Numbers.{written_number};
 
@@ -214,7 +214,10 @@ impl<'a> Written<'a> {
 }
 
 /// Keeps a setting that may be written once.
-fn once<T: Copy>(place: &mut Option<T>, value: T) -> Result<(), LineFault> {
+fn once<T: Copy>(place: &mut Option<T>, value: T) -> Result<(), LineFault>
+    ensures kept { OnOk result (IsNone place.old × (place.new ≡ Some value)) }
+    ensures twice { OnErr result (IsSome place.old × (place.new ≡ place.old)) }
+{
     if place.is_some() {
         return Err(LineFault::Form);
     }
