@@ -3,7 +3,7 @@ use Rattle.std.proofs.Common.{◌≡◌, ℕ, List, length, arith}
 use Rattle.std.specs.Prelude.{Bool, true, false, Option, Some, None, ◌<◌, ◌≤◌, ◌&&◌, nat_lt, if◌then◌else◌, refl}
 use Rattle.std.specs.Option.{option_map_or}
 use Rattle.nbd_commands.specs.Exports.{Export, IsExport, IsWithin}
-use Rattle.nbd_commands.specs.Refusals.{is_outside, is_name_taken, number_refusal, first_refusal}
+use Rattle.nbd_commands.specs.Refusals.{is_outside, is_name_taken, first_refusal}
 use Rattle.nbd_commands.specs.declared.settings.Refusal.{Refusal}
 use Rattle.nbd_commands.specs.declared.settings.Refusal.TheVariants.{BadName, RepeatedName, BadDescription, BadSize, BadReservation, BadLimit, BadWeight, BadDepth, BadWindow, ReservationAboveLimit}
 

@@ -1,6 +1,8 @@
 //! The head of a script: what is configured, up to the line `---`.
 
-ghost use Rattle.std.specs.Prelude.{◌<◌, length};
+ghost use Rattle.std.specs.Prelude.{◌≡◌, ◌<◌, ◌≤◌, ◌+◌, ◌-◌, ◌*◌, ◌^◌, true, length, IsNone, OnSome, IfSome, IfOk, OnOk, OnErr, IsSome};
+ghost use Rattle.std.specs.Char.{is_ascii_digit};
+ghost use Rattle.nbdq.specs.Numbers.{written_number};
 
 use nbd_base::NoMemory;
 use nbd_commands::{
@@ -212,7 +214,10 @@ impl<'a> Written<'a> {
 }
 
 /// Keeps a setting that may be written once.
-fn once<T: Copy>(place: &mut Option<T>, value: T) -> Result<(), LineFault> {
+fn once<T: Copy>(place: &mut Option<T>, value: T) -> Result<(), LineFault>
+    ensures kept { OnOk result (IsNone place.old × (place.new ≡ Some value)) }
+    ensures twice { OnErr result (IsSome place.old × (place.new ≡ place.old)) }
+{
     if place.is_some() {
         return Err(LineFault::Form);
     }
@@ -221,24 +226,33 @@ fn once<T: Copy>(place: &mut Option<T>, value: T) -> Result<(), LineFault> {
 }
 
 /// A number in decimal digits that fits 64 bits.
-fn number(digits: &[u8]) -> Result<u64, LineFault> {
+fn number(digits: &[u8]) -> Result<u64, LineFault>
+    ensures read { IfOk result (λ n. written_number digits.now ≡ Some n) }
+    ensures refused { OnErr result (IfSome (written_number digits.now) (λ n. 2 ^ 64 ≤ n)) }
+{
     if digits.is_empty() {
         return Err(LineFault::Form);
     }
     let mut value = 0u64;
-    for digit in digits {
-        let next = match digit {
-            b'0'..=b'9' => value
-                .checked_mul(10)
-                .and_then(|tens| tens.checked_add(u64::from(*digit - b'0'))),
-            _ => None,
-        };
-        let Some(next) = next else {
+    for &digit in digits {
+        let Some(next) = with_digit(value, digit) else {
             return Err(LineFault::Form);
         };
         value = next;
     }
     Ok(value)
+}
+
+/// The value with one more digit behind it, if it is one and 64 bits hold it.
+fn with_digit(value: u64, digit: u8) -> Option<u64>
+    ensures digit { OnSome result (is_ascii_digit digit ≡ true) }
+    ensures value { IfSome result (λ next. next ≡ value * 10 + (digit - 48)) }
+    ensures none { IsNone result → is_ascii_digit digit ≡ true → 2 ^ 64 ≤ value * 10 + (digit - 48) }
+{
+    if !digit.is_ascii_digit() {
+        return None;
+    }
+    value.checked_mul(10)?.checked_add(u64::from(digit - b'0'))
 }
 
 /// The fields of a line, which one or more spaces part.
