@@ -1,7 +1,9 @@
 -- Requests out of pieces: some bytes were read that aren't served yet.
-use Rattle.std.proofs.Common.{◌≡◌, ℕ, List, [], ◌∷◌, ◌++◌, Option, Result, Ok, Err, refl, sym, ap, subst, ◌∙◌, inr, append_assoc, arith}
+use Rattle.std.proofs.Common.{◌≡◌, ℕ, Bool, true, false, ◌==◌, List, [], ◌∷◌, ◌++◌, Option, Result, Ok, Err, refl, sym, ap, subst, ◌∙◌, inr, append_assoc, arith}
 use Rattle.std.specs.Io.KnownBytes.{Consumes, Appends}
 use Rattle.nbd_wire.specs.Grammar.{request_text, reply_text, head_text, RequestMessage, ReplyMessage, IsUnfinished}
+use Rattle.std.proofs.lemmas.Bool.{eq-eqb, eqb-true}
+use Rattle.nbd_wire.specs.declared.requests.RequestHead.{RequestHead}
 use Rattle.nbd_commands.specs.Terms.{Terms}
 use Rattle.lone_export.specs.Alone.{Alone}
 use Rattle.lone_export.specs.Lone.{Whole}
@@ -168,3 +170,14 @@ module _ (terms : Terms) (first s : Alone) (kept : List ℕ) (i0 i1 o0 o1 : Opti
               (subst (λ (y : List ℕ). Serves terms first y (k.text ++ (reply_to terms s q ++ t)) e) (sym (append_assoc k.front (request_text q) b))
               (k.onward (request_text q ++ b) (reply_to terms s q ++ t) e (goes_on terms s q b t e answered fresh (subst (λ (y : Alone). Serves terms y b t e) leads x))));
         }
+
+-- ---- what the test for DISC tells
+
+pub disc_by : (h head : RequestHead) (test : Bool) → head ≡ h → test ≡ (head.kind == 2) → test ≡ true → h.kind ≡ 2
+disc_by h head test is tells yes_it_is = sym (ap (λ (x : RequestHead). x.kind) is) ∙ eqb-true head.kind 2 (sym tells ∙ yes_it_is)
+
+pub no_disc_by : (h head : RequestHead) (test : Bool) → head ≡ h → test ≡ (head.kind == 2) → test ≡ false → h.kind ≡ 2 → ⊥
+no_disc_by h head test is tells it_is_not two =
+    let t : (head.kind == 2) ≡ true = eq-eqb head.kind 2 (ap (λ (x : RequestHead). x.kind) is ∙ two) in
+    let e : true ≡ false = sym t ∙ (sym tells ∙ it_is_not) in
+    absurd (cc)

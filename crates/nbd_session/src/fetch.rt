@@ -1,6 +1,5 @@
 //! Pieces out of a reader, and the requests that they make whole.
-ghost use Rattle.std.specs.Prelude.{◌≡◌, ◌≢◌, ◌<◌, ◌==◌, ℕ, [], length, true, false, vec_len, None, Some, IfOk, OnOk, if◌then◌else◌};
-ghost use Rattle.nbd_wire.specs.Pieces.{Decoding};
+ghost use Rattle.std.specs.Prelude.{◌≡◌, ◌≢◌, ◌<◌, ◌==◌, [], length, false, vec_len, None, IfOk, OnOk, if◌then◌else◌};
 ghost use Rattle.nbd_session.specs.Frames.{IsBehindReady, IsFraming, TakesIn, Fetches, Advances, ending_of, frame_of};
 ghost use Rattle.nbd_session.specs.declared.ending.Ending.{Ending};
 

@@ -1,4 +1,4 @@
-ghost use Rattle.std.specs.Prelude.{◌≡◌, ◌++◌, ◌+◌, ◌^◌, ◌<◌, ◌≤◌, ◌==◌, cond, length, replicate, IfOk, OnOk, OnErr, IsErrOf};
+ghost use Rattle.std.specs.Prelude.{◌≡◌, ◌==◌, OnOk, OnErr, IsErrOf};
 ghost use Rattle.std.specs.Io.KnownBytes.{Appends};
 ghost use Rattle.nbd_wire.specs.Grammar.{reply_text};
 ghost use Rattle.nbd_commands.specs.Terms.{terms_of};
@@ -17,7 +17,7 @@ use export_store::{Flat, Image};
 use lone_export::Lone;
 use nbd_commands::ExportConfig;
 use nbd_wire::protocol::DISC;
-use nbd_wire::{Reply, write_reply};
+use nbd_wire::{Reply, RequestHead, write_reply};
 use std::alloc::Allocator;
 use std::io::{Read, Write};
 
@@ -67,7 +67,7 @@ fn requests<I: Image, R: Read, W: Write>(
             Frame::ReadFailed => return Err(TalkFault::ReadFailed),
             Frame::NoMemory => return Err(TalkFault::NoMemory),
         };
-        if request.head().kind == DISC {
+        if is_disc(request.head()) {
             return Ok(End::Disc);
         }
         let Some(reply) = serve(lone, request)? else {
@@ -75,6 +75,13 @@ fn requests<I: Image, R: Read, W: Write>(
         };
         say(alloc, reply, writer)?;
     }
+}
+
+/// Whether a request ends the session. Its other fields are ignored.
+fn is_disc(head: RequestHead) -> bool
+    ensures { result ≡ (head.kind == 2) }
+{
+    head.kind == DISC
 }
 
 /// Writes a reply.

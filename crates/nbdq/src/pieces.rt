@@ -3,7 +3,8 @@
 use crate::faults::{SAID, SENT};
 use nbd_commands::{Config, ExportList, ExportSettings};
 use nbd_session::{Counted, End, Frame, FrameReader, TalkFault, talk};
-use std::alloc::Global;
+use refusing::Refusing;
+use std::alloc::{Allocator, Global};
 use std::io;
 use std::io::Read;
 use std::test::Fail;
@@ -86,7 +87,9 @@ fn requests_before_a_bad_head_are_answered(rt: HostRuntime) -> Result<(), Fail> 
 }
 
 /// The cookie of the next request, or how the reading ended.
-fn next_cookie(reader: &mut FrameReader<Drip<'_>, Global>) -> Result<u64, &'static str> {
+fn next_cookie<A: Allocator + Copy>(
+    reader: &mut FrameReader<Drip<'_>, A>,
+) -> Result<u64, &'static str> {
     match reader.next() {
         Frame::Whole(request) => Ok(request.head().cookie),
         Frame::Over => Err("over"),
@@ -136,5 +139,30 @@ fn a_bad_head_is_told_again(rt: HostRuntime) -> Result<(), Fail> {
             "in pieces of {most}"
         );
     }
+    Ok(())
+}
+
+#[test]
+fn each_growth_of_a_reader_is_refused(rt: HostRuntime) -> Result<(), Fail> {
+    let mut refused = 0u64;
+    for nth in 1..100u64 {
+        let heap = Refusing::new(rt.alloc(), nth);
+        let bytes = SENT.get(REQUESTS..).unwrap_or_default();
+        let mut reader = FrameReader::new(&heap, Counted::new(Drip { bytes, most: 27 }));
+        let mut given = 0u64;
+        for cookie in 1..4u64 {
+            if next_cookie(&mut reader) == Ok(cookie) {
+                given = cookie;
+            }
+        }
+        if heap.is_armed() {
+            assert_eq!(rt; given, 3);
+            break;
+        }
+        assert!(rt; given < 3, "at {nth}");
+        assert_eq!(rt; next_cookie(&mut reader), Err("no memory"), "at {nth}");
+        refused = nth;
+    }
+    assert!(rt; refused >= 3);
     Ok(())
 }

@@ -1,10 +1,9 @@
-use Rattle.std.proofs.Common.{arith, refl, ap, sym, ◌∙◌}
+use Rattle.std.proofs.Common.{arith, refl, ap, ◌∙◌}
 use Rattle.std.proofs.lemmas.Result.{err_from_is_err_and}
-use Rattle.nbd_wire.specs.declared.requests.RequestHead.{RequestHead}
 use Rattle.nbd_session.specs.Frames.{Reading}
 use Rattle.nbd_session.specs.Requests.{opened}
 use Rattle.nbd_session.proofs.ServeLemmas.{served_by, still_idle, still_terms, still_few, few_at_first, worn_by_count}
-use Rattle.nbd_session.proofs.KeptLemmas.{keeps_nothing, is_over, is_cut, is_bad_magic, is_too_long, is_read_failed, is_without_memory, is_disc, is_worn, is_part, keeps_on, gives}
+use Rattle.nbd_session.proofs.KeptLemmas.{keeps_nothing, is_over, is_cut, is_bad_magic, is_too_long, is_read_failed, is_without_memory, is_disc, disc_by, no_disc_by, is_worn, is_part, keeps_on, gives}
 use Rattle.nbd_session.proofs.transmission.requests.Goals as goal
 
 pub loop-request-init : goal.loop-request-init
@@ -100,8 +99,8 @@ returns-in-NoMemory-clause-conversation g c =
     let n = c.next.ensures.next inv.not_ended in
     is_without_memory terms (opened terms) s c.loop-request.frames.kept i0 i1 o0 o1 inv.keeping g.row.I-Alloc.Denot c.loop-request.frames c.next.new.self i2 c.loop-request.reader.failures c.next.new.reader.failures c.next.result refl n
 
-pub returns-then-head-eq-DISC-clause-conversation : goal.returns-then-head-eq-DISC-clause-conversation
-returns-then-head-eq-DISC-clause-conversation g c =
+pub returns-then-is_disc-clause-conversation : goal.returns-then-is_disc-clause-conversation
+returns-then-is_disc-clause-conversation g c =
     let terms = c.args.lone.now.terms in
     let s = c.loop-request.lone.state in
     let inv = c.loop-request.invariant in
@@ -113,7 +112,7 @@ returns-then-head-eq-DISC-clause-conversation g c =
     let n = c.next.ensures.next inv.not_ended in
     let q = c.in-Whole.request in
     let whole = c.in-Whole.is in
-    is_disc terms (opened terms) s c.loop-request.frames.kept i0 i1 o0 o1 inv.keeping g.row.I-Alloc.Denot c.loop-request.frames c.next.new.self i2 c.loop-request.reader.failures c.next.new.reader.failures c.next.result refl n q whole (sym (ap (λ (h : RequestHead). h.kind) c.head.ensures.value) ∙ c.if-head-eq-DISC.true)
+    is_disc terms (opened terms) s c.loop-request.frames.kept i0 i1 o0 o1 inv.keeping g.row.I-Alloc.Denot c.loop-request.frames c.next.new.self i2 c.loop-request.reader.failures c.next.new.reader.failures c.next.result refl n q whole (disc_by q.head c.head.result (c.is_disc.result) c.head.ensures.value c.is_disc.ensures c.if-is_disc.true)
 
 pub returns-in_err-reply-clause-conversation : goal.returns-in_err-reply-clause-conversation
 returns-in_err-reply-clause-conversation g c =
@@ -142,7 +141,7 @@ returns-in_default-clause-conversation g c =
     let n = c.next.ensures.next inv.not_ended in
     let q = c.in-Whole.request in
     let whole = c.in-Whole.is in
-    is_worn terms (opened terms) s c.loop-request.frames.kept i0 i1 o0 o1 inv.keeping g.row.I-Alloc.Denot c.loop-request.frames c.next.new.self i2 c.loop-request.reader.failures c.next.new.reader.failures c.next.result refl n q whole (λ two. c.if-head-eq-DISC.false (ap (λ (h : RequestHead). h.kind) c.head.ensures.value ∙ two)) (worn_by_count terms c.loop-request.lone q inv.idle c.in_ok-reply.field-0 c.in_default.is c.in_ok-reply.ensures.worn)
+    is_worn terms (opened terms) s c.loop-request.frames.kept i0 i1 o0 o1 inv.keeping g.row.I-Alloc.Denot c.loop-request.frames c.next.new.self i2 c.loop-request.reader.failures c.next.new.reader.failures c.next.result refl n q whole (no_disc_by q.head c.head.result (c.is_disc.result) c.head.ensures.value c.is_disc.ensures c.if-is_disc.false) (worn_by_count terms c.loop-request.lone q inv.idle c.in_ok-reply.field-0 c.in_default.is c.in_ok-reply.ensures.worn)
 
 pub returns-in_err-say-clause-conversation : goal.returns-in_err-say-clause-conversation
 returns-in_err-say-clause-conversation g c =
@@ -163,7 +162,7 @@ returns-in_err-say-clause-conversation g c =
     let lone = c.loop-request.lone in
     let after = c.serve.new.lone in
     let h = served_by lone after q c.in_ok-reply.field-0 reply inv.idle c.in-Some.is c.in_ok-reply.ensures.reply c.in_ok-reply.ensures.state c.in_ok-reply.ensures.fresh in
-    rw (p.1, p.2) (is_part terms (opened terms) s c.loop-request.frames.kept i0 i1 o0 o1 inv.keeping g.row.I-Alloc.Denot c.loop-request.frames c.next.new.self i2 c.loop-request.reader.failures c.next.new.reader.failures c.next.result refl n q whole lone after reply refl inv.same_terms h (λ two. c.if-head-eq-DISC.false (ap (λ (h : RequestHead). h.kind) c.head.ensures.value ∙ two)) o2 c.in_err-say.field-0.0 c.in_err-say.ensures.part (λ e. c.in_err-say.ensures.no_read (cc)))
+    rw (p.1, p.2) (is_part terms (opened terms) s c.loop-request.frames.kept i0 i1 o0 o1 inv.keeping g.row.I-Alloc.Denot c.loop-request.frames c.next.new.self i2 c.loop-request.reader.failures c.next.new.reader.failures c.next.result refl n q whole lone after reply refl inv.same_terms h (no_disc_by q.head c.head.result (c.is_disc.result) c.head.ensures.value c.is_disc.ensures c.if-is_disc.false) o2 c.in_err-say.field-0.0 c.in_err-say.ensures.part (λ e. c.in_err-say.ensures.no_read (cc)))
 
 pub loop-request-smaller : goal.loop-request-smaller
 loop-request-smaller g c =
@@ -205,7 +204,7 @@ loop-request-preserved g c =
     let h = served_by lone after q c.in_ok-reply.field-0 reply inv.idle c.in-Some.is c.in_ok-reply.ensures.reply c.in_ok-reply.ensures.state c.in_ok-reply.ensures.fresh in
     let given = gives terms (opened terms) s c.loop-request.frames.kept i0 i1 o0 o1 inv.keeping g.row.I-Alloc.Denot c.loop-request.frames c.next.new.self i2 c.loop-request.reader.failures c.next.new.reader.failures c.next.result refl n q whole in
     record {
-      keeping = keeps_on terms (opened terms) s c.loop-request.frames.kept i0 i1 o0 o1 inv.keeping g.row.I-Alloc.Denot c.loop-request.frames c.next.new.self i2 c.loop-request.reader.failures c.next.new.reader.failures c.next.result refl n q whole lone after reply refl inv.same_terms h (λ two. c.if-head-eq-DISC.false (ap (λ (h : RequestHead). h.kind) c.head.ensures.value ∙ two)) o2 c.in_ok-say.ensures.said;
+      keeping = keeps_on terms (opened terms) s c.loop-request.frames.kept i0 i1 o0 o1 inv.keeping g.row.I-Alloc.Denot c.loop-request.frames c.next.new.self i2 c.loop-request.reader.failures c.next.new.reader.failures c.next.result refl n q whole lone after reply refl inv.same_terms h (no_disc_by q.head c.head.result (c.is_disc.result) c.head.ensures.value c.is_disc.ensures c.if-is_disc.false) o2 c.in_ok-say.ensures.said;
       not_ended = given.not_told;
       idle = still_idle terms lone after q reply inv.same_terms h;
       same_terms = still_terms terms lone after q reply inv.same_terms h;
