@@ -150,7 +150,6 @@ seats_shifted : (d : ℤ) (ms : List Standing) → all_seats (map (shifted_stand
 seats_shifted d [] = refl
 seats_shifted d (m ∷ ms) = ap (λ l. m.seats ∷ l) (seats_shifted d ms)
 
-
 pub length_way : (n : ℕ) (t : ℤ) (ms : List Standing) → length (way_of n t ms) ≡ length ms
 length_way n t ms = same_by length (λ d l. length-map l (shifted_standing d)) n t ms
 
@@ -185,7 +184,7 @@ module _ (A : Type 0) where
       let after = accepted_part s q (part_tags m.part t) m.part in
       let is : m' ≡ accepted_standing s t q m = accepted_at m m' s t q r a arrives in
       let l : set (way_for (length m.part.waiting) (pos t) (parts ms)) e after ≡ parts (set way e m') =
-          ap (λ (ps : List Part). set ps e after) (sym (parts_way (length m.part.waiting) (pos t) ms)) ∙ ap (λ (x : Standing). set (parts way) e x.part) (sym is) ∙ sym (parts_set way e m') in
+      ap (λ (ps : List Part). set ps e after) (sym (parts_way (length m.part.waiting) (pos t) ms)) ∙ ap (λ (x : Standing). set (parts way) e x.part) (sym is) ∙ sym (parts_set way e m') in
       let there : m ≡ get_or way e m = sym (member_same (pos t) ms e m m lt at) in
       subst (Stepped {A = A} (served_of ms now inflight) (Arrive e s t q) (served_of (set way e m') now inflight)) (accepted_told m m' s t q r a arrives)
       (record {
@@ -200,9 +199,9 @@ module _ (A : Type 0) where
       let after = accepted_part s q (part_tags m.part t) m.part in
       let is : m' ≡ accepted_standing s t q m = accepted_at m m' s t q r a arrives in
       let l : set (way_for (length m.part.waiting) (pos t) (parts ms)) e after ≡ parts (set way e m') =
-          ap (λ (ps : List Part). set ps e after) (sym (parts_way (length m.part.waiting) (pos t) ms)) ∙ ap (λ (x : Standing). set (parts way) e x.part) (sym is) ∙ sym (parts_set way e m') in
+      ap (λ (ps : List Part). set ps e after) (sym (parts_way (length m.part.waiting) (pos t) ms)) ∙ ap (λ (x : Standing). set (parts way) e x.part) (sym is) ∙ sym (parts_set way e m') in
       let f : slots' ≡ set (heads (way_for (length m.part.waiting) (pos t) (parts ms))) e (head_tags after.waiting) =
-          firsts ∙ ap (λ (ps : List Part). set (heads ps) e (head_tags m'.part.waiting)) (parts_way (length m.part.waiting) (pos t) ms) ∙ ap (λ (x : Standing). set (heads (way_for (length m.part.waiting) (pos t) (parts ms))) e (head_tags x.part.waiting)) is in
+      firsts ∙ ap (λ (ps : List Part). set (heads ps) e (head_tags m'.part.waiting)) (parts_way (length m.part.waiting) (pos t) ms) ∙ ap (λ (x : Standing). set (heads (way_for (length m.part.waiting) (pos t) (parts ms))) e (head_tags x.part.waiting)) is in
       record {
         server = subst (λ (ps : List Part). IsServer ps slots' asked' now inflight served) l
             (kept_arrived (parts ms) slots slots' asked asked' now inflight served e s t q m.part kept.server (within_parts ms e lt) (part_there ms e m lt at) (admits_part m s q a) small f le);

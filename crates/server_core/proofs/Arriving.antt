@@ -170,7 +170,7 @@ module _ (A : Type 0) where
   waits m new s t n room tag q share one waiting h w =
       ap standing_of (kept_is m new s t n room tag q share one waiting h w)
       ∙ ap (λ (l : List Entry). record (accepted_standing s t q (standing_of m)) { part = record (accepted_part s q (part_tags (part_of m) t) (part_of m)) { waiting = l } })
-        (entries_pushed m.whole.state.waiting m.waiting (record { number = m.whole.state.next; session = s; request = q }) (part_tags (part_of m) t) h.tagged)
+      (entries_pushed m.whole.state.waiting m.waiting (record { number = m.whole.state.next; session = s; request = q }) (part_tags (part_of m) t) h.tagged)
 
   pub waits_kept : (m : Kept) (new : Whole) (s t n room : ℕ) (tag : ℤ) (q : RequestMessage) (share : Share) (one : Tags) (waiting : List Tags) → IsMember m → Waits A m new s t n tag q share one waiting → room ≡ m.waiting_room → IsMember (kept_waiting m new share waiting room)
   waits_kept m new s t n room tag q share one waiting h w same =
@@ -186,7 +186,11 @@ module _ (A : Type 0) where
       subst IsMember (sym (kept_is m new s t n room tag q share one waiting h w))
       (record {
         tagged = omega arith;
-        sent = h.sent; seated = h.seated; r_interval = h.r_interval; interval = h.interval; p_interval = h.p_interval;
+        sent = h.sent;
+        seated = h.seated;
+        r_interval = h.r_interval;
+        interval = h.interval;
+        p_interval = h.p_interval;
         few = omega arith;
         waiting_room = omega arith;
         out_room = h.out_room;

@@ -63,7 +63,7 @@ more_tags : (total n k : ℕ) (tags : Tags) → TagsWithin total n k tags → Ta
 more_tags total n k tags h = record {
   r = more_within k n tags.r h.r;
   l = record { not_below = h.l.not_below; not_above = let a = h.l.not_above in omega (arith, ints) };
-  p = record { not_below = h.p.not_below; not_above = let a = h.p.not_above in omega (arith, ints) }
+  p = record { not_below = h.p.not_below; not_above = let a = h.p.not_above in omega (arith, ints) };
 }
 
 r_within : (k n t : ℕ) (last : Option ℤ) (interval : Option ℕ) → IsOptionWithin (k * 2 ^ 30) (2 ^ 62 + n * 2 ^ 30) last → IsOptionShort interval → t < 2 ^ 62 → IsOptionWithin (k * 2 ^ 30) (2 ^ 62 + (n + 1) * 2 ^ 30) (r_of last interval t)
@@ -97,5 +97,5 @@ part_accepted_kept total s t q p h room lt =
       tags = subst (λ j. AllEntries (λ e. TagsWithin (total + 1) (p.next + 1) j e.tags) (p.waiting ++ x ∷ [])) (sym picks) (all_push (λ e. TagsWithin total p.next k e.tags) (λ e. TagsWithin (total + 1) (p.next + 1) k e.tags) (λ e w. more_tags total p.next k e.tags w) p.waiting x h.tags new);
       last_r = subst (λ j. IsOptionWithin (j * 2 ^ 30) (2 ^ 62 + (p.next + 1) * 2 ^ 30) tags.r) (sym picks) new.r;
       last_l = new.l;
-      last_p = new.p
+      last_p = new.p;
     }

@@ -160,8 +160,15 @@ module _ (A : Type 0) where
       subst (λ (w : Whole). IsMember (record m { whole = w; out = out })) (sym (done_whole m.whole new n memory does slots))
       (subst (λ (l : List Sent). IsMember (record m { whole = record m.whole { state = done_state n m.whole.state new.state; slots = slots_without m.whole.state.out m.whole.slots n }; out = l })) (sym left)
       (record {
-        tagged = h.tagged; sent = numbers_without n m.whole.state.out m.out h.sent; seated = slots_length n m.whole.state.out m.whole.slots h.seated;
-        r_interval = h.r_interval; interval = h.interval; p_interval = h.p_interval; few = h.few; waiting_room = h.waiting_room; out_room = h.out_room
+        tagged = h.tagged;
+        sent = numbers_without n m.whole.state.out m.out h.sent;
+        seated = slots_length n m.whole.state.out m.whole.slots h.seated;
+        r_interval = h.r_interval;
+        interval = h.interval;
+        p_interval = h.p_interval;
+        few = h.few;
+        waiting_room = h.waiting_room;
+        out_room = h.out_room;
       }))
 
   pub performs : (m : Kept) (new : Whole) (n : ℕ) (memory : Bool) (out : List Sent) → IsMember m → Does {A = A} m.whole new (Perform n memory) (Performed memory) → new.slots ≡ slots_without m.whole.state.out m.whole.slots n → out ≡ sent_without n m.out → Performs A (standing_of m) (standing_of (record m { whole = new; out = out })) n memory

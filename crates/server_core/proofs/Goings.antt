@@ -25,7 +25,7 @@ module _ (A : Type 0) where
       let marks : marks_of answers' ≡ marks_of answers ++ mark_of said ∷ [] = ap marks_of is ∙ map-append mark_of answers (said ∷ []) in
       let before = table_after first.setup first.table events (marks_of answers) in
       let happened : step first.setup before event (mark_of said) ≡ record { table = new.table; answer = said } =
-          ap (λ (tb : Table). step first.setup tb event (mark_of said)) (sym going.table) ∙ ap (λ (s : Setup). step s now.table event (mark_of said)) (sym going.setup) ∙ one.stepped in
+      ap (λ (tb : Table). step first.setup tb event (mark_of said)) (sym going.table) ∙ ap (λ (s : Setup). step s now.table event (mark_of said)) (sym going.setup) ∙ one.stepped in
       record {
         told = is
             ∙ ap (λ l. l ++ said ∷ []) going.told
@@ -36,5 +36,5 @@ module _ (A : Type 0) where
             ∙ sym (table_after-push first.setup first.table events (marks_of answers) event (mark_of said) going.long)
             ∙ ap (table_after first.setup first.table (events ++ event ∷ [])) (sym marks);
         setup = one.setup ∙ going.setup;
-        long = ap length marks ∙ length-append (marks_of answers) (mark_of said ∷ []) ∙ ap (λ n. n + 1) going.long ∙ sym (length-append events (event ∷ []))
+        long = ap length marks ∙ length-append (marks_of answers) (mark_of said ∷ []) ∙ ap (λ n. n + 1) going.long ∙ sym (length-append events (event ∷ []));
       }

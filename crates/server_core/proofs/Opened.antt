@@ -30,7 +30,20 @@ last_kind (Some interval) = tt
 
 new_part : (terms : Terms) → AreShort terms → IsPart 0 (opening_part terms)
 new_part terms h = record {
-  terms = h; accepted = omega arith; counted = omega arith; waiting = omega arith; rising = tt; numbered = tt; numbers = tt; below = tt; kinds = tt; last_kind = last_kind terms.r_interval; tags = tt; last_r = tt; last_l = tt; last_p = tt
+  terms = h;
+  accepted = omega arith;
+  counted = omega arith;
+  waiting = omega arith;
+  rising = tt;
+  numbered = tt;
+  numbers = tt;
+  below = tt;
+  kinds = tt;
+  last_kind = last_kind terms.r_interval;
+  tags = tt;
+  last_r = tt;
+  last_l = tt;
+  last_p = tt;
 }
 
 new_parts : (inflight : ℕ) (xs : List Export) → All (λ (m : Standing). AreShort m.part.terms) (opened inflight xs) → AllParts (IsPart 0) (parts (opened inflight xs))

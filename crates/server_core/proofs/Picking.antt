@@ -105,7 +105,9 @@ module _ (A : Type 0) where
   by_waiting : (state new : Alone) (number : ℕ) (w : List Job) → state.waiting ≡ w → picked_from state w ≡ record { state = new; answer = Picked number } → PickedJob state new number
   by_waiting state new number [] is did = absurd (let a : ◌≡◌ {A = StepAnswer A} Nothing (Picked number) = ap (λ (m : Moved A). m.answer) did in cc)
   by_waiting state new number (job ∷ rest) is did = record {
-    job = job; rest = rest; waiting = is;
+    job = job;
+    rest = rest;
+    waiting = is;
     same = ap (λ (m : Moved A). number_told m.answer) did;
     state_is = sym (ap (λ (m : Moved A). m.state) did);
   }
@@ -249,8 +251,8 @@ module _ (A : Type 0) where
       let x : Entry = record { number = one.job.number; session = one.job.session; request = one.job.request; tags = t } in
       let waiting : (part_of m).waiting ≡ x ∷ entries_of one.rest ts = ap (λ (w : List Job). entries_of w m.waiting) one.waiting ∙ ap (entries_of (one.job ∷ one.rest)) pick.popped in
       let seats : seats_of new.state.out new.slots ≡ seats_of state.out m.whole.slots ++ record { number = number; slot = slot } ∷ [] =
-          ap (λ (s : Alone). seats_of s.out new.slots) one.state_is ∙ ap (seats_of (state.out ++ one.job ∷ [])) pick.slots ∙ seats_pushed state.out m.whole.slots one.job slot h.seated
-          ∙ ap (λ n. seats_of state.out m.whole.slots ++ record { number = n; slot = slot } ∷ []) one.same in
+      ap (λ (s : Alone). seats_of s.out new.slots) one.state_is ∙ ap (seats_of (state.out ++ one.job ∷ [])) pick.slots ∙ seats_pushed state.out m.whole.slots one.job slot h.seated
+      ∙ ap (λ n. seats_of state.out m.whole.slots ++ record { number = n; slot = slot } ∷ []) one.same in
       let below : AllEntries (λ e. e.number < number) (part_of m).out = subst (λ n. AllEntries (λ e. e.number < n) (part_of m).out) one.same (front_below (part_of m).out (entries_of one.rest ts) x (subst (λ (l : List Entry). IsNumbered ((part_of m).out ++ l)) waiting numbered)) in
       record {
         standing = ap (λ (p : Part). record { part = p; inflight = new.inflight; seats = seats_of new.state.out new.slots }) (part_is m phase new number slot room t ts h pick)

@@ -35,9 +35,15 @@ shifts_kept m d waiting share room h more a b =
     let tagged = h.tagged in
     let wide = h.waiting_room in
     record {
-      tagged = n ∙ h.tagged; sent = h.sent; seated = h.seated;
-      r_interval = ap (λ (x : Share). x.r_interval) b ∙ h.r_interval; interval = h.interval; p_interval = ap (λ (x : Share). x.p_interval) b ∙ h.p_interval;
-      few = h.few; waiting_room = omega arith; out_room = h.out_room
+      tagged = n ∙ h.tagged;
+      sent = h.sent;
+      seated = h.seated;
+      r_interval = ap (λ (x : Share). x.r_interval) b ∙ h.r_interval;
+      interval = h.interval;
+      p_interval = ap (λ (x : Share). x.p_interval) b ∙ h.p_interval;
+      few = h.few;
+      waiting_room = omega arith;
+      out_room = h.out_room;
     }
 
 pub shift_in_range : (m : Kept) (d : ℤ) → IsMember m → TagsInRange (part_shifted d (part_of m)) → AllTagsInRange (map (shifted d) m.waiting)

@@ -18,11 +18,11 @@ use crate::session::SessionId;
 use crate::ticket::{Chosen, Ticket};
 use crate::way::{make_way, put_first};
 use eligibility::Eligibility;
+use export_store::Image;
 use lone_export::{
     ArriveRefusal as ArriveRefusalAlone, Arrived, AttachRefusal, NotArrived as NotArrivedAlone,
     NotAttached as NotAttachedAlone,
 };
-use export_store::Image;
 use nbd_base::NoMemory;
 use nbd_commands::{Config, ExportConfig};
 use nbd_wire::Request;

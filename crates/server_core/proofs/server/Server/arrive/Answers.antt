@@ -361,8 +361,8 @@ invariant_of-self-2 g c =
     let arrives : Arrives {A = A} m m' s t q r = subst (λ (x : Standing). Arrives {A = A} x m' s t q r) d_is c.arrive-said.ensures.arrives in
     let way_is : way ≡ way_of (length m.part.waiting) (pos t) ms = c.make_way.ensures.members ∙ ap (λ k. way_of k (pos t) ms) c.waiting-waiting.ensures in
     let firsts : g.E.Eligibility.contents c.put_first.new.eligible ≡ set (heads (parts (way_of (length m.part.waiting) (pos t) ms))) e (head_tags m'.part.waiting) =
-        c.put_first.ensures.contents ∙ ap (λ (l : List (Option Tags)). set l e c.first-first.result) c.make_way.ensures.slots
-        ∙ ap (λ (l : List Standing). set (heads (parts l)) e c.first-first.result) way_is ∙ ap (set (heads (parts (way_of (length m.part.waiting) (pos t) ms))) e) c.first-first.ensures in
+    c.put_first.ensures.contents ∙ ap (λ (l : List (Option Tags)). set l e c.first-first.result) c.make_way.ensures.slots
+    ∙ ap (λ (l : List Standing). set (heads (parts l)) e c.first-first.result) way_is ∙ ap (set (heads (parts (way_of (length m.part.waiting) (pos t) ms))) e) c.first-first.ensures in
     let not_later = c.self.invariant.server.not_later in
     let le : g.E.Eligibility.asked c.put_first.new.eligible ≤ i.latest = omega (arith, c.put_first.ensures.asked, c.make_way.ensures.asked) in
     subst (λ (l : List Standing). IsServed (set l e m') (g.E.Eligibility.contents c.put_first.new.eligible) (g.E.Eligibility.asked c.put_first.new.eligible) i.latest i.inflight i.served) (sym way_is)
