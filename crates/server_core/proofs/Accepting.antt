@@ -1,9 +1,9 @@
 -- An arrival, over the exports of a server.
-use Rattle.std.proofs.Common.{◌≡◌, ℕ, zero, suc, ◌+◌, ◌*◌, ◌^◌, ◌<◌, ◌≤◌, Bool, true, false, cond, Option, Some, None, Result, Ok, Err, List, [], ◌∷◌, ◌++◌, map, length, set, get_or, refl, sym, ◌∙◌, ap, subst, arith}
-use Rattle.std.specs.Prelude.{⊤, ℤ, pos, negsuc, ◌-ℤ◌, slice_get, IfSome, IfErr, not, ◌==◌}
+use Rattle.std.proofs.Common.{◌≡◌, ℕ, ◌*◌, ◌^◌, ◌<◌, ◌≤◌, Bool, true, false, cond, Option, Some, None, Result, Ok, Err, List, [], ◌∷◌, ◌++◌, map, length, set, get_or, refl, sym, ◌∙◌, ap, subst, arith}
+use Rattle.std.specs.Prelude.{ℤ, pos, negsuc, ◌-ℤ◌, slice_get, IfSome, IfErr, ◌==◌}
 use Rattle.std.proofs.lemmas.Int.{ints}
 use Rattle.std.proofs.lemmas.Bool.Decides.{nat_tests}
-use Rattle.std.proofs.lemmas.List.{length-map, length-set, map-set, get_or-map, get_or-set_same, get_or_default}
+use Rattle.std.proofs.lemmas.List.{length-map, get_or-map, get_or_default}
 use Rattle.std.proofs.lemmas.Option.{slice_get-get_or}
 use Rattle.nbd_base.specs.Range.{InRange}
 use Rattle.nbd_wire.specs.Grammar.{RequestMessage}
@@ -21,17 +21,17 @@ use Rattle.lone_export.specs.declared.step.Step.TheVariants as own
 use Rattle.lone_export.specs.declared.step.StepAnswer.TheVariants as alone
 use Rattle.server_table.specs.declared.event.Event.TheVariants.{Arrive}
 use Rattle.server_table.specs.declared.event.Answer.TheVariants.{Accepted, NoExport}
-use Rattle.server_table.specs.Parts.{Entry, Part, table_of, setup_of, alone_of, job_of_entry}
+use Rattle.server_table.specs.Parts.{Entry, Part, table_of, job_of_entry}
 use Rattle.server_table.specs.Order.{AllParts, head_tags, heads}
-use Rattle.server_table.specs.Ways.{entry_shifted, part_shifted, least_first_p, parts_for, way_for, part_tags, accepted_part}
-use Rattle.server_table.specs.Steps.{Outcome, outcome}
-use Rattle.server_table.proofs.Arrived.{Admits, step_accepts, step_refuses, way_same, way_length}
+use Rattle.server_table.specs.Ways.{entry_shifted, least_first_p, way_for, part_tags, accepted_part}
+use Rattle.server_table.specs.Steps.{outcome}
+use Rattle.server_table.proofs.Arrived.{Admits, step_accepts, step_refuses}
 use Rattle.server_table.proofs.Refused.{no_arrive}
 use Rattle.server_core.specs.Here.{arrived, refusal_here}
 use Rattle.server_core.specs.declared.refusal.NotArrived.{NotArrived}
 use Rattle.server_core.specs.Kept.{AreShort, IsPart, IsServer, Within, TagsInRange, total}
-use Rattle.server_core.specs.Members.{Standing, Seat, shifted_standing, accepted_standing, AdmitsAt, Arrives, Went}
-use Rattle.server_core.specs.Served.{Served, parts, served_of, AllMembers, IsServed, Stepped, arrive_says}
+use Rattle.server_core.specs.Members.{Standing, shifted_standing, accepted_standing, AdmitsAt, Arrives, Went}
+use Rattle.server_core.specs.Served.{parts, served_of, AllMembers, IsServed, Stepped, arrive_says}
 use Rattle.server_core.specs.Way.{lowered_to, way_of, IsFallInRange}
 use Rattle.server_core.proofs.Entries.{part_at}
 use Rattle.server_core.proofs.Picked.{total_small}
@@ -39,7 +39,7 @@ use Rattle.server_core.proofs.Fallen.{least_within, IsKeyWithin}
 use Rattle.server_core.proofs.Changed.{in_order, before_way, after_way, kept_arrived, new_in_range}
 use Rattle.server_core.proofs.Served.{part_there, within_parts, parts_set, same_setup, members_set, member_at, beyond, stepped_own, kept_own, same_seats}
 use Rattle.server_core.proofs.Performed.{all_seats}
-use Rattle.server_core.proofs.Ways.{parts_way, parts_shifted}
+use Rattle.server_core.proofs.Ways.{parts_way}
 
 -- ---- admitted, by the part
 pub admits_part : (m : Standing) (s : ℕ) (q : RequestMessage) → AdmitsAt m s q → Admits m.part s q

@@ -1,7 +1,7 @@
 -- The bounds of tags at a shift and at an arrival: P below 2^63 for each request accepted so far, R and L below 2^62 and
 -- 2^30 for each.
-use Rattle.std.proofs.Common.{◌≡◌, ℕ, ◌+◌, ◌*◌, ◌^◌, ◌<◌, ◌≤◌, ℤ, ◌≤ℤ◌, Option, Some, None, arith}
-use Rattle.std.specs.Prelude.{⊤, pos, negsuc, ◌-ℤ◌, ◌+ℤ◌}
+use Rattle.std.proofs.Common.{ℕ, ◌+◌, ◌*◌, ◌^◌, ◌<◌, ◌≤◌, ℤ, ◌≤ℤ◌, Option, Some, None, arith}
+use Rattle.std.specs.Prelude.{pos, negsuc, ◌-ℤ◌}
 use Rattle.std.proofs.lemmas.Int.{ints, clamps}
 use Rattle.nbd_base.specs.Range.{InRange, IsOptionInRange}
 use Rattle.tag_clock.specs.Tags.{later}

@@ -1,6 +1,6 @@
 -- What is kept when a request is accepted.
-use Rattle.std.proofs.Common.{◌≡◌, ℕ, zero, suc, ◌+◌, ◌-◌, ◌*◌, ◌^◌, ◌<◌, ◌≤◌, ℤ, ◌≤ℤ◌, Option, Some, None, List, [], ◌∷◌, ◌++◌, map, length, refl, sym, ◌∙◌, ap, subst, arith}
-use Rattle.std.specs.Prelude.{⊤, pos, option_map}
+use Rattle.std.proofs.Common.{◌≡◌, ℕ, ◌+◌, ◌-◌, ◌*◌, ◌^◌, ◌<◌, ℤ, ◌≤ℤ◌, Option, Some, None, List, [], ◌∷◌, ◌++◌, length, sym, subst, arith}
+use Rattle.std.specs.Prelude.{option_map}
 use Rattle.std.proofs.lemmas.Int.{ints, clamps}
 use Rattle.std.proofs.lemmas.List.{append_assoc, length-append}
 use Rattle.nbd_wire.specs.Grammar.{RequestMessage}
@@ -9,7 +9,7 @@ use Rattle.tag_clock.specs.Tags.{later}
 use Rattle.server_table.specs.Parts.{Entry, Part}
 use Rattle.server_table.specs.Order.{TagBefore, Before, BeforeAll, IsRising, IsNumbered}
 use Rattle.server_table.specs.Ways.{part_tags, accepted_part}
-use Rattle.server_core.specs.Kept.{AllEntries, BelowLast, Within, IsOptionWithin, TagsWithin, SameKind, LastKind, IsOptionShort, IsPart, picked}
+use Rattle.server_core.specs.Kept.{AllEntries, BelowLast, IsOptionWithin, TagsWithin, SameKind, LastKind, IsOptionShort, IsPart, picked}
 use Rattle.server_core.proofs.Entries.{all_both, all_push, numbered_push}
 use Rattle.server_core.proofs.Bounds.{next_within, own_within}
 

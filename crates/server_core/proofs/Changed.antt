@@ -1,7 +1,6 @@
 -- What a server keeps when one part changes, and when a request comes in.
-use Rattle.std.proofs.Common.{◌≡◌, ℕ, zero, suc, ◌+◌, ◌-◌, ◌*◌, ◌^◌, ◌<◌, ◌≤◌, ℤ, Bool, true, false, cond, Option, Some, None, List, [], ◌∷◌, ◌++◌, map, length, filter, find, set, get_or, refl, sym, ◌∙◌, ap, subst, arith}
-use Rattle.std.specs.Prelude.{⊤, pos, not, ◌==◌, ◌-ℤ◌, nat_le, slice_get, drop}
-use Rattle.std.specs.List.{sum_by}
+use Rattle.std.proofs.Common.{◌≡◌, ℕ, zero, suc, ◌+◌, ◌^◌, ◌<◌, ◌≤◌, ℤ, Bool, true, false, cond, Option, Some, None, List, [], ◌∷◌, ◌++◌, map, length, find, set, get_or, refl, sym, ◌∙◌, ap, subst, arith}
+use Rattle.std.specs.Prelude.{pos, not, ◌==◌, ◌-ℤ◌, nat_le, slice_get}
 use Rattle.std.proofs.lemmas.Bool.Decides.{nat_tests}
 use Rattle.std.proofs.lemmas.List.{length-map, length-set, length-append, map-set, get_or-map}
 use Rattle.std.proofs.lemmas.List.Sums.{sum_by-set, sum_by-cons, get_or-le-sum_by}
@@ -10,7 +9,6 @@ use Rattle.nbd_wire.specs.Grammar.{RequestMessage}
 use Rattle.tag_clock.specs.declared.Tags.{Tags}
 use Rattle.tag_clock.specs.declared.Phase.{Phase}
 use Rattle.tag_clock.specs.declared.Phase.TheVariants.{Reservation, Weight}
-use Rattle.tag_clock.specs.Clocks.{lowered}
 use Rattle.eligibility.specs.Choice.{IsSlotInRange}
 use Rattle.lone_export.specs.Alone.{Alone}
 use Rattle.server_table.specs.Parts.{Entry, Part, with_alone, performed_part, without}

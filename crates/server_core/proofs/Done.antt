@@ -1,19 +1,17 @@
 -- A request of one export is done: what it is with its tags.
-use Rattle.std.proofs.Common.{◌≡◌, ◌≢◌, ℕ, zero, suc, ◌+◌, ◌≤◌, ◌<◌, Bool, true, false, cond, Option, Some, None, List, [], ◌∷◌, ◌++◌, map, length, filter, find, refl, sym, ◌∙◌, ap, subst, arith}
+use Rattle.std.proofs.Common.{◌≡◌, ℕ, suc, Bool, true, false, cond, Option, Some, None, List, [], ◌∷◌, map, length, filter, find, refl, sym, ◌∙◌, ap, subst, arith}
 use Rattle.std.specs.Prelude.{not, ◌==◌, ◌&&◌, is_some}
 use Rattle.std.proofs.lemmas.Bool.Decides.{nat_tests}
 use Rattle.nbd_base.specs.Words.{when_some}
-use Rattle.nbd_commands.specs.Terms.{Terms}
 use Rattle.nbd_commands.specs.Meaning.{may_want_memory}
 use Rattle.tag_clock.specs.declared.Tags.{Tags}
 use Rattle.lone_export.specs.Alone.{Alone, Job, Moved, own_step, done, undone, moves, stays}
 use Rattle.lone_export.specs.Lone.{Whole, Does, slot_among, slots_without}
 use Rattle.lone_export.specs.declared.step.Step.TheVariants.{Perform}
-use Rattle.lone_export.specs.declared.step.StepAnswer.{StepAnswer}
 use Rattle.lone_export.specs.declared.step.StepAnswer.TheVariants.{Performed, NotOut}
-use Rattle.server_table.specs.Parts.{Entry, Part, alone_of, without}
+use Rattle.server_table.specs.Parts.{Entry, Part, without}
 use Rattle.server_core.specs.declared.member.Sent.{Sent}
-use Rattle.server_core.specs.Members.{Standing, Seat, Kept, entries_of, seats_of, sent_tags, part_of, standing_of, slot_in, seats_without, done_standing, IsMember, own, Performs}
+use Rattle.server_core.specs.Members.{Seat, Kept, entries_of, seats_of, sent_tags, part_of, standing_of, slot_in, seats_without, done_standing, IsMember, own, Performs}
 use Rattle.lone_export.proofs.Cases.{if_one}
 use Rattle.server_core.proofs.Members.{alone_back, sent_length}
 

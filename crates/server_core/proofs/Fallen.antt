@@ -1,5 +1,5 @@
 -- What is kept when the P tags fall.
-use Rattle.std.proofs.Common.{◌≡◌, ℕ, zero, suc, ◌+◌, ◌-◌, ◌*◌, ◌^◌, ◌<◌, ◌≤◌, ℤ, ◌≤ℤ◌, Bool, true, false, cond, Option, Some, None, List, [], ◌∷◌, ◌++◌, map, length, get_or, refl, sym, ◌∙◌, ap, subst, arith}
+use Rattle.std.proofs.Common.{◌≡◌, ℕ, ◌+◌, ◌-◌, ◌*◌, ◌^◌, ◌<◌, ◌≤◌, ℤ, ◌≤ℤ◌, Bool, true, false, cond, Option, Some, None, List, [], ◌∷◌, map, length, refl, sym, ◌∙◌, ap, subst, arith}
 use Rattle.std.specs.Prelude.{⊤, pos, ◌-ℤ◌, int_le, ◌==◌}
 use Rattle.std.proofs.lemmas.Int.{ints}
 use Rattle.std.proofs.lemmas.Bool.Decides.{nat_tests}
@@ -9,7 +9,7 @@ use Rattle.tag_clock.specs.declared.Tags.{Tags}
 use Rattle.tag_clock.specs.Clocks.{lowered}
 use Rattle.eligibility.specs.Choice.{candidates, slot_key}
 use Rattle.server_table.specs.Parts.{Entry, Part}
-use Rattle.server_table.specs.Order.{AllParts, TagBefore, Before, BeforeAll, IsRising, head_tags, heads}
+use Rattle.server_table.specs.Order.{AllParts, TagBefore, BeforeAll, IsRising, head_tags, heads}
 use Rattle.server_table.specs.Ways.{entry_shifted, part_shifted, least_first_p, parts_for, way_for}
 use Rattle.server_core.specs.Kept.{AllEntries, BelowLast, Within, IsOptionWithin, TagsWithin, SameKind, IsPart, picked}
 use Rattle.server_core.proofs.Entries.{all_to, all_both, all_mapped, numbered_behind, below_behind, parts_to}

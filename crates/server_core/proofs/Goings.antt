@@ -1,5 +1,5 @@
 -- A run goes on by one event.
-use Rattle.std.proofs.Common.{◌≡◌, ℕ, ◌+◌, Bool, true, List, [], ◌∷◌, ◌++◌, map, length, refl, sym, ◌∙◌, ap, subst, arith}
+use Rattle.std.proofs.Common.{◌≡◌, ◌+◌, List, [], ◌∷◌, ◌++◌, length, sym, ◌∙◌, ap}
 use Rattle.std.proofs.lemmas.List.{map-append, length-append}
 use Rattle.server_table.specs.declared.event.Event.{Event}
 use Rattle.server_table.specs.declared.event.Answer.{Answer}
@@ -7,9 +7,6 @@ use Rattle.server_table.specs.Table.{Table, Setup}
 use Rattle.server_table.specs.Steps.{Outcome, step, table_after, answers_of}
 use Rattle.server_table.specs.Shares.{mark_of, marks_of}
 use Rattle.server_table.proofs.Push.{answers_of-push, table_after-push}
-use Rattle.core_laws.specs.Runs.{Run}
-use Rattle.core_laws.proofs.Runs.{told_alone, last_alone}
-use Rattle.core_laws.proofs.Limits.{weight_waits}
 use Rattle.server_core.specs.Served.{Served, Stepped}
 
 -- so far

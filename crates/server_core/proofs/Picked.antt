@@ -1,20 +1,18 @@
 -- What is kept when a request is taken out.
 use Rattle.std.proofs.Common.{◌≡◌, ℕ, zero, suc, ◌+◌, ◌-◌, ◌*◌, ◌^◌, ◌<◌, ◌≤◌, ℤ, Option, Some, None, List, [], ◌∷◌, ◌++◌, map, length, get_or, refl, sym, ◌∙◌, ap, subst, arith}
-use Rattle.std.specs.Prelude.{⊤, pos, negsuc, neg_ℤ, ◌-ℤ◌, ◌≤ℤ◌, drop}
-use Rattle.std.specs.List.{All, sum_by}
+use Rattle.std.specs.Prelude.{pos, drop}
 use Rattle.std.proofs.lemmas.Int.{ints}
 use Rattle.std.proofs.lemmas.List.{length-map, append_assoc}
 use Rattle.std.proofs.lemmas.List.Sums.{sum_by-cons}
-use Rattle.tag_clock.specs.declared.Tags.{Tags}
 use Rattle.tag_clock.specs.Tags.{AreInRange}
 use Rattle.tag_clock.specs.Clocks.{lowered}
 use Rattle.tag_clock.specs.declared.Phase.{Phase}
 use Rattle.tag_clock.specs.declared.Phase.TheVariants.{Reservation, Weight}
 use Rattle.eligibility.specs.Choice.{IsSlotInRange}
 use Rattle.server_table.specs.Parts.{Entry, Part}
-use Rattle.server_table.specs.Order.{TagBefore, Before, BeforeAll, IsRising, IsNumbered, AllParts, head_tags}
+use Rattle.server_table.specs.Order.{TagBefore, BeforeAll, IsRising, IsNumbered, AllParts, head_tags}
 use Rattle.server_table.specs.Picks.{entry_credited, part_credited, front, part_sent, part_picked}
-use Rattle.server_core.specs.Kept.{AllEntries, BelowLast, Within, IsOptionWithin, TagsWithin, SameKind, LastKind, IsShort, IsOptionShort, IsPart, picked, total, TagsInRange, EntriesInRange}
+use Rattle.server_core.specs.Kept.{AllEntries, BelowLast, IsOptionWithin, TagsWithin, SameKind, LastKind, IsOptionShort, IsPart, picked, total, TagsInRange, EntriesInRange}
 use Rattle.server_core.proofs.Entries.{all_to, all_both, all_mapped, numbered_behind, below_behind}
 use Rattle.server_core.proofs.Bounds.{in_range, option_in_range}
 

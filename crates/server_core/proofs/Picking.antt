@@ -1,15 +1,13 @@
 -- A request of one export is picked: what it is with its tags.
-use Rattle.std.proofs.Common.{◌≡◌, ◌≢◌, ℕ, zero, suc, ◌+◌, ◌≤◌, ◌<◌, Bool, true, false, cond, Option, Some, None, List, [], ◌∷◌, ◌++◌, map, length, get_or, drop, refl, sym, ◌∙◌, ap, subst, arith}
-use Rattle.std.specs.Prelude.{◌==◌, ⊤, slice_get, pos}
-use Rattle.std.specs.List.{All}
+use Rattle.std.proofs.Common.{◌≡◌, ℕ, zero, suc, ◌+◌, ◌≤◌, ◌<◌, true, false, cond, Option, Some, None, List, [], ◌∷◌, ◌++◌, map, length, get_or, drop, refl, sym, ◌∙◌, ap, subst, arith}
+use Rattle.std.specs.Prelude.{◌==◌, slice_get}
 use Rattle.std.proofs.lemmas.Bool.Decides.{nat_tests}
-use Rattle.std.proofs.lemmas.List.{length-append, length-map, length-drop, map-append}
+use Rattle.std.proofs.lemmas.List.{length-append, length-map, map-append}
 use Rattle.nbd_base.specs.Words.{when_some}
-use Rattle.nbd_base.specs.Range.{IsOptionInRange}
 use Rattle.tag_clock.specs.declared.Tags.{Tags}
 use Rattle.tag_clock.specs.Tags.{AreInRange}
 use Rattle.nbd_commands.specs.Terms.{Terms}
-use Rattle.tag_clock.specs.Clocks.{Share, lowered}
+use Rattle.tag_clock.specs.Clocks.{Share}
 use Rattle.tag_clock.specs.declared.Phase.{Phase}
 use Rattle.tag_clock.specs.declared.Phase.TheVariants.{Reservation, Weight}
 use Rattle.lone_export.specs.Alone.{Alone, Job, Moved, own_step, moves, stays}
@@ -19,11 +17,11 @@ use Rattle.lone_export.specs.declared.step.StepAnswer.{StepAnswer}
 use Rattle.lone_export.specs.declared.step.StepAnswer.TheVariants.{Picked, Nothing}
 use Rattle.server_table.specs.Parts.{Entry, Part}
 use Rattle.server_table.specs.Order.{AllAbove, IsNumbered, head_tags}
-use Rattle.server_table.specs.Picks.{entry_credited, part_credited, front, part_sent, part_picked}
+use Rattle.server_table.specs.Picks.{entry_credited, part_credited, part_sent, part_picked}
 use Rattle.server_core.specs.declared.member.Sent.{Sent}
 use Rattle.server_core.specs.Kept.{AllEntries, EntriesInRange, TagsInRange}
 use Rattle.server_core.specs.Tagging.{tags_credited, AllTagsInRange, credit_due, waiting_credited, share_credited_by}
-use Rattle.server_core.specs.Members.{Standing, Seat, Kept, entries_of, seats_of, sent_tags, part_of, standing_of, slot_in, IsMember, first_number, picked_standing, Picks}
+use Rattle.server_core.specs.Members.{Seat, Kept, entries_of, seats_of, sent_tags, part_of, standing_of, slot_in, IsMember, first_number, Picks}
 use Rattle.server_core.proofs.Members.{sent_length}
 
 -- ---- the first tags

@@ -208,10 +208,11 @@ fn tags_fall_for_an_idle_export(rt: HostRuntime) -> Result<(), Fail> {
 }
 
 // One may be in service of all exports together; its ticket is found until it is performed, and then no more.
-fn one_at_a_time<E: Eligibility<Alloc = Global>>(alloc: Global) -> Option<[bool; 6]> {
+fn one_at_a_time<E: Eligibility<Alloc = Global>>(alloc: Global) -> Option<[bool; 7]> {
     let mut server: Tried<E> = server_of(alloc, &rates(0, 0, 1), &rates(0, 0, 1), 1)?;
     sent(&mut server, 0, 0)?;
     sent(&mut server, 1, 0)?;
+    let both = server.waiting() == 2;
     let first = server.dispatch(at(0))?;
     let waits = server.dispatch(at(0)).is_none();
     let found = server.find(0, 0) == Some(first.ticket);
@@ -219,6 +220,7 @@ fn one_at_a_time<E: Eligibility<Alloc = Global>>(alloc: Global) -> Option<[bool;
     let again = server.perform(first.ticket).is_none();
     let gone = server.find(0, 0).is_none() && server.find(7, 0).is_none();
     Some([
+        both && server.waiting() == 1,
         waits,
         found,
         performed,
@@ -232,11 +234,11 @@ fn one_at_a_time<E: Eligibility<Alloc = Global>>(alloc: Global) -> Option<[bool;
 fn inflight_counts_all_exports(rt: HostRuntime) -> Result<(), Fail> {
     assert_eq!(rt;
         one_at_a_time::<Listed<Global>>(rt.alloc()),
-        Some([true; 6])
+        Some([true; 7])
     );
     assert_eq!(rt;
         one_at_a_time::<Heaped<Global>>(rt.alloc()),
-        Some([true; 6])
+        Some([true; 7])
     );
     Ok(())
 }

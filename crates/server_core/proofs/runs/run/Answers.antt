@@ -1,9 +1,9 @@
-use Rattle.std.proofs.Common.{◌≡◌, ◌++◌, ◌∷◌, [], map, length, take, refl, sym, ◌∙◌, ap, subst, List, rules}
-use Rattle.server_table.specs.Table.{Table, Setup, opening_table}
+use Rattle.std.proofs.Common.{◌≡◌, ◌∷◌, [], map, length, take, refl, sym, ◌∙◌, ap, subst, List, rules}
+use Rattle.server_table.specs.Table.{opening_table}
 use Rattle.server_table.specs.Steps.{answers_of, last_table}
 use Rattle.server_table.specs.Shares.{marks_of}
 use Rattle.server_core.specs.Run.{run_of}
-use Rattle.server_core.specs.Served.{Served, Stepped, setup_for, opening_served}
+use Rattle.server_core.specs.Served.{Served, setup_for, opening_served}
 use Rattle.server_core.proofs.Goings.{Going, one_more}
 use Rattle.std.proofs.lemmas.Iterator.Adapters.{YieldsList-from_vec}
 use Rattle.std.proofs.lemmas.Iterator.Consumers.{YieldsList-end}

@@ -1,12 +1,10 @@
-use Rattle.std.proofs.Common.{ℕ, ◌≡◌, ◌<◌, ◌≤◌, ◌^◌, true, false, length, set, get_or, Option, Some, Result, List, refl, sym, ◌∙◌, ap, subst, arith, rules}
-use Rattle.std.specs.Prelude.{pos, IfSome, IfErr}
+use Rattle.std.proofs.Common.{◌≡◌, ◌<◌, ◌≤◌, true, length, set, Option, List, sym, ◌∙◌, ap, subst, arith, rules}
+use Rattle.std.specs.Prelude.{pos}
 use Rattle.tag_clock.specs.declared.Tags.{Tags}
 use Rattle.eligibility.specs.Choice.{IsSlotInRange}
 use Rattle.server_table.specs.declared.event.Event.TheVariants.{Arrive}
 use Rattle.server_table.specs.declared.event.Answer.TheVariants.{NoExport}
-use Rattle.server_table.specs.Parts.{Part}
-use Rattle.server_table.specs.Order.{AllParts, head_tags, heads}
-use Rattle.server_table.specs.Ways.{least_first_p, way_for}
+use Rattle.server_table.specs.Order.{head_tags, heads}
 use Rattle.server_core.specs.Kept.{AreShort, TagsInRange}
 use Rattle.server_core.specs.Members.{Standing, AdmitsAt, Arrives}
 use Rattle.server_core.specs.Served.{Served, parts, served_of, Stepped, IsServed, arrive_says}
@@ -14,7 +12,7 @@ use Rattle.server_core.specs.Here.{arrived as told_arrived}
 use Rattle.server_core.specs.Way.{way_of}
 use Rattle.server_core.proofs.Changed.{before_way}
 use Rattle.server_core.proofs.Performed.{all_seats}
-use Rattle.server_core.proofs.Accepting.{absent_arrive, same_read, few_members, part_range, terms_short, stepped_refused, kept_refused, seats_refused, back_told, falls, way_range, found_same, length_way, slot_was, same_first, accepted_at, first_in_range, kept_accepted, stepped_accepted, seats_accepted}
+use Rattle.server_core.proofs.Accepting.{absent_arrive, same_read, few_members, part_range, terms_short, stepped_refused, kept_refused, seats_refused, back_told, falls, way_range, found_same, length_way, slot_was, same_first, first_in_range, kept_accepted, stepped_accepted, seats_accepted}
 use Rattle.server_core.proofs.server.Server.arrive.Goals as goal
 
 pub returns-then-session-len-clause-step : goal.returns-then-session-len-clause-step
