@@ -1,9 +1,9 @@
 -- An arrival, over the exports of a server.
-use Rattle.std.proofs.Common.{◌≡◌, ℕ, zero, suc, ◌+◌, ◌*◌, ◌^◌, ◌<◌, ◌≤◌, Bool, true, false, cond, Option, Some, None, Result, Ok, Err, List, [], ◌∷◌, ◌++◌, map, length, set, get_or, refl, sym, ◌∙◌, ap, subst, arith}
-use Rattle.std.specs.Prelude.{⊤, ℤ, pos, negsuc, ◌-ℤ◌, slice_get, IfSome, IfErr, not, ◌==◌}
+use Rattle.std.proofs.Common.{◌≡◌, ℕ, ◌*◌, ◌^◌, ◌<◌, ◌≤◌, Bool, true, false, cond, Option, Some, None, Result, Ok, Err, List, [], ◌∷◌, ◌++◌, map, length, set, get_or, refl, sym, ◌∙◌, ap, subst, arith}
+use Rattle.std.specs.Prelude.{ℤ, pos, negsuc, ◌-ℤ◌, slice_get, IfSome, IfErr, ◌==◌}
 use Rattle.std.proofs.lemmas.Int.{ints}
 use Rattle.std.proofs.lemmas.Bool.Decides.{nat_tests}
-use Rattle.std.proofs.lemmas.List.{length-map, length-set, map-set, get_or-map, get_or-set_same, get_or_default}
+use Rattle.std.proofs.lemmas.List.{length-map, get_or-map, get_or_default}
 use Rattle.std.proofs.lemmas.Option.{slice_get-get_or}
 use Rattle.nbd_base.specs.Range.{InRange}
 use Rattle.nbd_wire.specs.Grammar.{RequestMessage}
@@ -21,17 +21,17 @@ use Rattle.lone_export.specs.declared.step.Step.TheVariants as own
 use Rattle.lone_export.specs.declared.step.StepAnswer.TheVariants as alone
 use Rattle.server_table.specs.declared.event.Event.TheVariants.{Arrive}
 use Rattle.server_table.specs.declared.event.Answer.TheVariants.{Accepted, NoExport}
-use Rattle.server_table.specs.Parts.{Entry, Part, table_of, setup_of, alone_of, job_of_entry}
+use Rattle.server_table.specs.Parts.{Entry, Part, table_of, job_of_entry}
 use Rattle.server_table.specs.Order.{AllParts, head_tags, heads}
-use Rattle.server_table.specs.Ways.{entry_shifted, part_shifted, least_first_p, parts_for, way_for, part_tags, accepted_part}
-use Rattle.server_table.specs.Steps.{Outcome, outcome}
-use Rattle.server_table.proofs.Arrived.{Admits, step_accepts, step_refuses, way_same, way_length}
+use Rattle.server_table.specs.Ways.{entry_shifted, least_first_p, way_for, part_tags, accepted_part}
+use Rattle.server_table.specs.Steps.{outcome}
+use Rattle.server_table.proofs.Arrived.{Admits, step_accepts, step_refuses}
 use Rattle.server_table.proofs.Refused.{no_arrive}
 use Rattle.server_core.specs.Here.{arrived, refusal_here}
 use Rattle.server_core.specs.declared.refusal.NotArrived.{NotArrived}
 use Rattle.server_core.specs.Kept.{AreShort, IsPart, IsServer, Within, TagsInRange, total}
-use Rattle.server_core.specs.Members.{Standing, Seat, shifted_standing, accepted_standing, AdmitsAt, Arrives, Went}
-use Rattle.server_core.specs.Served.{Served, parts, served_of, AllMembers, IsServed, Stepped, arrive_says}
+use Rattle.server_core.specs.Members.{Standing, shifted_standing, accepted_standing, AdmitsAt, Arrives, Went}
+use Rattle.server_core.specs.Served.{parts, served_of, AllMembers, IsServed, Stepped, arrive_says}
 use Rattle.server_core.specs.Way.{lowered_to, way_of, IsFallInRange}
 use Rattle.server_core.proofs.Entries.{part_at}
 use Rattle.server_core.proofs.Picked.{total_small}
@@ -39,7 +39,7 @@ use Rattle.server_core.proofs.Fallen.{least_within, IsKeyWithin}
 use Rattle.server_core.proofs.Changed.{in_order, before_way, after_way, kept_arrived, new_in_range}
 use Rattle.server_core.proofs.Served.{part_there, within_parts, parts_set, same_setup, members_set, member_at, beyond, stepped_own, kept_own, same_seats}
 use Rattle.server_core.proofs.Performed.{all_seats}
-use Rattle.server_core.proofs.Ways.{parts_way, parts_shifted}
+use Rattle.server_core.proofs.Ways.{parts_way}
 
 -- ---- admitted, by the part
 pub admits_part : (m : Standing) (s : ℕ) (q : RequestMessage) → AdmitsAt m s q → Admits m.part s q
@@ -150,7 +150,6 @@ seats_shifted : (d : ℤ) (ms : List Standing) → all_seats (map (shifted_stand
 seats_shifted d [] = refl
 seats_shifted d (m ∷ ms) = ap (λ l. m.seats ∷ l) (seats_shifted d ms)
 
-
 pub length_way : (n : ℕ) (t : ℤ) (ms : List Standing) → length (way_of n t ms) ≡ length ms
 length_way n t ms = same_by length (λ d l. length-map l (shifted_standing d)) n t ms
 
@@ -185,7 +184,7 @@ module _ (A : Type 0) where
       let after = accepted_part s q (part_tags m.part t) m.part in
       let is : m' ≡ accepted_standing s t q m = accepted_at m m' s t q r a arrives in
       let l : set (way_for (length m.part.waiting) (pos t) (parts ms)) e after ≡ parts (set way e m') =
-          ap (λ (ps : List Part). set ps e after) (sym (parts_way (length m.part.waiting) (pos t) ms)) ∙ ap (λ (x : Standing). set (parts way) e x.part) (sym is) ∙ sym (parts_set way e m') in
+      ap (λ (ps : List Part). set ps e after) (sym (parts_way (length m.part.waiting) (pos t) ms)) ∙ ap (λ (x : Standing). set (parts way) e x.part) (sym is) ∙ sym (parts_set way e m') in
       let there : m ≡ get_or way e m = sym (member_same (pos t) ms e m m lt at) in
       subst (Stepped {A = A} (served_of ms now inflight) (Arrive e s t q) (served_of (set way e m') now inflight)) (accepted_told m m' s t q r a arrives)
       (record {
@@ -200,9 +199,9 @@ module _ (A : Type 0) where
       let after = accepted_part s q (part_tags m.part t) m.part in
       let is : m' ≡ accepted_standing s t q m = accepted_at m m' s t q r a arrives in
       let l : set (way_for (length m.part.waiting) (pos t) (parts ms)) e after ≡ parts (set way e m') =
-          ap (λ (ps : List Part). set ps e after) (sym (parts_way (length m.part.waiting) (pos t) ms)) ∙ ap (λ (x : Standing). set (parts way) e x.part) (sym is) ∙ sym (parts_set way e m') in
+      ap (λ (ps : List Part). set ps e after) (sym (parts_way (length m.part.waiting) (pos t) ms)) ∙ ap (λ (x : Standing). set (parts way) e x.part) (sym is) ∙ sym (parts_set way e m') in
       let f : slots' ≡ set (heads (way_for (length m.part.waiting) (pos t) (parts ms))) e (head_tags after.waiting) =
-          firsts ∙ ap (λ (ps : List Part). set (heads ps) e (head_tags m'.part.waiting)) (parts_way (length m.part.waiting) (pos t) ms) ∙ ap (λ (x : Standing). set (heads (way_for (length m.part.waiting) (pos t) (parts ms))) e (head_tags x.part.waiting)) is in
+      firsts ∙ ap (λ (ps : List Part). set (heads ps) e (head_tags m'.part.waiting)) (parts_way (length m.part.waiting) (pos t) ms) ∙ ap (λ (x : Standing). set (heads (way_for (length m.part.waiting) (pos t) (parts ms))) e (head_tags x.part.waiting)) is in
       record {
         server = subst (λ (ps : List Part). IsServer ps slots' asked' now inflight served) l
             (kept_arrived (parts ms) slots slots' asked asked' now inflight served e s t q m.part kept.server (within_parts ms e lt) (part_there ms e m lt at) (admits_part m s q a) small f le);

@@ -1,11 +1,11 @@
 -- A request of one export arrives: what it is with its tags.
-use Rattle.std.proofs.Common.{◌≡◌, ◌≢◌, ℕ, zero, suc, ◌+◌, ◌≤◌, ◌<◌, Bool, true, false, cond, Option, Some, None, List, [], ◌∷◌, ◌++◌, map, length, refl, sym, ◌∙◌, ap, subst, arith}
+use Rattle.std.proofs.Common.{◌≡◌, ◌≢◌, ℕ, ◌+◌, ◌≤◌, ◌<◌, Bool, true, false, cond, Option, Some, None, List, [], ◌∷◌, ◌++◌, length, refl, sym, ◌∙◌, ap, subst, arith}
 use Rattle.std.specs.Prelude.{not, ◌==◌, ◌^◌, nat_le, ℤ, option_map, pos, negsuc, FitsSigned}
 use mir.Syntax.{w128}
 use Rattle.std.proofs.lemmas.Int.{ints, clamps, fits_signed_from_abs}
-use Rattle.nbd_base.specs.Range.{InRange, IsOptionInRange}
+use Rattle.nbd_base.specs.Range.{IsOptionInRange}
 use Rattle.std.proofs.lemmas.Bool.Decides.{nat_tests}
-use Rattle.std.proofs.lemmas.List.{length-append, length-map}
+use Rattle.std.proofs.lemmas.List.{length-append}
 use Rattle.nbd_wire.specs.Grammar.{RequestMessage}
 use Rattle.nbd_commands.specs.Terms.{Terms}
 use Rattle.nbd_commands.specs.Verdict.{verdict_of}
@@ -21,11 +21,10 @@ use Rattle.lone_export.specs.declared.step.Step.TheVariants.{Arrive}
 use Rattle.lone_export.specs.declared.step.StepAnswer.{StepAnswer}
 use Rattle.lone_export.specs.declared.step.StepAnswer.TheVariants.{Accepted}
 use Rattle.lone_export.proofs.Cases.{if_told, true_false}
-use Rattle.server_table.specs.Parts.{Entry, Part, alone_of}
+use Rattle.server_table.specs.Parts.{Entry}
 use Rattle.server_table.specs.Ways.{part_tags, accepted_part}
-use Rattle.server_core.specs.declared.member.Sent.{Sent}
-use Rattle.server_core.specs.Members.{Standing, Seat, Kept, entries_of, seats_of, sent_tags, part_of, standing_of, IsMember, AdmitsAt, accepted_standing, own, Went}
-use Rattle.server_core.proofs.Members.{alone_back, seated, KeepsRequests, went, went_kept}
+use Rattle.server_core.specs.Members.{Kept, part_of, standing_of, IsMember, AdmitsAt, accepted_standing}
+use Rattle.server_core.proofs.Members.{alone_back, seated}
 use Rattle.server_core.proofs.Picking.{entries_pushed}
 
 -- ---- admitted or not
@@ -170,7 +169,7 @@ module _ (A : Type 0) where
   waits m new s t n room tag q share one waiting h w =
       ap standing_of (kept_is m new s t n room tag q share one waiting h w)
       ∙ ap (λ (l : List Entry). record (accepted_standing s t q (standing_of m)) { part = record (accepted_part s q (part_tags (part_of m) t) (part_of m)) { waiting = l } })
-        (entries_pushed m.whole.state.waiting m.waiting (record { number = m.whole.state.next; session = s; request = q }) (part_tags (part_of m) t) h.tagged)
+      (entries_pushed m.whole.state.waiting m.waiting (record { number = m.whole.state.next; session = s; request = q }) (part_tags (part_of m) t) h.tagged)
 
   pub waits_kept : (m : Kept) (new : Whole) (s t n room : ℕ) (tag : ℤ) (q : RequestMessage) (share : Share) (one : Tags) (waiting : List Tags) → IsMember m → Waits A m new s t n tag q share one waiting → room ≡ m.waiting_room → IsMember (kept_waiting m new share waiting room)
   waits_kept m new s t n room tag q share one waiting h w same =
@@ -186,7 +185,11 @@ module _ (A : Type 0) where
       subst IsMember (sym (kept_is m new s t n room tag q share one waiting h w))
       (record {
         tagged = omega arith;
-        sent = h.sent; seated = h.seated; r_interval = h.r_interval; interval = h.interval; p_interval = h.p_interval;
+        sent = h.sent;
+        seated = h.seated;
+        r_interval = h.r_interval;
+        interval = h.interval;
+        p_interval = h.p_interval;
         few = omega arith;
         waiting_room = omega arith;
         out_room = h.out_room;

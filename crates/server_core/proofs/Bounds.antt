@@ -1,7 +1,7 @@
 -- The bounds of tags at a shift and at an arrival: P below 2^63 for each request accepted so far, R and L below 2^62 and
 -- 2^30 for each.
-use Rattle.std.proofs.Common.{◌≡◌, ℕ, ◌+◌, ◌*◌, ◌^◌, ◌<◌, ◌≤◌, ℤ, ◌≤ℤ◌, Option, Some, None, arith}
-use Rattle.std.specs.Prelude.{⊤, pos, negsuc, ◌-ℤ◌, ◌+ℤ◌}
+use Rattle.std.proofs.Common.{ℕ, ◌+◌, ◌*◌, ◌^◌, ◌<◌, ◌≤◌, ℤ, ◌≤ℤ◌, Option, Some, None, arith}
+use Rattle.std.specs.Prelude.{pos, negsuc, ◌-ℤ◌}
 use Rattle.std.proofs.lemmas.Int.{ints, clamps}
 use Rattle.nbd_base.specs.Range.{InRange, IsOptionInRange}
 use Rattle.tag_clock.specs.Tags.{later}
@@ -11,7 +11,7 @@ use Rattle.server_core.specs.Kept.{Within, IsOptionWithin}
 pub shift_within : (total t : ℕ) (m p : ℤ) → Within 0 (total * 2 ^ 63) p → Within 0 (total * 2 ^ 63) m → m ≤ℤ p → t < 2 ^ 62 → Within 0 ((total + 1) * 2 ^ 63) (p -ℤ (m -ℤ pos t))
 shift_within total t m p hp hm le lt = record {
   not_below = let a = hp.not_below in let b = hm.not_below in omega (arith, ints);
-  not_above = let a = hp.not_above in let b = hm.not_above in omega (arith, ints)
+  not_above = let a = hp.not_above in let b = hm.not_above in omega (arith, ints);
 }
 
 -- max (last + interval) t
@@ -19,7 +19,7 @@ pub next_within : (total interval t : ℕ) (last : Option ℤ) → IsOptionWithi
 next_within total interval t None h g lt = record { not_below = omega (arith, ints); not_above = omega (arith, ints) }
 next_within total interval t (Some last) h g lt = record {
   not_below = let a = h.not_below in omega (arith, ints, clamps);
-  not_above = let a = h.not_above in omega (arith, ints, clamps)
+  not_above = let a = h.not_above in omega (arith, ints, clamps);
 }
 
 -- R and L, where k were picked and n accepted
@@ -27,7 +27,7 @@ pub own_within : (k n interval t : ℕ) (last : Option ℤ) → IsOptionWithin (
 own_within k n interval t None h g lt = record { not_below = omega (arith, ints); not_above = omega (arith, ints) }
 own_within k n interval t (Some last) h g lt = record {
   not_below = let a = h.not_below in omega (arith, ints, clamps);
-  not_above = let a = h.not_above in omega (arith, ints, clamps)
+  not_above = let a = h.not_above in omega (arith, ints, clamps);
 }
 
 -- tags within the bounds are in range

@@ -1,6 +1,6 @@
 -- What is kept when a request is accepted.
-use Rattle.std.proofs.Common.{◌≡◌, ℕ, zero, suc, ◌+◌, ◌-◌, ◌*◌, ◌^◌, ◌<◌, ◌≤◌, ℤ, ◌≤ℤ◌, Option, Some, None, List, [], ◌∷◌, ◌++◌, map, length, refl, sym, ◌∙◌, ap, subst, arith}
-use Rattle.std.specs.Prelude.{⊤, pos, option_map}
+use Rattle.std.proofs.Common.{◌≡◌, ℕ, ◌+◌, ◌-◌, ◌*◌, ◌^◌, ◌<◌, ℤ, ◌≤ℤ◌, Option, Some, None, List, [], ◌∷◌, ◌++◌, length, sym, subst, arith}
+use Rattle.std.specs.Prelude.{option_map}
 use Rattle.std.proofs.lemmas.Int.{ints, clamps}
 use Rattle.std.proofs.lemmas.List.{append_assoc, length-append}
 use Rattle.nbd_wire.specs.Grammar.{RequestMessage}
@@ -9,7 +9,7 @@ use Rattle.tag_clock.specs.Tags.{later}
 use Rattle.server_table.specs.Parts.{Entry, Part}
 use Rattle.server_table.specs.Order.{TagBefore, Before, BeforeAll, IsRising, IsNumbered}
 use Rattle.server_table.specs.Ways.{part_tags, accepted_part}
-use Rattle.server_core.specs.Kept.{AllEntries, BelowLast, Within, IsOptionWithin, TagsWithin, SameKind, LastKind, IsOptionShort, IsPart, picked}
+use Rattle.server_core.specs.Kept.{AllEntries, BelowLast, IsOptionWithin, TagsWithin, SameKind, LastKind, IsOptionShort, IsPart, picked}
 use Rattle.server_core.proofs.Entries.{all_both, all_push, numbered_push}
 use Rattle.server_core.proofs.Bounds.{next_within, own_within}
 
@@ -63,7 +63,7 @@ more_tags : (total n k : ℕ) (tags : Tags) → TagsWithin total n k tags → Ta
 more_tags total n k tags h = record {
   r = more_within k n tags.r h.r;
   l = record { not_below = h.l.not_below; not_above = let a = h.l.not_above in omega (arith, ints) };
-  p = record { not_below = h.p.not_below; not_above = let a = h.p.not_above in omega (arith, ints) }
+  p = record { not_below = h.p.not_below; not_above = let a = h.p.not_above in omega (arith, ints) };
 }
 
 r_within : (k n t : ℕ) (last : Option ℤ) (interval : Option ℕ) → IsOptionWithin (k * 2 ^ 30) (2 ^ 62 + n * 2 ^ 30) last → IsOptionShort interval → t < 2 ^ 62 → IsOptionWithin (k * 2 ^ 30) (2 ^ 62 + (n + 1) * 2 ^ 30) (r_of last interval t)
@@ -97,5 +97,5 @@ part_accepted_kept total s t q p h room lt =
       tags = subst (λ j. AllEntries (λ e. TagsWithin (total + 1) (p.next + 1) j e.tags) (p.waiting ++ x ∷ [])) (sym picks) (all_push (λ e. TagsWithin total p.next k e.tags) (λ e. TagsWithin (total + 1) (p.next + 1) k e.tags) (λ e w. more_tags total p.next k e.tags w) p.waiting x h.tags new);
       last_r = subst (λ j. IsOptionWithin (j * 2 ^ 30) (2 ^ 62 + (p.next + 1) * 2 ^ 30) tags.r) (sym picks) new.r;
       last_l = new.l;
-      last_p = new.p
+      last_p = new.p;
     }

@@ -1,7 +1,6 @@
 -- What a server keeps when one part changes, and when a request comes in.
-use Rattle.std.proofs.Common.{◌≡◌, ℕ, zero, suc, ◌+◌, ◌-◌, ◌*◌, ◌^◌, ◌<◌, ◌≤◌, ℤ, Bool, true, false, cond, Option, Some, None, List, [], ◌∷◌, ◌++◌, map, length, filter, find, set, get_or, refl, sym, ◌∙◌, ap, subst, arith}
-use Rattle.std.specs.Prelude.{⊤, pos, not, ◌==◌, ◌-ℤ◌, nat_le, slice_get, drop}
-use Rattle.std.specs.List.{sum_by}
+use Rattle.std.proofs.Common.{◌≡◌, ℕ, zero, suc, ◌+◌, ◌^◌, ◌<◌, ◌≤◌, ℤ, Bool, true, false, cond, Option, Some, None, List, [], ◌∷◌, ◌++◌, map, length, find, set, get_or, refl, sym, ◌∙◌, ap, subst, arith}
+use Rattle.std.specs.Prelude.{pos, not, ◌==◌, ◌-ℤ◌, nat_le, slice_get}
 use Rattle.std.proofs.lemmas.Bool.Decides.{nat_tests}
 use Rattle.std.proofs.lemmas.List.{length-map, length-set, length-append, map-set, get_or-map}
 use Rattle.std.proofs.lemmas.List.Sums.{sum_by-set, sum_by-cons, get_or-le-sum_by}
@@ -10,7 +9,6 @@ use Rattle.nbd_wire.specs.Grammar.{RequestMessage}
 use Rattle.tag_clock.specs.declared.Tags.{Tags}
 use Rattle.tag_clock.specs.declared.Phase.{Phase}
 use Rattle.tag_clock.specs.declared.Phase.TheVariants.{Reservation, Weight}
-use Rattle.tag_clock.specs.Clocks.{lowered}
 use Rattle.eligibility.specs.Choice.{IsSlotInRange}
 use Rattle.lone_export.specs.Alone.{Alone}
 use Rattle.server_table.specs.Parts.{Entry, Part, with_alone, performed_part, without}
@@ -40,7 +38,7 @@ kept_change ps slots slots' asked asked' now now' inflight served served' e p q 
       not_later = later;
       counted = omega arith;
       within = within;
-      each = subst (λ j. AllParts (IsPart j) (set ps e q)) (sym totals) (all_set (IsPart (total ps)) ps e q kept.each part)
+      each = subst (λ j. AllParts (IsPart j) (set ps e q)) (sym totals) (all_set (IsPart (total ps)) ps e q kept.each part);
     }
 
 pub same_slots : (ps : List Part) (slots : List (Option Tags)) (e : ℕ) (p : Part) → slots ≡ heads ps → p ≡ get_or ps e p → slots ≡ set slots e (head_tags p.waiting)
@@ -54,9 +52,20 @@ same_slots ps slots e p is at = is ∙ by ps e at ∙ ap (λ l. set l e (head_ta
 -- the requests stay
 seated_part : (t : ℕ) (state : Alone) (p : Part) → p.count ≤ state.count → IsPart t p → IsPart t (with_alone state p)
 seated_part t state p more h = record {
-  terms = h.terms; accepted = h.accepted; counted = let c = h.counted in omega arith; waiting = h.waiting; rising = h.rising; numbered = h.numbered; numbers = h.numbers;
+  terms = h.terms;
+  accepted = h.accepted;
+  counted = let c = h.counted in omega arith;
+  waiting = h.waiting;
+  rising = h.rising;
+  numbered = h.numbered;
+  numbers = h.numbers;
   below = all_to (BelowLast p) (BelowLast (with_alone state p)) (λ e b. record { r = b.r; l = b.l; p = b.p }) p.waiting h.below;
-  kinds = h.kinds; last_kind = h.last_kind; tags = h.tags; last_r = h.last_r; last_l = h.last_l; last_p = h.last_p
+  kinds = h.kinds;
+  last_kind = h.last_kind;
+  tags = h.tags;
+  last_r = h.last_r;
+  last_l = h.last_l;
+  last_p = h.last_p;
 }
 
 pub kept_seated : (ps : List Part) (slots : List (Option Tags)) (asked now inflight served e : ℕ) (state : Alone) (p : Part) → IsServer ps slots asked now inflight served → e < length ps → p ≡ get_or ps e p → p.count ≤ state.count → IsServer (set ps e (with_alone state p)) slots asked now inflight served
@@ -118,11 +127,20 @@ numbered_front (x ∷ xs) w h = (above_front x.number xs w h.0, numbered_front x
 
 done_part : (t n : ℕ) (state : Alone) (p : Part) → p.count ≤ state.count → IsPart t p → IsPart t (performed_part n state p)
 done_part t n state p more h = record {
-  terms = h.terms; accepted = h.accepted; counted = let c = h.counted in omega arith; waiting = h.waiting; rising = h.rising;
+  terms = h.terms;
+  accepted = h.accepted;
+  counted = let c = h.counted in omega arith;
+  waiting = h.waiting;
+  rising = h.rising;
   numbered = numbered_without n p.out p.waiting h.numbered;
   numbers = all_without (λ entry. entry.number < p.next) n p.out p.waiting h.numbers;
   below = all_to (BelowLast p) (BelowLast (performed_part n state p)) (λ e b. record { r = b.r; l = b.l; p = b.p }) p.waiting h.below;
-  kinds = h.kinds; last_kind = h.last_kind; tags = h.tags; last_r = h.last_r; last_l = h.last_l; last_p = h.last_p
+  kinds = h.kinds;
+  last_kind = h.last_kind;
+  tags = h.tags;
+  last_r = h.last_r;
+  last_l = h.last_l;
+  last_p = h.last_p;
 }
 
 pub kept_done : (ps : List Part) (slots : List (Option Tags)) (asked now inflight served served' e n : ℕ) (state : Alone) (p : Part) (x : Entry) → IsServer ps slots asked now inflight served → e < length ps → p ≡ get_or ps e p → find (λ (entry : Entry). entry.number == n) p.out ≡ Some x → p.count ≤ state.count → served' + 1 ≡ served → IsServer (set ps e (performed_part n state p)) slots asked now inflight served'
@@ -183,10 +201,12 @@ module _ {A : Type 0} where
   some_waits ps now t inflight e phase p chosen at = let n = ap length (own_waiting ps now t inflight e phase p chosen at) in omega arith
 
   pub present_head : (ps : List Part) (slots : List (Option Tags)) (asked now t inflight served e : ℕ) (phase : Phase) → IsServer ps slots asked now inflight served → Chosen A ps now inflight t e phase → (had : Tags) × (slice_get slots e ≡ Some (Some had))
-  present_head ps slots asked now t inflight served e phase kept chosen = (chosen.head.tags,
-      ap (λ l. slice_get l e) kept.firsts
-      ∙ slice_get-get_or (heads ps) e None (subst (λ n. e < n) (sym (length-map ps (λ (q : Part). head_tags q.waiting))) chosen.within)
-      ∙ ap Some (get_or-map (λ (q : Part). head_tags q.waiting) ps e some_part None chosen.within ∙ ap head_tags (chosen.waiting some_part)))
+  present_head ps slots asked now t inflight served e phase kept chosen = (
+    chosen.head.tags,
+    ap (λ l. slice_get l e) kept.firsts
+        ∙ slice_get-get_or (heads ps) e None (subst (λ n. e < n) (sym (length-map ps (λ (q : Part). head_tags q.waiting))) chosen.within)
+        ∙ ap Some (get_or-map (λ (q : Part). head_tags q.waiting) ps e some_part None chosen.within ∙ ap head_tags (chosen.waiting some_part)),
+  )
     where
       some_part : Part
       some_part = record { terms = record { size = 0; read_only = false; depth = 0; window = 0; r_interval = None; l_interval = 0; p_interval = 0 }; image = []; waiting = []; out = []; next = 0; last_r = None; last_l = None; last_p = None; sessions = []; count = 0 }
@@ -270,7 +290,7 @@ kept_arrived ps slots slots' asked asked' now inflight served e s t q p kept lt 
       counted = omega arith;
       within = kept.within;
       each = subst (λ j. AllParts (IsPart j) (set way e after)) (sym totals)
-        (all_set (IsPart (total ps + 1)) way e after (way_kept (total ps) (length p.waiting) t ps small kept.each) (part_accepted_kept (total ps) s t q p old next small))
+          (all_set (IsPart (total ps + 1)) way e after (way_kept (total ps) (length p.waiting) t ps small kept.each) (part_accepted_kept (total ps) s t q p old next small));
     }
 
 pub new_in_range : (ps : List Part) (slots : List (Option Tags)) (asked now inflight served e s t : ℕ) (q : RequestMessage) (p : Part) → IsServer ps slots asked now inflight served → e < length ps → p ≡ get_or ps e p → Admits p s q → t < 2 ^ 62 → IsSlotInRange (head_tags (accepted_part s q (part_tags p t) p).waiting)

@@ -1,6 +1,12 @@
 -- A dispatch, over the exports of a server.
-use Rattle.std.proofs.Common.{◌≡◌, ℕ, zero, suc, ◌+◌, ◌<◌, ◌≤◌, max, Bool, true, false, Option, Some, None, List, [], ◌∷◌, ◌++◌, map, length, set, get_or, refl, sym, ◌∙◌, ap, subst, arith}
-use Rattle.std.specs.Prelude.{pos, slice_get}
+use Rattle.std.proofs.Common.{◌≡◌, ℕ, suc, ◌+◌, ◌<◌, ◌≤◌, max, true, false, Option, Some, None, List, [], ◌∷◌, ◌++◌, map, length, set, get_or, refl, sym, ◌∙◌, ap, subst, arith}
+use Rattle.std.specs.Prelude.{pos, ◌^◌, ◌*◌, filter, not}
+use Rattle.std.specs.List.{sum_by}
+use Rattle.std.proofs.lemmas.List.Elements.{filter-append}
+use Rattle.std.proofs.lemmas.List.Sums.{sum_by-cons}
+use Rattle.std.proofs.lemmas.List.{length-append}
+use Rattle.server_table.specs.Table.{Row}
+use Rattle.server_table.proofs.Rows.{filter_entries, filter_all, filter_no}
 use Rattle.nbd_base.specs.Words.{change_at}
 use Rattle.tag_clock.specs.declared.Tags.{Tags}
 use Rattle.tag_clock.specs.declared.Phase.{Phase}
@@ -8,14 +14,14 @@ use Rattle.tag_clock.specs.declared.Phase.TheVariants.{Reservation, Weight}
 use Rattle.eligibility.specs.Choice.{choice, IsActive, IsSlotInRange}
 use Rattle.server_table.specs.declared.event.Event.TheVariants.{Dispatch}
 use Rattle.server_table.specs.declared.event.Answer.TheVariants.{Picked, Nothing}
-use Rattle.server_table.specs.Parts.{Entry, Part, table_of, setup_of}
-use Rattle.server_table.specs.Order.{AllParts, IsNumbered, head_tags, heads}
+use Rattle.server_table.specs.Parts.{Entry, Part, row_of, part_rows, rows_from, table_of}
+use Rattle.server_table.specs.Order.{AllParts, IsNumbered, head_tags}
 use Rattle.server_table.specs.Picks.{part_sent, part_credited, part_picked}
-use Rattle.server_table.specs.Steps.{Outcome, outcome}
+use Rattle.server_table.specs.Steps.{outcome}
 use Rattle.server_table.proofs.Dispatch.{Chosen, step_full, step_none, step_chosen}
 use Rattle.server_core.specs.Kept.{IsPart, IsServer, TagsInRange, total}
-use Rattle.server_core.specs.Members.{Standing, Seat, slot_in, first_number, picked_standing, Picks}
-use Rattle.server_core.specs.Served.{Served, parts, served_of, AllMembers, IsServed, Stepped}
+use Rattle.server_core.specs.Members.{Standing, Seat, slot_in, first_number, Picks}
+use Rattle.server_core.specs.Served.{parts, served_of, IsServed, Stepped}
 use Rattle.server_core.proofs.Entries.{part_at}
 use Rattle.server_core.proofs.Picked.{head_in_range}
 use Rattle.server_core.proofs.Changed.{in_order, kept_picked, pick_in_range, some_waits, present_head, few_out}
@@ -121,3 +127,39 @@ seats_picked ms e phase m m' seat at picks = seats_change (λ (these : List Seat
 pub held_picked : (ms : List Standing) (e : ℕ) (phase : Phase) (m m' : Standing) (seat : Seat) → e < length ms → Picks m m' phase seat → slot_in (get_or (all_seats (set ms e m')) e []) seat.number ≡ Some seat.slot
 held_picked ms e phase m m' seat lt picks =
     ap (λ (l : List Seat). slot_in l seat.number) (seats_there (set ms e m') e m' (subst (λ n. e < n) (sym (length-set ms e m')) lt) (sym (get_or-set_same ms e m' m' lt))) ∙ picks.held
+
+-- ---- how many wait
+waits_in_part : (k : ℕ) (p : Part) → length (filter (λ (row : Row). not row.out) (part_rows k p)) ≡ length p.waiting
+waits_in_part k p =
+    ap length (filter-append (λ (row : Row). not row.out) (map (row_of k true) p.out) (map (row_of k false) p.waiting)
+    ∙ ap (λ l. l ++ filter (λ (row : Row). not row.out) (map (row_of k false) p.waiting)) (filter_entries (λ (row : Row). not row.out) k true (λ (entry : Entry). false) (λ entry. refl) p.out ∙ ap (map (row_of k true)) (filter_no (λ (entry : Entry). false) (λ entry. refl) p.out))
+    ∙ filter_entries (λ (row : Row). not row.out) k false (λ (entry : Entry). true) (λ entry. refl) p.waiting ∙ ap (map (row_of k false)) (filter_all (λ (entry : Entry). true) (λ entry. refl) p.waiting))
+    ∙ length-map p.waiting (row_of k false)
+
+waits_from : (k : ℕ) (ms : List Standing) → length (filter (λ (row : Row). not row.out) (rows_from k (parts ms))) ≡ sum_by (λ (m : Standing). length m.part.waiting) ms
+waits_from k [] = refl
+waits_from k (m ∷ ms) =
+    let a : length (filter (λ (row : Row). not row.out) (part_rows k m.part ++ rows_from (suc k) (parts ms))) ≡ length (filter (λ (row : Row). not row.out) (part_rows k m.part)) + length (filter (λ (row : Row). not row.out) (rows_from (suc k) (parts ms))) =
+    ap length (filter-append (λ (row : Row). not row.out) (part_rows k m.part) (rows_from (suc k) (parts ms))) ∙ length-append (filter (λ (row : Row). not row.out) (part_rows k m.part)) (filter (λ (row : Row). not row.out) (rows_from (suc k) (parts ms))) in
+    let b = waits_in_part k m.part in
+    let c = waits_from (suc k) ms in
+    let d = sum_by-cons (λ (x : Standing). length x.part.waiting) m ms in
+    omega arith
+
+pub waits_all : (ms : List Standing) (now inflight : ℕ) → sum_by (λ (m : Standing). length m.part.waiting) ms ≡ length (filter (λ (row : Row). not row.out) (served_of ms now inflight).table.rows)
+waits_all ms now inflight = sym (waits_from 0 ms)
+
+few_wait : (t : ℕ) (ms : List Standing) → AllParts (IsPart t) (parts ms) → sum_by (λ (m : Standing). length m.part.waiting) ms ≤ length ms * 2 ^ 56
+few_wait t [] h = omega arith
+few_wait t (m ∷ ms) h =
+    let d = sum_by-cons (λ (x : Standing). length x.part.waiting) m ms in
+    let n = h.0.waiting in
+    let k = h.0.accepted in
+    let rest = few_wait t ms h.1 in
+    omega arith
+
+pub waits_few : (ms : List Standing) (slots : List (Option Tags)) (asked now inflight served : ℕ) → IsServed ms slots asked now inflight served → sum_by (λ (m : Standing). length m.part.waiting) ms < 2 ^ 63
+waits_few ms slots asked now inflight served kept =
+    let few : length ms ≤ 64 = subst (λ n. n ≤ 64) (length-map ms (λ (x : Standing). x.part)) kept.server.few in
+    let all = few_wait (total (parts ms)) ms kept.server.each in
+    omega arith

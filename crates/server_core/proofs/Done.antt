@@ -1,19 +1,17 @@
 -- A request of one export is done: what it is with its tags.
-use Rattle.std.proofs.Common.{◌≡◌, ◌≢◌, ℕ, zero, suc, ◌+◌, ◌≤◌, ◌<◌, Bool, true, false, cond, Option, Some, None, List, [], ◌∷◌, ◌++◌, map, length, filter, find, refl, sym, ◌∙◌, ap, subst, arith}
+use Rattle.std.proofs.Common.{◌≡◌, ℕ, suc, Bool, true, false, cond, Option, Some, None, List, [], ◌∷◌, map, length, filter, find, refl, sym, ◌∙◌, ap, subst, arith}
 use Rattle.std.specs.Prelude.{not, ◌==◌, ◌&&◌, is_some}
 use Rattle.std.proofs.lemmas.Bool.Decides.{nat_tests}
 use Rattle.nbd_base.specs.Words.{when_some}
-use Rattle.nbd_commands.specs.Terms.{Terms}
 use Rattle.nbd_commands.specs.Meaning.{may_want_memory}
 use Rattle.tag_clock.specs.declared.Tags.{Tags}
 use Rattle.lone_export.specs.Alone.{Alone, Job, Moved, own_step, done, undone, moves, stays}
 use Rattle.lone_export.specs.Lone.{Whole, Does, slot_among, slots_without}
 use Rattle.lone_export.specs.declared.step.Step.TheVariants.{Perform}
-use Rattle.lone_export.specs.declared.step.StepAnswer.{StepAnswer}
 use Rattle.lone_export.specs.declared.step.StepAnswer.TheVariants.{Performed, NotOut}
-use Rattle.server_table.specs.Parts.{Entry, Part, alone_of, without}
+use Rattle.server_table.specs.Parts.{Entry, Part, without}
 use Rattle.server_core.specs.declared.member.Sent.{Sent}
-use Rattle.server_core.specs.Members.{Standing, Seat, Kept, entries_of, seats_of, sent_tags, part_of, standing_of, slot_in, seats_without, done_standing, IsMember, own, Performs}
+use Rattle.server_core.specs.Members.{Seat, Kept, entries_of, seats_of, sent_tags, part_of, standing_of, slot_in, seats_without, done_standing, IsMember, own, Performs}
 use Rattle.lone_export.proofs.Cases.{if_one}
 use Rattle.server_core.proofs.Members.{alone_back, sent_length}
 
@@ -160,8 +158,15 @@ module _ (A : Type 0) where
       subst (λ (w : Whole). IsMember (record m { whole = w; out = out })) (sym (done_whole m.whole new n memory does slots))
       (subst (λ (l : List Sent). IsMember (record m { whole = record m.whole { state = done_state n m.whole.state new.state; slots = slots_without m.whole.state.out m.whole.slots n }; out = l })) (sym left)
       (record {
-        tagged = h.tagged; sent = numbers_without n m.whole.state.out m.out h.sent; seated = slots_length n m.whole.state.out m.whole.slots h.seated;
-        r_interval = h.r_interval; interval = h.interval; p_interval = h.p_interval; few = h.few; waiting_room = h.waiting_room; out_room = h.out_room
+        tagged = h.tagged;
+        sent = numbers_without n m.whole.state.out m.out h.sent;
+        seated = slots_length n m.whole.state.out m.whole.slots h.seated;
+        r_interval = h.r_interval;
+        interval = h.interval;
+        p_interval = h.p_interval;
+        few = h.few;
+        waiting_room = h.waiting_room;
+        out_room = h.out_room;
       }))
 
   pub performs : (m : Kept) (new : Whole) (n : ℕ) (memory : Bool) (out : List Sent) → IsMember m → Does {A = A} m.whole new (Perform n memory) (Performed memory) → new.slots ≡ slots_without m.whole.state.out m.whole.slots n → out ≡ sent_without n m.out → Performs A (standing_of m) (standing_of (record m { whole = new; out = out })) n memory

@@ -1,6 +1,5 @@
 -- Facts of each request of a list.
 use Rattle.std.proofs.Common.{◌≡◌, ℕ, zero, suc, ◌<◌, List, [], ◌∷◌, ◌++◌, map, length, get_or, set, sym, subst, arith}
-use Rattle.std.specs.Prelude.{⊤}
 use Rattle.server_table.specs.Parts.{Entry, Part}
 use Rattle.server_table.specs.Order.{AllAbove, IsNumbered, AllParts}
 use Rattle.server_core.specs.Kept.{AllEntries}

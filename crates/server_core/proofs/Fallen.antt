@@ -1,5 +1,5 @@
 -- What is kept when the P tags fall.
-use Rattle.std.proofs.Common.{◌≡◌, ℕ, zero, suc, ◌+◌, ◌-◌, ◌*◌, ◌^◌, ◌<◌, ◌≤◌, ℤ, ◌≤ℤ◌, Bool, true, false, cond, Option, Some, None, List, [], ◌∷◌, ◌++◌, map, length, get_or, refl, sym, ◌∙◌, ap, subst, arith}
+use Rattle.std.proofs.Common.{◌≡◌, ℕ, ◌+◌, ◌-◌, ◌*◌, ◌^◌, ◌<◌, ◌≤◌, ℤ, ◌≤ℤ◌, Bool, true, false, cond, Option, Some, None, List, [], ◌∷◌, map, length, refl, sym, ◌∙◌, ap, subst, arith}
 use Rattle.std.specs.Prelude.{⊤, pos, ◌-ℤ◌, int_le, ◌==◌}
 use Rattle.std.proofs.lemmas.Int.{ints}
 use Rattle.std.proofs.lemmas.Bool.Decides.{nat_tests}
@@ -9,7 +9,7 @@ use Rattle.tag_clock.specs.declared.Tags.{Tags}
 use Rattle.tag_clock.specs.Clocks.{lowered}
 use Rattle.eligibility.specs.Choice.{candidates, slot_key}
 use Rattle.server_table.specs.Parts.{Entry, Part}
-use Rattle.server_table.specs.Order.{AllParts, TagBefore, Before, BeforeAll, IsRising, head_tags, heads}
+use Rattle.server_table.specs.Order.{AllParts, TagBefore, BeforeAll, IsRising, head_tags, heads}
 use Rattle.server_table.specs.Ways.{entry_shifted, part_shifted, least_first_p, parts_for, way_for}
 use Rattle.server_core.specs.Kept.{AllEntries, BelowLast, Within, IsOptionWithin, TagsWithin, SameKind, IsPart, picked}
 use Rattle.server_core.proofs.Entries.{all_to, all_both, all_mapped, numbered_behind, below_behind, parts_to}
@@ -40,9 +40,10 @@ first_above m k (x ∷ xs) h = h
 
 firsts_above : (m : ℤ) (k : ℕ) (ps : List Part) → IsAbove m (least (candidates (λ tags. Some tags.p) k (heads ps))) → AllParts (λ p. FirstAbove m p.waiting) ps
 firsts_above m k [] h = tt
-firsts_above m k (p ∷ ps) h =
-    (first_above m k p.waiting (above_left m (keyed (slot_key (λ tags. Some tags.p) (head_tags p.waiting)) k) (least (candidates (λ tags. Some tags.p) (k + 1) (heads ps))) h),
-    firsts_above m (k + 1) ps (above_right m (keyed (slot_key (λ tags. Some tags.p) (head_tags p.waiting)) k) (least (candidates (λ tags. Some tags.p) (k + 1) (heads ps))) h))
+firsts_above m k (p ∷ ps) h = (
+  first_above m k p.waiting (above_left m (keyed (slot_key (λ tags. Some tags.p) (head_tags p.waiting)) k) (least (candidates (λ tags. Some tags.p) (k + 1) (heads ps))) h),
+  firsts_above m (k + 1) ps (above_right m (keyed (slot_key (λ tags. Some tags.p) (head_tags p.waiting)) k) (least (candidates (λ tags. Some tags.p) (k + 1) (heads ps))) h),
+)
 
 -- so no waiting P tag is below the least first one
 all_above : (m : ℤ) (a : Tags) (entries : List Entry) → m ≤ℤ a.p → BeforeAll a entries → AllEntries (λ e. m ≤ℤ e.tags.p) entries
@@ -74,9 +75,20 @@ more_total total n k tags h = record { r = h.r; l = h.l; p = record { not_below 
 
 part_more : (total : ℕ) (p : Part) → IsPart total p → IsPart (total + 1) p
 part_more total p h = record {
-  terms = h.terms; accepted = h.accepted; counted = h.counted; waiting = h.waiting; rising = h.rising; numbered = h.numbered; numbers = h.numbers; below = h.below; kinds = h.kinds; last_kind = h.last_kind;
+  terms = h.terms;
+  accepted = h.accepted;
+  counted = h.counted;
+  waiting = h.waiting;
+  rising = h.rising;
+  numbered = h.numbered;
+  numbers = h.numbers;
+  below = h.below;
+  kinds = h.kinds;
+  last_kind = h.last_kind;
   tags = all_to (λ e. TagsWithin total p.next (picked p) e.tags) (λ e. TagsWithin (total + 1) p.next (picked p) e.tags) (λ e t. more_total total p.next (picked p) e.tags t) p.waiting h.tags;
-  last_r = h.last_r; last_l = h.last_l; last_p = more_p total p.last_p h.last_p
+  last_r = h.last_r;
+  last_l = h.last_l;
+  last_p = more_p total p.last_p h.last_p;
 }
 
 -- ---- a part whose P tags fall
@@ -110,11 +122,11 @@ active_fallen total t m p x xs is hm lt first h =
       kinds = all_mapped f (λ e. SameKind p.terms.r_interval e.tags.r) (λ e. SameKind p.terms.r_interval e.tags.r) (λ e s. s) p.waiting h.kinds;
       last_kind = h.last_kind;
       tags = subst (λ j. AllEntries (λ e. TagsWithin (total + 1) p.next (p.next - j) e.tags) (map f p.waiting)) (sym n)
-        (all_mapped f (λ e. (m ≤ℤ e.tags.p) × TagsWithin total p.next k e.tags) (λ e. TagsWithin (total + 1) p.next k e.tags) (λ e b. fallen_tags total p.next k t m e.tags hm b.0 lt b.1) p.waiting
-        (all_both (λ e. m ≤ℤ e.tags.p) (λ e. TagsWithin total p.next k e.tags) p.waiting above h.tags));
+          (all_mapped f (λ e. (m ≤ℤ e.tags.p) × TagsWithin total p.next k e.tags) (λ e. TagsWithin (total + 1) p.next k e.tags) (λ e b. fallen_tags total p.next k t m e.tags hm b.0 lt b.1) p.waiting
+          (all_both (λ e. m ≤ℤ e.tags.p) (λ e. TagsWithin total p.next k e.tags) p.waiting above h.tags));
       last_r = subst (λ j. IsOptionWithin ((p.next - j) * 2 ^ 30) (2 ^ 62 + p.next * 2 ^ 30) p.last_r) (sym n) h.last_r;
       last_l = h.last_l;
-      last_p = fallen_last total t m x.tags.p p.last_p hm head_above head_below.p lt h.last_p
+      last_p = fallen_last total t m x.tags.p p.last_p hm head_above head_below.p lt h.last_p;
     }
 
 part_fallen : (total t : ℕ) (m : ℤ) (p : Part) → Within 0 (total * 2 ^ 63) m → t < 2 ^ 62 → FirstAbove m p.waiting → IsPart total p → IsPart (total + 1) (part_shifted (m -ℤ pos t) p)
@@ -127,8 +139,8 @@ part_fallen total t m p hm lt first h = by_list p.waiting refl
     by_list [] is =
         let test : (length p.waiting == 0) ≡ true = ap (λ (l : List Entry). length l == 0) is in
         let same : part_shifted (m -ℤ pos t) p ≡ p =
-            ap (λ b. record p { waiting = map (entry_shifted (m -ℤ pos t)) p.waiting; last_p = cond b p.last_p (lowered (m -ℤ pos t) p.last_p) }) test
-            ∙ ap (λ w. record p { waiting = w }) (ap (map (entry_shifted (m -ℤ pos t))) is ∙ sym is) in
+        ap (λ b. record p { waiting = map (entry_shifted (m -ℤ pos t)) p.waiting; last_p = cond b p.last_p (lowered (m -ℤ pos t) p.last_p) }) test
+        ∙ ap (λ w. record p { waiting = w }) (ap (map (entry_shifted (m -ℤ pos t))) is ∙ sym is) in
         subst (IsPart (total + 1)) (sym same) (part_more total p h)
     by_list (x ∷ xs) is =
         let test : (length p.waiting == 0) ≡ false = ap (λ (l : List Entry). length l == 0) is ∙ grind (arith, nat_tests) in

@@ -15,3 +15,4 @@ pub mod Arriving
 pub mod Shifting
 pub mod Ways
 pub mod Accepting
+pub mod Goings

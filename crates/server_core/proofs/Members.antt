@@ -1,22 +1,19 @@
 -- From a call of the export alone to the same call with its tags.
-use Rattle.std.proofs.Common.{◌≡◌, ℕ, zero, suc, ◌+◌, ◌≤◌, ◌<◌, Bool, true, false, cond, Option, Some, None, List, [], ◌∷◌, ◌++◌, map, length, filter, find, drop, refl, sym, ◌∙◌, ap, subst, arith}
+use Rattle.std.proofs.Common.{◌≡◌, ℕ, Option, Some, None, List, [], ◌∷◌, map, length, filter, refl, sym, ◌∙◌, ap, subst, arith}
 use Rattle.std.proofs.lemmas.List.{length-map}
 use Rattle.std.specs.Prelude.{not, ◌==◌, ◌^◌, ◌&&◌, nat_le, slice_get}
-use Rattle.nbd_base.specs.Words.{when_some}
-use Rattle.nbd_wire.specs.Grammar.{RequestMessage}
 use Rattle.nbd_commands.specs.Terms.{Terms}
-use Rattle.nbd_commands.specs.Verdict.{verdict_of}
 use Rattle.tag_clock.specs.declared.Tags.{Tags}
-use Rattle.reply_box.specs.Sessions.{Session, is_here, is_open_at, is_left_at, is_here_at, outbox_at}
+use Rattle.reply_box.specs.Sessions.{is_here, is_open_at, is_left_at, is_here_at, outbox_at}
 use Rattle.lone_export.specs.Alone.{Alone, Job, Moved, own_step, outstanding}
 use Rattle.lone_export.specs.Lone.{Whole, Does, DoesOr}
 use Rattle.lone_export.specs.declared.step.Step.{Step}
-use Rattle.lone_export.specs.declared.step.Step.TheVariants.{Attach, Arrive, Pick, Perform, Take, Leave, Gone}
+use Rattle.lone_export.specs.declared.step.Step.TheVariants.{Attach, Take, Leave, Gone}
 use Rattle.lone_export.specs.declared.step.StepAnswer.{StepAnswer}
-use Rattle.lone_export.proofs.Cases.{if_one, if_told, some_one, true_false}
-use Rattle.server_table.specs.Parts.{Entry, Part, alone_of, job_of_entry, with_alone, without}
+use Rattle.lone_export.proofs.Cases.{if_one, some_one}
+use Rattle.server_table.specs.Parts.{alone_of, job_of_entry}
 use Rattle.server_core.specs.declared.member.Sent.{Sent}
-use Rattle.server_core.specs.Members.{Standing, Kept, entries_of, seats_of, sent_tags, part_of, standing_of, IsMember, with_state, own, Went, WentOr}
+use Rattle.server_core.specs.Members.{Kept, entries_of, sent_tags, part_of, standing_of, IsMember, with_state, own, Went, WentOr}
 
 -- ---- the requests with their tags, and without
 pub jobs_back : (jobs : List Job) (tags : List Tags) → length tags ≡ length jobs → map job_of_entry (entries_of jobs tags) ≡ jobs

@@ -1,18 +1,18 @@
 -- A new server keeps what a server keeps.
-use Rattle.std.proofs.Common.{◌≡◌, ℕ, zero, suc, ◌+◌, ◌<◌, ◌≤◌, Option, Some, None, List, [], ◌∷◌, ◌++◌, map, take, length, get_or, refl, sym, ◌∙◌, ap, subst, arith}
-use Rattle.std.specs.Prelude.{⊤, replicate}
-use Rattle.std.specs.List.{All, sum_by}
+use Rattle.std.proofs.Common.{◌≡◌, ℕ, suc, ◌+◌, ◌<◌, ◌≤◌, Option, Some, None, List, [], ◌∷◌, ◌++◌, map, take, length, get_or, refl, sym, ◌∙◌, ap, subst, arith}
+use Rattle.std.specs.Prelude.{replicate}
+use Rattle.std.specs.List.{All}
 use Rattle.std.proofs.lemmas.List.{length-map, map_more}
 use Rattle.std.proofs.lemmas.List.Sums.{sum_by-cons}
 use Rattle.nbd_commands.specs.Terms.{Terms, terms_of}
-use Rattle.nbd_commands.specs.Exports.{Export, Offer, IsOffer}
+use Rattle.nbd_commands.specs.Exports.{Export}
 use Rattle.tag_clock.specs.declared.Tags.{Tags}
 use Rattle.server_table.specs.Table.{opening_side}
 use Rattle.server_table.specs.Parts.{Part, rows_from, side_of}
 use Rattle.server_table.specs.Order.{AllParts, heads}
-use Rattle.server_core.specs.Kept.{AreShort, IsPart, IsServer, LastKind, total, outs}
+use Rattle.server_core.specs.Kept.{AreShort, IsPart, LastKind, total, outs}
 use Rattle.server_core.specs.Members.{Standing, Seat, opening_part, opening_standing}
-use Rattle.server_core.specs.Served.{Served, parts, served_of, AllMembers, IsServed, opening_served, setup_for}
+use Rattle.server_core.specs.Served.{parts, served_of, AllMembers, IsServed, opening_served, setup_for}
 
 abbrev pub opened : ℕ → List Export → List Standing
 opened inflight exports = map (λ export. opening_standing inflight (terms_of export)) exports
@@ -30,7 +30,20 @@ last_kind (Some interval) = tt
 
 new_part : (terms : Terms) → AreShort terms → IsPart 0 (opening_part terms)
 new_part terms h = record {
-  terms = h; accepted = omega arith; counted = omega arith; waiting = omega arith; rising = tt; numbered = tt; numbers = tt; below = tt; kinds = tt; last_kind = last_kind terms.r_interval; tags = tt; last_r = tt; last_l = tt; last_p = tt
+  terms = h;
+  accepted = omega arith;
+  counted = omega arith;
+  waiting = omega arith;
+  rising = tt;
+  numbered = tt;
+  numbers = tt;
+  below = tt;
+  kinds = tt;
+  last_kind = last_kind terms.r_interval;
+  tags = tt;
+  last_r = tt;
+  last_l = tt;
+  last_p = tt;
 }
 
 new_parts : (inflight : ℕ) (xs : List Export) → All (λ (m : Standing). AreShort m.part.terms) (opened inflight xs) → AllParts (IsPart 0) (parts (opened inflight xs))

@@ -10,18 +10,17 @@ use Rattle.tag_clock.specs.declared.Phase.TheVariants.{Weight}
 use Rattle.lone_export.specs.Alone.{Alone, Job, Moved}
 use Rattle.lone_export.specs.declared.step.Step.TheVariants as own
 use Rattle.lone_export.specs.declared.step.StepAnswer.{StepAnswer}
-use Rattle.lone_export.specs.declared.step.StepAnswer.TheVariants as alone
 use Rattle.server_table.specs.declared.event.Event.TheVariants.{Perform}
 use Rattle.server_table.specs.declared.event.Answer.TheVariants.{Performed, NotOut}
 use Rattle.server_table.specs.Table.{Row}
-use Rattle.server_table.specs.Parts.{Entry, Part, row_of, part_rows, rows_from, table_of, setup_of, alone_of, job_of_entry, performed_part}
+use Rattle.server_table.specs.Parts.{Entry, Part, row_of, part_rows, rows_from, table_of, alone_of, job_of_entry, performed_part}
 use Rattle.server_table.specs.Answers.{as_answer}
-use Rattle.server_table.specs.Steps.{Outcome, is_out_row}
+use Rattle.server_table.specs.Steps.{is_out_row}
 use Rattle.server_table.proofs.Perform.{out_at, step_perform}
 use Rattle.server_table.proofs.Rows.{found, filter_part}
 use Rattle.server_core.specs.Kept.{IsServer}
-use Rattle.server_core.specs.Members.{Standing, Seat, slot_in, seats_without, own as own_of, done_standing, Performs}
-use Rattle.server_core.specs.Served.{Served, parts, served_of, AllMembers, IsServed, Stepped}
+use Rattle.server_core.specs.Members.{Standing, Seat, seats_without, own as own_of, Performs}
+use Rattle.server_core.specs.Served.{Served, parts, served_of, IsServed, Stepped}
 use Rattle.server_core.proofs.Done.{was_out}
 use Rattle.server_core.proofs.Changed.{kept_done, some_served}
 use Rattle.server_core.proofs.Served.{part_there, within_parts, parts_set, same_setup, members_set, member_at, beyond, grows}

@@ -1,20 +1,18 @@
 -- What is kept when a request is taken out.
 use Rattle.std.proofs.Common.{◌≡◌, ℕ, zero, suc, ◌+◌, ◌-◌, ◌*◌, ◌^◌, ◌<◌, ◌≤◌, ℤ, Option, Some, None, List, [], ◌∷◌, ◌++◌, map, length, get_or, refl, sym, ◌∙◌, ap, subst, arith}
-use Rattle.std.specs.Prelude.{⊤, pos, negsuc, neg_ℤ, ◌-ℤ◌, ◌≤ℤ◌, drop}
-use Rattle.std.specs.List.{All, sum_by}
+use Rattle.std.specs.Prelude.{pos, drop}
 use Rattle.std.proofs.lemmas.Int.{ints}
 use Rattle.std.proofs.lemmas.List.{length-map, append_assoc}
 use Rattle.std.proofs.lemmas.List.Sums.{sum_by-cons}
-use Rattle.tag_clock.specs.declared.Tags.{Tags}
 use Rattle.tag_clock.specs.Tags.{AreInRange}
 use Rattle.tag_clock.specs.Clocks.{lowered}
 use Rattle.tag_clock.specs.declared.Phase.{Phase}
 use Rattle.tag_clock.specs.declared.Phase.TheVariants.{Reservation, Weight}
 use Rattle.eligibility.specs.Choice.{IsSlotInRange}
 use Rattle.server_table.specs.Parts.{Entry, Part}
-use Rattle.server_table.specs.Order.{TagBefore, Before, BeforeAll, IsRising, IsNumbered, AllParts, head_tags}
+use Rattle.server_table.specs.Order.{TagBefore, BeforeAll, IsRising, IsNumbered, AllParts, head_tags}
 use Rattle.server_table.specs.Picks.{entry_credited, part_credited, front, part_sent, part_picked}
-use Rattle.server_core.specs.Kept.{AllEntries, BelowLast, Within, IsOptionWithin, TagsWithin, SameKind, LastKind, IsShort, IsOptionShort, IsPart, picked, total, TagsInRange, EntriesInRange}
+use Rattle.server_core.specs.Kept.{AllEntries, BelowLast, IsOptionWithin, TagsWithin, SameKind, LastKind, IsOptionShort, IsPart, picked, total, TagsInRange, EntriesInRange}
 use Rattle.server_core.proofs.Entries.{all_to, all_both, all_mapped, numbered_behind, below_behind}
 use Rattle.server_core.proofs.Bounds.{in_range, option_in_range}
 
@@ -31,7 +29,7 @@ part_sent_kept total p head rest is h =
     let k = picked p in
     let picks : picked (part_sent p) ≡ k + 1 = omega arith in
     let joined : (p.out ++ front p.waiting) ++ drop 1 p.waiting ≡ p.out ++ p.waiting =
-        ap (λ (l : List Entry). (p.out ++ front l) ++ drop 1 l) is ∙ append_assoc p.out (head ∷ []) rest ∙ ap (λ l. p.out ++ l) (sym is) in
+    ap (λ (l : List Entry). (p.out ++ front l) ++ drop 1 l) is ∙ append_assoc p.out (head ∷ []) rest ∙ ap (λ l. p.out ++ l) (sym is) in
     let below : AllEntries (BelowLast p) rest = (subst (AllEntries (BelowLast p)) is h.below).1 in
     let tags : AllEntries (λ entry. TagsWithin total p.next k entry.tags) rest = (subst (AllEntries (λ entry. TagsWithin total p.next k entry.tags)) is h.tags).1 in
     record {
@@ -46,11 +44,11 @@ part_sent_kept total p head rest is h =
       kinds = subst (λ (l : List Entry). AllEntries (λ entry. SameKind p.terms.r_interval entry.tags.r) (drop 1 l)) (sym is) (subst (AllEntries (λ entry. SameKind p.terms.r_interval entry.tags.r)) is h.kinds).1;
       last_kind = h.last_kind;
       tags = subst (λ j. AllEntries (λ entry. TagsWithin total p.next j entry.tags) (drop 1 p.waiting)) (sym picks)
-        (subst (λ (l : List Entry). AllEntries (λ entry. TagsWithin total p.next (k + 1) entry.tags) (drop 1 l)) (sym is)
-        (all_to (λ entry. TagsWithin total p.next k entry.tags) (λ entry. TagsWithin total p.next (k + 1) entry.tags) (λ e t. record { r = more_picked k (2 ^ 62 + p.next * 2 ^ 30) e.tags.r t.r; l = t.l; p = t.p }) rest tags));
+          (subst (λ (l : List Entry). AllEntries (λ entry. TagsWithin total p.next (k + 1) entry.tags) (drop 1 l)) (sym is)
+          (all_to (λ entry. TagsWithin total p.next k entry.tags) (λ entry. TagsWithin total p.next (k + 1) entry.tags) (λ e t. record { r = more_picked k (2 ^ 62 + p.next * 2 ^ 30) e.tags.r t.r; l = t.l; p = t.p }) rest tags));
       last_r = subst (λ j. IsOptionWithin (j * 2 ^ 30) (2 ^ 62 + p.next * 2 ^ 30) p.last_r) (sym picks) (more_picked k (2 ^ 62 + p.next * 2 ^ 30) p.last_r h.last_r);
       last_l = h.last_l;
-      last_p = h.last_p
+      last_p = h.last_p;
     }
 
 -- ---- credit
@@ -104,11 +102,11 @@ part_credited_kept total by k p short picks tight tight_last h =
       kinds = all_mapped f (λ e. SameKind p.terms.r_interval e.tags.r) (λ e. SameKind p.terms.r_interval e.tags.r) (λ e s. same_kind by p.terms.r_interval e.tags.r s) p.waiting h.kinds;
       last_kind = last_kind by p.terms.r_interval p.last_r h.last_kind;
       tags = subst (λ j. AllEntries (λ e. TagsWithin total p.next j e.tags) (map f p.waiting)) (sym picks')
-        (all_mapped f (λ e. IsOptionWithin (k * 2 ^ 30) high e.tags.r × TagsWithin total p.next (k + 1) e.tags) (λ e. TagsWithin total p.next (k + 1) e.tags) (λ e t. record { r = credit_within by k high e.tags.r short t.0; l = t.1.l; p = t.1.p }) p.waiting
-        (all_both (λ e. IsOptionWithin (k * 2 ^ 30) high e.tags.r) (λ e. TagsWithin total p.next (k + 1) e.tags) p.waiting tight h_tags));
+          (all_mapped f (λ e. IsOptionWithin (k * 2 ^ 30) high e.tags.r × TagsWithin total p.next (k + 1) e.tags) (λ e. TagsWithin total p.next (k + 1) e.tags) (λ e t. record { r = credit_within by k high e.tags.r short t.0; l = t.1.l; p = t.1.p }) p.waiting
+          (all_both (λ e. IsOptionWithin (k * 2 ^ 30) high e.tags.r) (λ e. TagsWithin total p.next (k + 1) e.tags) p.waiting tight h_tags));
       last_r = subst (λ j. IsOptionWithin (j * 2 ^ 30) high after.last_r) (sym picks') (credit_within by k high p.last_r short tight_last);
       last_l = h.last_l;
-      last_p = h.last_p
+      last_p = h.last_p;
     }
 
 pub part_picked_kept : (total : ℕ) (phase : Phase) (p : Part) (head : Entry) (rest : List Entry) → p.waiting ≡ head ∷ rest → IsPart total p → IsPart total (part_picked phase p)
@@ -117,11 +115,14 @@ part_picked_kept total Weight p head rest is h = by_interval p.terms.r_interval 
   where
     n : length p.waiting ≡ suc (length rest)
     n = ap length is
+
     m : length (drop 1 p.waiting) ≡ length rest
     m = ap (λ (l : List Entry). length (drop 1 l)) is
+
     tight : AllEntries (λ e. IsOptionWithin (picked p * 2 ^ 30) (2 ^ 62 + p.next * 2 ^ 30) e.tags.r) (drop 1 p.waiting)
     tight = all_to (λ e. TagsWithin total p.next (picked p) e.tags) (λ e. IsOptionWithin (picked p * 2 ^ 30) (2 ^ 62 + p.next * 2 ^ 30) e.tags.r) (λ e t. t.r) (drop 1 p.waiting)
         (subst (λ (l : List Entry). AllEntries (λ entry. TagsWithin total p.next (picked p) entry.tags) (drop 1 l)) (sym is) (subst (AllEntries (λ entry. TagsWithin total p.next (picked p) entry.tags)) is h.tags).1)
+
     by_interval : (interval : Option ℕ) → IsOptionShort interval → IsPart total (part_credited interval (part_sent p))
     by_interval None short = part_sent_kept total p head rest is h
     by_interval (Some by) short = part_credited_kept total by (picked p) (part_sent p) short (let some = h.waiting in let a = n in let b = m in omega arith) tight h.last_r (part_sent_kept total p head rest is h)
@@ -142,7 +143,7 @@ part_in_range total p t h =
       waiting = entries_in_range total p.next (picked p) p.waiting t n (omega arith) h.tags;
       last_r = option_in_range (picked p * 2 ^ 30) (2 ^ 62 + p.next * 2 ^ 30) p.last_r (omega arith) (omega arith) h.last_r;
       last_l = option_in_range 0 (2 ^ 62 + p.next * 2 ^ 30) p.last_l (omega arith) (omega arith) h.last_l;
-      last_p = option_in_range 0 (total * 2 ^ 63) p.last_p (omega arith) (omega arith) h.last_p
+      last_p = option_in_range 0 (total * 2 ^ 63) p.last_p (omega arith) (omega arith) h.last_p;
     }
 
 pub total_small : (t : ℕ) (ps : List Part) → AllParts (IsPart t) ps → total ps ≤ length ps * 2 ^ 56

@@ -1,15 +1,13 @@
 -- A request of one export is picked: what it is with its tags.
-use Rattle.std.proofs.Common.{◌≡◌, ◌≢◌, ℕ, zero, suc, ◌+◌, ◌≤◌, ◌<◌, Bool, true, false, cond, Option, Some, None, List, [], ◌∷◌, ◌++◌, map, length, get_or, drop, refl, sym, ◌∙◌, ap, subst, arith}
-use Rattle.std.specs.Prelude.{◌==◌, ⊤, slice_get, pos}
-use Rattle.std.specs.List.{All}
+use Rattle.std.proofs.Common.{◌≡◌, ℕ, zero, suc, ◌+◌, ◌≤◌, ◌<◌, true, false, cond, Option, Some, None, List, [], ◌∷◌, ◌++◌, map, length, get_or, drop, refl, sym, ◌∙◌, ap, subst, arith}
+use Rattle.std.specs.Prelude.{◌==◌, slice_get}
 use Rattle.std.proofs.lemmas.Bool.Decides.{nat_tests}
-use Rattle.std.proofs.lemmas.List.{length-append, length-map, length-drop, map-append}
+use Rattle.std.proofs.lemmas.List.{length-append, length-map, map-append}
 use Rattle.nbd_base.specs.Words.{when_some}
-use Rattle.nbd_base.specs.Range.{IsOptionInRange}
 use Rattle.tag_clock.specs.declared.Tags.{Tags}
 use Rattle.tag_clock.specs.Tags.{AreInRange}
 use Rattle.nbd_commands.specs.Terms.{Terms}
-use Rattle.tag_clock.specs.Clocks.{Share, lowered}
+use Rattle.tag_clock.specs.Clocks.{Share}
 use Rattle.tag_clock.specs.declared.Phase.{Phase}
 use Rattle.tag_clock.specs.declared.Phase.TheVariants.{Reservation, Weight}
 use Rattle.lone_export.specs.Alone.{Alone, Job, Moved, own_step, moves, stays}
@@ -19,11 +17,11 @@ use Rattle.lone_export.specs.declared.step.StepAnswer.{StepAnswer}
 use Rattle.lone_export.specs.declared.step.StepAnswer.TheVariants.{Picked, Nothing}
 use Rattle.server_table.specs.Parts.{Entry, Part}
 use Rattle.server_table.specs.Order.{AllAbove, IsNumbered, head_tags}
-use Rattle.server_table.specs.Picks.{entry_credited, part_credited, front, part_sent, part_picked}
+use Rattle.server_table.specs.Picks.{entry_credited, part_credited, part_sent, part_picked}
 use Rattle.server_core.specs.declared.member.Sent.{Sent}
 use Rattle.server_core.specs.Kept.{AllEntries, EntriesInRange, TagsInRange}
 use Rattle.server_core.specs.Tagging.{tags_credited, AllTagsInRange, credit_due, waiting_credited, share_credited_by}
-use Rattle.server_core.specs.Members.{Standing, Seat, Kept, entries_of, seats_of, sent_tags, part_of, standing_of, slot_in, IsMember, first_number, picked_standing, Picks}
+use Rattle.server_core.specs.Members.{Seat, Kept, entries_of, seats_of, sent_tags, part_of, standing_of, slot_in, IsMember, first_number, Picks}
 use Rattle.server_core.proofs.Members.{sent_length}
 
 -- ---- the first tags
@@ -105,7 +103,9 @@ module _ (A : Type 0) where
   by_waiting : (state new : Alone) (number : ℕ) (w : List Job) → state.waiting ≡ w → picked_from state w ≡ record { state = new; answer = Picked number } → PickedJob state new number
   by_waiting state new number [] is did = absurd (let a : ◌≡◌ {A = StepAnswer A} Nothing (Picked number) = ap (λ (m : Moved A). m.answer) did in cc)
   by_waiting state new number (job ∷ rest) is did = record {
-    job = job; rest = rest; waiting = is;
+    job = job;
+    rest = rest;
+    waiting = is;
     same = ap (λ (m : Moved A). number_told m.answer) did;
     state_is = sym (ap (λ (m : Moved A). m.state) did);
   }
@@ -249,8 +249,8 @@ module _ (A : Type 0) where
       let x : Entry = record { number = one.job.number; session = one.job.session; request = one.job.request; tags = t } in
       let waiting : (part_of m).waiting ≡ x ∷ entries_of one.rest ts = ap (λ (w : List Job). entries_of w m.waiting) one.waiting ∙ ap (entries_of (one.job ∷ one.rest)) pick.popped in
       let seats : seats_of new.state.out new.slots ≡ seats_of state.out m.whole.slots ++ record { number = number; slot = slot } ∷ [] =
-          ap (λ (s : Alone). seats_of s.out new.slots) one.state_is ∙ ap (seats_of (state.out ++ one.job ∷ [])) pick.slots ∙ seats_pushed state.out m.whole.slots one.job slot h.seated
-          ∙ ap (λ n. seats_of state.out m.whole.slots ++ record { number = n; slot = slot } ∷ []) one.same in
+      ap (λ (s : Alone). seats_of s.out new.slots) one.state_is ∙ ap (seats_of (state.out ++ one.job ∷ [])) pick.slots ∙ seats_pushed state.out m.whole.slots one.job slot h.seated
+      ∙ ap (λ n. seats_of state.out m.whole.slots ++ record { number = n; slot = slot } ∷ []) one.same in
       let below : AllEntries (λ e. e.number < number) (part_of m).out = subst (λ n. AllEntries (λ e. e.number < n) (part_of m).out) one.same (front_below (part_of m).out (entries_of one.rest ts) x (subst (λ (l : List Entry). IsNumbered ((part_of m).out ++ l)) waiting numbered)) in
       record {
         standing = ap (λ (p : Part). record { part = p; inflight = new.inflight; seats = seats_of new.state.out new.slots }) (part_is m phase new number slot room t ts h pick)

@@ -1,15 +1,13 @@
 -- From a call of one export to the step of the server.
-use Rattle.std.proofs.Common.{◌≡◌, ℕ, zero, suc, ◌+◌, ◌<◌, ◌≤◌, Bool, true, false, Option, Some, None, Result, Ok, Err, List, [], ◌∷◌, map, length, set, get_or, refl, sym, ◌∙◌, ap, subst, arith}
-use Rattle.std.specs.Prelude.{slice_get, ⊤}
+use Rattle.std.proofs.Common.{◌≡◌, ℕ, zero, suc, ◌<◌, ◌≤◌, Bool, true, false, Option, Some, None, Result, Ok, Err, List, [], ◌∷◌, map, length, set, get_or, refl, sym, ◌∙◌, ap, subst, arith}
 use Rattle.std.proofs.lemmas.List.{length-map, map-set, get_or-map}
 use Rattle.nbd_commands.specs.Terms.{Terms}
 use Rattle.tag_clock.specs.declared.Tags.{Tags}
-use Rattle.tag_clock.specs.declared.Phase.{Phase}
 use Rattle.tag_clock.specs.declared.Phase.TheVariants.{Weight}
 use Rattle.reply_box.specs.declared.fault.NotOpen.{NotOpen}
 use Rattle.reply_box.specs.declared.seat.Taken.{Taken}
 use Rattle.reply_box.specs.declared.seat.Taken.TheVariants as taking
-use Rattle.lone_export.specs.Alone.{Alone, Moved, own_step}
+use Rattle.lone_export.specs.Alone.{Alone, own_step}
 use Rattle.lone_export.specs.Lone.{attach_said, leave_said, gone_said, take_said}
 use Rattle.lone_export.specs.declared.refusal.NotAttached.{NotAttached}
 use Rattle.lone_export.specs.declared.refusal.NotAttached.TheVariants.{Refused, NoMemory}
@@ -22,20 +20,19 @@ use Rattle.lone_export.specs.Calls.{is_counted, IsOneStep, brought}
 use Rattle.lone_export.proofs.Steps.{steps}
 use Rattle.server_table.specs.declared.event.Event.{Event}
 use Rattle.server_table.specs.declared.event.Event.TheVariants.{Attach, Take, Leave, Gone}
-use Rattle.server_table.specs.declared.event.Answer.{Answer}
 use Rattle.server_table.specs.declared.event.Answer.TheVariants.{NoExport}
 use Rattle.server_table.specs.declared.event.Answer.TheVariants as answer
 use Rattle.server_table.specs.Parts.{Part, table_of, setup_of, alone_of, with_alone}
 use Rattle.server_table.specs.Shares.{mark_of}
-use Rattle.server_table.specs.Steps.{Outcome, step}
+use Rattle.server_table.specs.Steps.{step}
 use Rattle.server_table.specs.Answers.{as_answer}
 use Rattle.server_table.specs.Kept.{as_moved}
 use Rattle.server_table.proofs.Sides.{step_attach, step_take, step_leave, step_gone}
 use Rattle.server_table.proofs.Refused.{no_attach, no_take, no_leave, no_gone, no_room_to_attach}
 use Rattle.server_core.specs.Here.{here, attached}
 use Rattle.server_core.specs.Kept.{IsServer}
-use Rattle.server_core.specs.Members.{Standing, Seat, own as own_of, Went, WentOr, WantsMemory}
-use Rattle.server_core.specs.Served.{Served, parts, served_of, AllMembers, IsServed, Stepped, attach_says, leave_says, gone_says, take_says}
+use Rattle.server_core.specs.Members.{Standing, own as own_of, Went, WentOr, WantsMemory}
+use Rattle.server_core.specs.Served.{parts, served_of, AllMembers, IsServed, Stepped, attach_says, leave_says, gone_says, take_says}
 use Rattle.server_core.proofs.Changed.{kept_seated}
 
 -- ---- the parts of the members

@@ -1,5 +1,5 @@
 -- The P tags of one export fall: what it is with its tags.
-use Rattle.std.proofs.Common.{◌≡◌, ℕ, zero, suc, ◌≤◌, ◌<◌, Bool, true, false, cond, Option, List, [], ◌∷◌, map, length, refl, sym, ◌∙◌, ap, subst, arith}
+use Rattle.std.proofs.Common.{◌≡◌, ℕ, ◌≤◌, Bool, false, cond, List, [], ◌∷◌, map, length, refl, sym, ◌∙◌, ap, subst, arith}
 use Rattle.std.specs.Prelude.{◌==◌, ℤ}
 use Rattle.std.proofs.lemmas.List.{length-map}
 use Rattle.nbd_base.specs.Range.{IsOptionInRange}
@@ -7,11 +7,11 @@ use Rattle.tag_clock.specs.declared.Tags.{Tags}
 use Rattle.tag_clock.specs.Tags.{shifted}
 use Rattle.tag_clock.specs.Clocks.{Share, lowered, share_shifted}
 use Rattle.lone_export.specs.Alone.{Job}
-use Rattle.server_table.specs.Parts.{Entry, Part}
+use Rattle.server_table.specs.Parts.{Entry}
 use Rattle.server_table.specs.Ways.{entry_shifted, part_shifted}
 use Rattle.server_core.specs.Kept.{EntriesInRange, TagsInRange}
 use Rattle.server_core.specs.Tagging.{AllTagsInRange}
-use Rattle.server_core.specs.Members.{Standing, Kept, entries_of, part_of, standing_of, IsMember, shifted_standing}
+use Rattle.server_core.specs.Members.{Kept, entries_of, part_of, standing_of, IsMember, shifted_standing}
 use Rattle.server_core.proofs.Picking.{entries_length, tags_in_range}
 
 entries_shifted : (d : ℤ) (jobs : List Job) (tags : List Tags) → entries_of jobs (map (shifted d) tags) ≡ map (entry_shifted d) (entries_of jobs tags)
@@ -35,9 +35,15 @@ shifts_kept m d waiting share room h more a b =
     let tagged = h.tagged in
     let wide = h.waiting_room in
     record {
-      tagged = n ∙ h.tagged; sent = h.sent; seated = h.seated;
-      r_interval = ap (λ (x : Share). x.r_interval) b ∙ h.r_interval; interval = h.interval; p_interval = ap (λ (x : Share). x.p_interval) b ∙ h.p_interval;
-      few = h.few; waiting_room = omega arith; out_room = h.out_room
+      tagged = n ∙ h.tagged;
+      sent = h.sent;
+      seated = h.seated;
+      r_interval = ap (λ (x : Share). x.r_interval) b ∙ h.r_interval;
+      interval = h.interval;
+      p_interval = ap (λ (x : Share). x.p_interval) b ∙ h.p_interval;
+      few = h.few;
+      waiting_room = omega arith;
+      out_room = h.out_room;
     }
 
 pub shift_in_range : (m : Kept) (d : ℤ) → IsMember m → TagsInRange (part_shifted d (part_of m)) → AllTagsInRange (map (shifted d) m.waiting)

@@ -1,5 +1,5 @@
 -- The fall of the P tags, export by export.
-use Rattle.std.proofs.Common.{◌≡◌, ℕ, zero, suc, ◌+◌, ◌<◌, ◌≤◌, ◌^◌, ◌*◌, ℤ, Option, Some, None, List, [], ◌∷◌, ◌++◌, map, take, drop, length, set, get_or, refl, sym, ◌∙◌, ap, subst, arith, to_z, of_z}
+use Rattle.std.proofs.Common.{◌≡◌, ℕ, zero, suc, ◌+◌, ◌<◌, ◌≤◌, ◌^◌, ℤ, Option, Some, None, List, [], ◌∷◌, ◌++◌, map, take, drop, length, set, get_or, refl, sym, ◌∙◌, ap, subst, arith, to_z, of_z}
 use Rattle.std.specs.Prelude.{⊤, pos, negsuc, ◌-ℤ◌, FitsSigned, int_le, Bool, true, false, cond, ◌==◌, slice_get}
 use Rattle.std.specs.List.{All}
 use mir.Syntax.{w128}

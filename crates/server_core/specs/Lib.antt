@@ -5,3 +5,4 @@ pub mod Tickets
 pub mod Here
 pub mod Served
 pub mod Way
+pub mod Run

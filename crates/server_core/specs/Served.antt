@@ -1,7 +1,7 @@
 -- What a contract sees of a server, and what its calls answer, as events.
-use Rattle.std.specs.Prelude.{◌≡◌, ◌≤◌, ℕ, List, [], ◌∷◌, ◌++◌, map, length, get_or, Option, Some, None, Result, Ok, Err, ⊤}
+use Rattle.std.specs.Prelude.{◌≡◌, ℕ, List, [], ◌∷◌, ◌++◌, map, get_or, Option, Some, None, Result, Ok, Err, ⊤}
 use Rattle.nbd_base.specs.Words.{change_at}
-use Rattle.nbd_commands.specs.Terms.{Terms, terms_of}
+use Rattle.nbd_commands.specs.Terms.{terms_of}
 use Rattle.nbd_commands.specs.Exports.{Offer}
 use Rattle.tag_clock.specs.declared.Tags.{Tags}
 use Rattle.reply_box.specs.declared.seat.Taken.{Taken}

@@ -1,5 +1,5 @@
 -- The tags of an export's requests, as they are kept beside its requests.
-use Rattle.std.specs.Prelude.{ℕ, ℤ, pos, Option, Some, None, List, map}
+use Rattle.std.specs.Prelude.{ℕ, pos, Option, Some, None, List, map}
 use Rattle.std.specs.List.{All}
 use Rattle.tag_clock.specs.declared.Tags.{Tags}
 use Rattle.tag_clock.specs.Tags.{AreInRange}

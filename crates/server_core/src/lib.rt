@@ -4,6 +4,7 @@
 mod event;
 mod member;
 mod refusal;
+mod runs;
 mod server;
 mod session;
 mod tagging;
@@ -11,6 +12,10 @@ mod ticket;
 mod way;
 
 pub use refusal::{ArriveRefusal, NotArrived, NotAttached, SessionRefusal};
+pub use runs::run;
 pub use server::Server;
 pub use session::SessionId;
 pub use ticket::{Chosen, Ticket};
+
+#[cfg(test)]
+mod tests;

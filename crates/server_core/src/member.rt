@@ -149,11 +149,7 @@ impl<I: Image> Member<I> {
         match self.lone.arrive(session, moment, request) {
             Ok(Arrived::Accepted { number, limit_tag }) => {
                 let (r, p) = self.shares.admit(moment);
-                self.waiting.push_back_reserved(Tags {
-                    r,
-                    l: limit_tag,
-                    p,
-                });
+                self.waiting.push_back_reserved(Tags { r, l: limit_tag, p });
                 Ok(Arrived::Accepted { number, limit_tag })
             }
             Ok(Arrived::Answered(error)) => Ok(Arrived::Answered(error)),

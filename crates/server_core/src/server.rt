@@ -1,12 +1,12 @@
 //! The server.
-ghost use Rattle.std.specs.Prelude.{◌≡◌, ◌≤◌, map, length, find, is_some, slice_set, IfOk, IfErr, IfSome, IfNone, OnSome};
+ghost use Rattle.std.specs.Prelude.{◌≡◌, ◌≤◌, ◌<◌, ◌^◌, not, filter, map, length, find, is_some, slice_set, IfOk, IfErr, IfSome, IfNone, OnSome};
 ghost use Rattle.eligibility.specs.Choice.{IsActive, IsSlotInRange};
 ghost use Rattle.nbd_base.specs.Words.{change_at};
 ghost use Rattle.server_table.specs.Steps.{is_out_row};
 ghost use Rattle.server_table.specs.declared.event.Answer.TheVariants as answer;
 ghost use Rattle.nbd_commands.specs.Terms.{terms_of};
 ghost use Rattle.nbd_commands.specs.Exports.{IsWithin};
-ghost use Rattle.std.specs.List.{All};
+ghost use Rattle.std.specs.List.{All, sum_by};
 ghost use Rattle.server_core.specs.Kept.{AreShort};
 ghost use Rattle.server_core.specs.Members.{opening_standing, seats_without};
 ghost use Rattle.server_core.specs.Here.{here as told_here, attached as told_attached, arrived as told_arrived, refusal_here};
@@ -18,11 +18,11 @@ use crate::session::SessionId;
 use crate::ticket::{Chosen, Ticket};
 use crate::way::{make_way, put_first};
 use eligibility::Eligibility;
+use export_store::Image;
 use lone_export::{
     ArriveRefusal as ArriveRefusalAlone, Arrived, AttachRefusal, NotArrived as NotArrivedAlone,
     NotAttached as NotAttachedAlone,
 };
-use export_store::Image;
 use nbd_base::NoMemory;
 use nbd_commands::{Config, ExportConfig};
 use nbd_wire::Request;
@@ -69,6 +69,19 @@ fn open_members<I: Image>(
         members.push(member)?;
     }
     Ok(members)
+}
+
+/// How many requests wait, of all these exports.
+#[tactic(auto, using(std::proofs::lemmas::List::Sums::sum_by_more))]
+fn waiting_of<I: Image>(members: &[Member<I>]) -> usize
+    requires { sum_by (λ member. length member.part.waiting) members.now < 2 ^ 63 }
+    ensures { result ≡ sum_by (λ member. length member.part.waiting) members.now }
+{
+    let mut total = 0;
+    for member in members {
+        total += member.waiting();
+    }
+    total
 }
 
 /// A refusal of an export alone, as one of the server.
@@ -136,6 +149,13 @@ impl<I: Image, E: Eligibility<Alloc = I::Alloc>> Server<I, E> {
             served: 0,
             inflight,
         })
+    }
+
+    /// How many requests wait, of all exports together. It takes no memory.
+    pub fn waiting(&self) -> usize
+        ensures { result ≡ length (filter (λ row. not row.out) self.now.table.rows) }
+    {
+        waiting_of(&self.members)
     }
 
     /// Nothing more arrives on a session that is open. It takes no memory.

@@ -1,9 +1,7 @@
-use Rattle.std.proofs.Common.{◌≡◌, ◌<◌, ◌≤◌, ◌++◌, [], ◌∷◌, length, take, get_or, List, sym, ◌∙◌, ap, subst, arith, rules}
+use Rattle.std.proofs.Common.{◌≤◌, length, sym, ◌∙◌, ap, subst, arith, rules}
 use Rattle.std.specs.List.{All}
-use Rattle.nbd_commands.specs.Terms.{terms_of}
-use Rattle.nbd_commands.specs.Exports.{Export}
 use Rattle.server_core.specs.Kept.{AreShort}
-use Rattle.server_core.specs.Members.{Standing, opening_standing}
+use Rattle.server_core.specs.Members.{Standing}
 use Rattle.std.proofs.lemmas.List.Elements.{All-push}
 use Rattle.std.proofs.lemmas.List.{take_all}
 use Rattle.server_core.proofs.Opened.{opened, opened_more}

@@ -1,8 +1,8 @@
-use Rattle.std.proofs.Common.{◌≡◌, sym, ◌∙◌, ap, subst, Some, map}
-use Rattle.std.specs.Prelude.{ℤ, pos, ◌-ℤ◌}
+use Rattle.std.proofs.Common.{sym, ◌∙◌, ap, subst, map}
+use Rattle.std.specs.Prelude.{pos}
 use Rattle.nbd_base.specs.Range.{InRange}
 use Rattle.server_table.specs.Order.{AllParts}
-use Rattle.server_table.specs.Ways.{parts_for, least_first_p}
+use Rattle.server_table.specs.Ways.{parts_for}
 use Rattle.server_core.specs.Kept.{TagsInRange}
 use Rattle.server_core.specs.Members.{shifted_standing}
 use Rattle.server_core.specs.Served.{parts}

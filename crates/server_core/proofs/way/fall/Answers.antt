@@ -1,4 +1,4 @@
-use Rattle.std.proofs.Common.{◌≡◌, sym, ◌∙◌, ap, List}
+use Rattle.std.proofs.Common.{sym, ◌∙◌, ap, List}
 use Rattle.std.proofs.lemmas.Int.{to_z-of_z}
 use Rattle.eligibility.specs.Choice.{all_shifted}
 use Rattle.server_table.specs.Order.{heads}

@@ -1,4 +1,4 @@
-use Rattle.std.proofs.Common.{◌≡◌, ◌≤◌, length, ◌∙◌, ap, List, rules}
+use Rattle.std.proofs.Common.{◌≤◌, length, ◌∙◌, ap, List, rules}
 use Rattle.std.proofs.lemmas.List.{take_all}
 use Rattle.server_table.specs.Ways.{least_first_p}
 use Rattle.server_core.specs.Members.{Standing}

@@ -1,4 +1,4 @@
-use Rattle.std.proofs.Common.{◌≡◌, List, length, sym, ◌∙◌, ap, subst, rules}
+use Rattle.std.proofs.Common.{List, sym, ◌∙◌, ap, subst, rules}
 use Rattle.std.specs.Prelude.{pos}
 use Rattle.std.proofs.lemmas.List.{with_items_is}
 use Rattle.server_core.specs.Members.{Standing}

@@ -1,4 +1,4 @@
-use Rattle.std.proofs.Common.{◌≡◌, sym, ◌∙◌, Option, Some, None, subst}
+use Rattle.std.proofs.Common.{◌≡◌, sym, ◌∙◌, Option, Some, subst}
 use Rattle.std.specs.Prelude.{IfSome}
 use Rattle.tag_clock.specs.declared.Tags.{Tags}
 use Rattle.server_core.proofs.Ways.{put_back}

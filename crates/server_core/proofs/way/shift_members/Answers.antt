@@ -1,8 +1,7 @@
-use Rattle.std.proofs.Common.{◌≡◌, ◌≤◌, ◌++◌, [], map, take, drop, length, List, ◌∙◌, ap, rules}
+use Rattle.std.proofs.Common.{◌≤◌, length, rules}
 use Rattle.std.proofs.lemmas.Int.{to_z-of_z}
-use Rattle.std.proofs.lemmas.List.{take_all}
 use Rattle.index_heap.proofs.InPlace.{map_over_allowed, map_over_step}
-use Rattle.server_core.specs.Members.{Standing, shifted_standing}
+use Rattle.server_core.specs.Members.{shifted_standing}
 use Rattle.server_core.proofs.Ways.{MayShift, members_allowed, all_mapped}
 use Rattle.server_core.proofs.way.shift_members.Goals as goal
 

@@ -1,20 +1,18 @@
-use Rattle.std.proofs.Common.{ℕ, ◌≡◌, ◌<◌, ◌≤◌, ◌^◌, length, Ok, Err, List, refl, sym, ◌∙◌, ap, subst, arith, rules, to_z, of_z}
+use Rattle.std.proofs.Common.{ℕ, ◌≡◌, Ok, refl, sym, ◌∙◌, ap, subst, rules, to_z, of_z}
 use Rattle.std.specs.Prelude.{ℤ, FitsSigned}
 use mir.Syntax.{w128}
 use Rattle.std.proofs.lemmas.Int.{to_z-of_z}
 use Rattle.std.specs.Vec.{vec_capacity}
-use Rattle.std.specs.VecDeque.{deque_capacity, deque_len}
+use Rattle.std.specs.VecDeque.{deque_capacity}
 use Rattle.tag_clock.specs.declared.Tags.{Tags}
 use Rattle.nbd_wire.specs.Grammar.{RequestMessage}
 use Rattle.lone_export.specs.Lone.{Whole, Does, refusal_said, arrived_said}
 use Rattle.server_core.specs.Kept.{AreShort, TagsInRange}
-use Rattle.lone_export.specs.declared.refusal.ArriveRefusal.{ArriveRefusal}
-use Rattle.lone_export.specs.declared.refusal.ArriveRefusal.TheVariants as refusing
 use Rattle.lone_export.specs.declared.refusal.Arrived.{Arrived}
 use Rattle.lone_export.specs.declared.refusal.Arrived.TheVariants as arrived
 use Rattle.lone_export.specs.declared.step.Step.TheVariants.{Arrive}
 use Rattle.lone_export.specs.declared.step.StepAnswer.TheVariants.{Accepted, Answered}
-use Rattle.server_core.specs.Members.{Kept, Standing, standing_of, IsMember, AdmitsAt, Arrives, Went}
+use Rattle.server_core.specs.Members.{Kept, Standing, standing_of, AdmitsAt, Arrives, Went}
 use Rattle.server_core.proofs.Members.{went, went_kept}
 use Rattle.server_core.proofs.Arriving.{Waits, kept_waiting, has_room, was_admitted, not_admitted, admits_at, admits_whole, refuses, number_is, tag_is, tag_fits, p_fits, refusal_is, waits, waits_kept}
 use Rattle.server_core.proofs.member.Member.arrive.Goals as goal

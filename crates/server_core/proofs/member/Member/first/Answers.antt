@@ -1,4 +1,4 @@
-use Rattle.std.proofs.Common.{◌≡◌, sym, ◌∙◌, ap}
+use Rattle.std.proofs.Common.{sym, ◌∙◌, ap}
 use Rattle.server_table.specs.Order.{head_tags}
 use Rattle.server_core.specs.Members.{Standing}
 use Rattle.server_core.proofs.Picking.{head_is}

@@ -1,14 +1,12 @@
-use Rattle.std.proofs.Common.{◌≡◌, ◌<◌, ◌≤◌, ◌++◌, ◌∷◌, length, Some, List, refl, sym, ◌∙◌, ap, subst, arith, rules}
-use Rattle.std.specs.Vec.{vec_capacity, vec_len}
+use Rattle.std.proofs.Common.{◌≡◌, ◌<◌, ◌≤◌, ◌++◌, ◌∷◌, length, sym, ap, subst, arith, rules}
+use Rattle.std.specs.Vec.{vec_capacity}
 use Rattle.std.specs.VecDeque.{deque_capacity}
 use Rattle.std.proofs.lemmas.List.{length-map}
-use Rattle.lone_export.specs.Alone.{Job}
 use Rattle.server_table.specs.Order.{IsNumbered}
 use Rattle.server_table.specs.Picks.{part_picked}
 use Rattle.server_core.specs.declared.member.Sent.{Sent}
 use Rattle.server_core.specs.Kept.{TagsInRange}
-use Rattle.server_core.specs.Tagging.{AllTagsInRange, credit_due, waiting_credited, share_credited_by}
-use Rattle.server_core.specs.Members.{Kept, Seat, Standing, standing_of, part_of, sent_tags, entries_of, IsMember, Picks}
+use Rattle.server_core.specs.Members.{Kept, Seat, Standing, standing_of, sent_tags, IsMember, Picks}
 use Rattle.server_core.proofs.Members.{sent_length}
 use Rattle.server_core.proofs.Picking.{Picking, kept_is, entries_length, finds_one, picks, picks_kept, credit_in_range}
 use Rattle.server_core.proofs.member.Member.pick.Goals as goal

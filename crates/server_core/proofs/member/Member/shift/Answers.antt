@@ -1,12 +1,12 @@
-use Rattle.std.proofs.Common.{◌≡◌, ◌≤◌, false, length, map, List, sym, ◌∙◌, ap, subst, arith, rules}
+use Rattle.std.proofs.Common.{◌≡◌, false, length, sym, ◌∙◌, ap, subst, rules}
 use Rattle.std.specs.Prelude.{◌==◌}
 use Rattle.std.proofs.lemmas.Int.{to_z-of_z}
 use Rattle.std.specs.Vec.{vec_capacity}
 use Rattle.std.specs.VecDeque.{deque_capacity, deque_len}
 use Rattle.server_table.specs.Ways.{part_shifted}
 use Rattle.server_core.specs.Kept.{TagsInRange}
-use Rattle.server_core.specs.Members.{Kept, Standing, standing_of, shifted_standing}
-use Rattle.server_core.proofs.Shifting.{shifts, shifts_kept, shift_in_range, last_in_range}
+use Rattle.server_core.specs.Members.{Kept, Standing, shifted_standing}
+use Rattle.server_core.proofs.Shifting.{shifts, shift_in_range, last_in_range}
 use Rattle.server_core.proofs.member.Member.shift.Goals as goal
 
 pub shift_all-requires : goal.shift_all-requires

@@ -1,4 +1,4 @@
-use Rattle.std.proofs.Common.{◌≡◌, ◌∙◌, ap, find}
+use Rattle.std.proofs.Common.{◌∙◌, ap, find}
 use Rattle.std.specs.Prelude.{◌==◌, is_some}
 use Rattle.std.specs.Vec.{vec_capacity}
 use Rattle.std.specs.VecDeque.{deque_capacity}

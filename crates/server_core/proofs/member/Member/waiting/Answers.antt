@@ -1,4 +1,4 @@
-use Rattle.std.proofs.Common.{◌≡◌, length, sym, ◌∙◌, ap}
+use Rattle.std.proofs.Common.{length, sym, ◌∙◌, ap}
 use Rattle.server_core.specs.Members.{Standing}
 use Rattle.server_core.proofs.Picking.{entries_length}
 use Rattle.server_core.proofs.member.Member.waiting.Goals as goal

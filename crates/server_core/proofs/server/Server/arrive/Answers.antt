@@ -1,12 +1,10 @@
-use Rattle.std.proofs.Common.{ℕ, ◌≡◌, ◌<◌, ◌≤◌, ◌^◌, true, false, length, set, get_or, Option, Some, Result, List, refl, sym, ◌∙◌, ap, subst, arith, rules}
-use Rattle.std.specs.Prelude.{pos, IfSome, IfErr}
+use Rattle.std.proofs.Common.{◌≡◌, ◌<◌, ◌≤◌, true, length, set, Option, List, sym, ◌∙◌, ap, subst, arith, rules}
+use Rattle.std.specs.Prelude.{pos}
 use Rattle.tag_clock.specs.declared.Tags.{Tags}
 use Rattle.eligibility.specs.Choice.{IsSlotInRange}
 use Rattle.server_table.specs.declared.event.Event.TheVariants.{Arrive}
 use Rattle.server_table.specs.declared.event.Answer.TheVariants.{NoExport}
-use Rattle.server_table.specs.Parts.{Part}
-use Rattle.server_table.specs.Order.{AllParts, head_tags, heads}
-use Rattle.server_table.specs.Ways.{least_first_p, way_for}
+use Rattle.server_table.specs.Order.{head_tags, heads}
 use Rattle.server_core.specs.Kept.{AreShort, TagsInRange}
 use Rattle.server_core.specs.Members.{Standing, AdmitsAt, Arrives}
 use Rattle.server_core.specs.Served.{Served, parts, served_of, Stepped, IsServed, arrive_says}
@@ -14,7 +12,7 @@ use Rattle.server_core.specs.Here.{arrived as told_arrived}
 use Rattle.server_core.specs.Way.{way_of}
 use Rattle.server_core.proofs.Changed.{before_way}
 use Rattle.server_core.proofs.Performed.{all_seats}
-use Rattle.server_core.proofs.Accepting.{absent_arrive, same_read, few_members, part_range, terms_short, stepped_refused, kept_refused, seats_refused, back_told, falls, way_range, found_same, length_way, slot_was, same_first, accepted_at, first_in_range, kept_accepted, stepped_accepted, seats_accepted}
+use Rattle.server_core.proofs.Accepting.{absent_arrive, same_read, few_members, part_range, terms_short, stepped_refused, kept_refused, seats_refused, back_told, falls, way_range, found_same, length_way, slot_was, same_first, first_in_range, kept_accepted, stepped_accepted, seats_accepted}
 use Rattle.server_core.proofs.server.Server.arrive.Goals as goal
 
 pub returns-then-session-len-clause-step : goal.returns-then-session-len-clause-step
@@ -361,8 +359,8 @@ invariant_of-self-2 g c =
     let arrives : Arrives {A = A} m m' s t q r = subst (λ (x : Standing). Arrives {A = A} x m' s t q r) d_is c.arrive-said.ensures.arrives in
     let way_is : way ≡ way_of (length m.part.waiting) (pos t) ms = c.make_way.ensures.members ∙ ap (λ k. way_of k (pos t) ms) c.waiting-waiting.ensures in
     let firsts : g.E.Eligibility.contents c.put_first.new.eligible ≡ set (heads (parts (way_of (length m.part.waiting) (pos t) ms))) e (head_tags m'.part.waiting) =
-        c.put_first.ensures.contents ∙ ap (λ (l : List (Option Tags)). set l e c.first-first.result) c.make_way.ensures.slots
-        ∙ ap (λ (l : List Standing). set (heads (parts l)) e c.first-first.result) way_is ∙ ap (set (heads (parts (way_of (length m.part.waiting) (pos t) ms))) e) c.first-first.ensures in
+    c.put_first.ensures.contents ∙ ap (λ (l : List (Option Tags)). set l e c.first-first.result) c.make_way.ensures.slots
+    ∙ ap (λ (l : List Standing). set (heads (parts l)) e c.first-first.result) way_is ∙ ap (set (heads (parts (way_of (length m.part.waiting) (pos t) ms))) e) c.first-first.ensures in
     let not_later = c.self.invariant.server.not_later in
     let le : g.E.Eligibility.asked c.put_first.new.eligible ≤ i.latest = omega (arith, c.put_first.ensures.asked, c.make_way.ensures.asked) in
     subst (λ (l : List Standing). IsServed (set l e m') (g.E.Eligibility.contents c.put_first.new.eligible) (g.E.Eligibility.asked c.put_first.new.eligible) i.latest i.inflight i.served) (sym way_is)

@@ -1,13 +1,12 @@
-use Rattle.std.proofs.Common.{◌≡◌, ◌<◌, ◌≤◌, ◌+◌, ◌∷◌, ◌++◌, [], max, length, set, get_or, Option, Some, None, List, ℕ, refl, sym, ◌∙◌, ap, subst, arith, rules}
+use Rattle.std.proofs.Common.{◌<◌, ◌≤◌, ◌+◌, ◌∷◌, ◌++◌, [], length, set, Option, List, sym, ◌∙◌, ap, subst, arith, rules}
 use Rattle.std.specs.Prelude.{pos}
 use Rattle.nbd_base.specs.Words.{change_at}
 use Rattle.tag_clock.specs.declared.Tags.{Tags}
 use Rattle.eligibility.specs.Choice.{choice, IsActive, IsSlotInRange}
 use Rattle.server_table.specs.declared.event.Event.TheVariants.{Dispatch}
 use Rattle.server_table.specs.declared.event.Answer.TheVariants.{Picked, Nothing}
-use Rattle.server_core.specs.Members.{Seat, Standing}
+use Rattle.server_core.specs.Members.{Seat}
 use Rattle.server_core.specs.Served.{Served, served_of, Stepped, IsServed}
-use Rattle.server_core.proofs.Performed.{all_seats}
 use Rattle.server_core.proofs.Dispatched.{chosen, chosen_within, stepped_full, stepped_none, stepped_picked, pick_waiting, pick_room, pick_numbered, pick_range, active, first_range, kept_chosen, seats_picked, held_picked}
 use Rattle.server_core.proofs.server.Server.dispatch.Goals as goal
 

@@ -1,4 +1,4 @@
-use Rattle.std.proofs.Common.{◌≡◌, ◌<◌, ◌≤◌, false, true, find, length, List, sym, ◌∙◌, ap, rules}
+use Rattle.std.proofs.Common.{◌<◌, ◌≤◌, find, length, sym, ◌∙◌, ap, rules}
 use Rattle.std.specs.Prelude.{is_some}
 use Rattle.server_table.specs.Steps.{is_out_row}
 use Rattle.server_core.specs.Served.{Served}

@@ -1,4 +1,4 @@
-use Rattle.std.proofs.Common.{◌≡◌, ◌<◌, ◌≤◌, length, set, List, sym, ◌∙◌, ap, subst, rules}
+use Rattle.std.proofs.Common.{◌<◌, ◌≤◌, length, set, sym, ◌∙◌, ap, subst, rules}
 use Rattle.lone_export.specs.declared.step.Step.TheVariants as own
 use Rattle.lone_export.specs.Lone.{gone_said}
 use Rattle.server_table.specs.declared.event.Event.TheVariants.{Gone}

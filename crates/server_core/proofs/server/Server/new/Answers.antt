@@ -1,10 +1,9 @@
-use Rattle.std.proofs.Common.{◌≡◌, ◌≤◌, ◌<◌, length, List, sym, ◌∙◌, ap, subst, arith, rules}
-use Rattle.std.specs.Prelude.{replicate, None}
+use Rattle.std.proofs.Common.{◌≤◌, length, List, sym, ◌∙◌, ap, subst, arith, rules}
 use Rattle.std.specs.List.{All}
 use Rattle.nbd_commands.specs.Exports.{Export}
 use Rattle.server_core.specs.Kept.{AreShort}
 use Rattle.server_core.specs.Members.{Standing}
-use Rattle.server_core.specs.Served.{Served, served_of, IsServed, opening_served, setup_for}
+use Rattle.server_core.specs.Served.{served_of, IsServed, opening_served, setup_for}
 use Rattle.server_core.proofs.Opened.{opened, opened_served, kept_new}
 use Rattle.server_core.proofs.server.Server.new.Goals as goal
 

@@ -16,7 +16,7 @@ returns-then-ticket-len-clause-none g c =
     let le : length i.members.items ≤ t.export = search rules in
     let none : slot_in [] t.number ≡ Some t.slot → ⊥ = λ h. absurd (cc) in
     let one : Holds (served_of i.members.items i.latest i.inflight) (record { export = t.export; number = t.number; slot = t.slot }) → ⊥ =
-        λ h. none (subst (λ (l : List Seat). slot_in l t.number ≡ Some t.slot) (seats_beyond i.members.items t.export le) h) in
+    λ h. none (subst (λ (l : List Seat). slot_in l t.number ≡ Some t.slot) (seats_beyond i.members.items t.export le) h) in
     (subst (λ (v : Served). Holds v c.args.ticket → ⊥) c.self.view_is (subst (λ (p : Place). Holds (served_of i.members.items i.latest i.inflight) p → ⊥) c.ticket.view_is one), refl)
 
 pub invariant_of-self : goal.invariant_of-self
@@ -31,9 +31,10 @@ returns-in_default-clause-none g c =
     let t = c.ticket.inside in
     let lt : t.export < length i.members.items = search rules in
     let one : Holds (served_of i.members.items i.latest i.inflight) (record { export = t.export; number = t.number; slot = t.slot }) → ⊥ =
-        λ h. c.in_default.ensures.none.0 (subst (λ (l : List Seat). slot_in l t.number ≡ Some t.slot) (seats_there i.members.items t.export c.index_mut-member.result.now lt c.index_mut-member.ensures.value) h) in
-    (subst (λ (v : Served). Holds v c.args.ticket → ⊥) c.self.view_is (subst (λ (p : Place). Holds (served_of i.members.items i.latest i.inflight) p → ⊥) c.ticket.view_is one),
-    ap (λ (l : List Standing). served_of l i.latest i.inflight) (set_back i.members.items t.export c.index_mut-member.result.now c.perform.new.self c.index_mut-member.ensures.value c.in_default.ensures.none.1) ∙ c.self.view_is)
+    λ h. c.in_default.ensures.none.0 (subst (λ (l : List Seat). slot_in l t.number ≡ Some t.slot) (seats_there i.members.items t.export c.index_mut-member.result.now lt c.index_mut-member.ensures.value) h) in (
+      subst (λ (v : Served). Holds v c.args.ticket → ⊥) c.self.view_is (subst (λ (p : Place). Holds (served_of i.members.items i.latest i.inflight) p → ⊥) c.ticket.view_is one),
+      ap (λ (l : List Standing). served_of l i.latest i.inflight) (set_back i.members.items t.export c.index_mut-member.result.now c.perform.new.self c.index_mut-member.ensures.value c.in_default.ensures.none.1) ∙ c.self.view_is,
+    )
 
 pub overflow_sub-self : goal.overflow_sub-self
 overflow_sub-self g c =
@@ -58,11 +59,12 @@ returns-clause-some g c =
     let new = served_of (set i.members.items t.export c.perform.new.self) i.latest i.inflight in
     let lt : t.export < length i.members.items = search rules in
     let held : Holds old (record { export = t.export; number = t.number; slot = t.slot }) =
-        subst (λ (l : List Seat). slot_in l t.number ≡ Some t.slot) (sym (seats_there i.members.items t.export c.index_mut-member.result.now lt c.index_mut-member.ensures.value)) c.in-Some.ensures.some.0 in
-    let one = stepped_performs g.row.I-Alloc.Denot i.members.items i.latest i.inflight t.export t.number c.index_mut-member.result.now c.perform.new.self c.in-Some.memory lt c.index_mut-member.ensures.value c.in-Some.ensures.some.1 in
-    (subst (λ (v : Served). Holds v c.args.ticket) c.self.view_is (subst (λ (p : Place). Holds old p) c.ticket.view_is held),
-    subst (λ (v : Served). Stepped {A = g.row.I-Alloc.Denot} v (Perform c.args.ticket.export c.args.ticket.number) new (Performed c.in-Some.memory)) c.self.view_is
-    (subst (λ (p : Place). Stepped {A = g.row.I-Alloc.Denot} old (Perform p.export p.number) new (Performed c.in-Some.memory)) c.ticket.view_is one))
+    subst (λ (l : List Seat). slot_in l t.number ≡ Some t.slot) (sym (seats_there i.members.items t.export c.index_mut-member.result.now lt c.index_mut-member.ensures.value)) c.in-Some.ensures.some.0 in
+    let one = stepped_performs g.row.I-Alloc.Denot i.members.items i.latest i.inflight t.export t.number c.index_mut-member.result.now c.perform.new.self c.in-Some.memory lt c.index_mut-member.ensures.value c.in-Some.ensures.some.1 in (
+      subst (λ (v : Served). Holds v c.args.ticket) c.self.view_is (subst (λ (p : Place). Holds old p) c.ticket.view_is held),
+      subst (λ (v : Served). Stepped {A = g.row.I-Alloc.Denot} v (Perform c.args.ticket.export c.args.ticket.number) new (Performed c.in-Some.memory)) c.self.view_is
+          (subst (λ (p : Place). Stepped {A = g.row.I-Alloc.Denot} old (Perform p.export p.number) new (Performed c.in-Some.memory)) c.ticket.view_is one),
+    )
 
 pub returns-clause-seats : goal.returns-clause-seats
 returns-clause-seats g c =

@@ -1,0 +1,46 @@
+//! A whole run of a server.
+ghost use Rattle.std.specs.Prelude.{◌≡◌, IfOk};
+ghost use Rattle.server_core.specs.Served.{setup_for};
+ghost use Rattle.server_core.specs.Run.{IsAnswered, IsAlone, QueuesCountTheirOwn, WeightsWait, TagsAreUnrolled, ChoicesKeepToRates};
+
+use crate::server::Server;
+use core_laws::{
+    choice_count, limit_tags_unrolled, projection, queue_refusal, weight_waits_for_its_limit,
+};
+use eligibility::Eligibility;
+use export_store::Image;
+use nbd_base::NoMemory;
+use nbd_commands::Config;
+use server_table::{Answer, Event};
+use std::alloc::Allocator;
+
+/// Makes a server and gives each event's answer, in order.
+///
+/// Want of memory means that the server or the list couldn't be made; an event that found no memory has that answer in
+/// its place.
+pub fn run<I: Image, E: Eligibility<Alloc = I::Alloc>>(
+    alloc: I::Alloc,
+    config: &Config<I::Alloc>,
+    events: Vec<Event<I::Alloc>, I::Alloc>,
+) -> Result<Vec<Answer<I::Alloc>, I::Alloc>, NoMemory>
+    ensures answers { IfOk result (λ answers. IsAnswered (setup_for config.now) events.items answers.items) }
+    ensures alone { IfOk result (λ answers. IsAlone (setup_for config.now) events.items answers.items) }
+    ensures queue { IfOk result (λ answers. QueuesCountTheirOwn (setup_for config.now) events.items answers.items) }
+    ensures weight { IfOk result (λ answers. WeightsWait (setup_for config.now) events.items answers.items) }
+    ensures tags { IfOk result (λ answers. TagsAreUnrolled (setup_for config.now) events.items answers.items) }
+    ensures counts { IfOk result (λ answers. ChoicesKeepToRates (setup_for config.now) events.items answers.items) }
+{
+    let mut server: Server<I, E> = Server::new(alloc, config)?;
+    let mut answers = Vec::new(alloc);
+    for event in events {
+        let answer = server.event(event);
+        answers.push(answer)?;
+    }
+    // What the definition promises of every run, it promises of this one.
+    projection::<I::Alloc>();
+    queue_refusal::<I::Alloc>();
+    weight_waits_for_its_limit::<I::Alloc>();
+    limit_tags_unrolled::<I::Alloc>();
+    choice_count::<I::Alloc>();
+    Ok(answers)
+}
