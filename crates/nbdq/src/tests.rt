@@ -208,224 +208,57 @@ const REQUESTS: [Row; 11] = [
     ),
 ];
 
-const REFUSALS: [Row; 37] = [
+/// Scripts that are refused, and the line that is written.
+const REFUSALS: [(&str, &str); 37] = [
+    ("", "line 1 refused\n"),
+    ("---\n", "line 1 C3\n"),
+    ("export a size=0\n---\n", "line 1 C5\n"),
     (
-        "an empty script",
-        b"",
-        Outcome::Refused,
-        b"line 1 refused\n",
+        "export a size=4096\n---\n0000000349484156454f50540000000100000001610g\n",
+        "hex refused\n",
     ),
-    ("no export", b"---\n", Outcome::Refused, b"line 1 C3\n"),
+    ("export a size=4096\n---\n012\n", "hex refused\n"),
     (
-        "a size of zero",
-        b"export a size=0\n---\n",
-        Outcome::Refused,
-        b"line 1 C5\n",
+        "export a size=1\n# again\nexport a size=2\n---\n",
+        "line 3 C4\n",
     ),
+    ("export a size=1 r=11 l=10\n---\n", "line 1 C9\n"),
+    ("export a size=1 depth=0\n---\n", "line 1 C8\n"),
+    ("export a size=1 size=1\n---\n", "line 1 refused\n"),
     (
-        "a digit that is none",
-        b"export a size=4096\n---\n0000000349484156454f50540000000100000001610g\n",
-        Outcome::Refused,
-        b"hex refused\n",
+        "export a size=18446744073709551616\n---\n",
+        "line 1 refused\n",
     ),
+    ("export a size=1\n\n", "line 2 refused\n"),
+    ("# none\n\n---\n", "line 3 C3\n"),
+    ("export a\n---\n", "line 1 refused\n"),
+    ("export size=1\n---\n", "line 1 refused\n"),
+    ("export a ro size=4096\n---\n", "line 1 refused\n"),
+    ("export a size=1 speed=1\n---\n", "line 1 refused\n"),
+    ("import a size=1\n---\n", "line 1 refused\n"),
+    ("export a size=1 ro ro\n---\n", "line 1 refused\n"),
+    ("export a size=\n---\n", "line 1 refused\n"),
+    ("export a size=+1\n---\n", "line 1 refused\n"),
+    ("export a size=0 ro ro\n---\n", "line 1 refused\n"),
+    ("export a size=0\nexport\n---\n", "line 1 C5\n"),
+    ("export a size=18446744073709551615\n---\n", "line 1 C5\n"),
+    ("export a size=268435457\n---\n", "line 1 C5\n"),
+    ("export a size=1 r=1000001\n---\n", "line 1 C6\n"),
+    ("export a size=1 l=1000001\n---\n", "line 1 C6\n"),
+    ("export a size=1 w=0\n---\n", "line 1 C7\n"),
+    ("export a size=1 window=4097\n---\n", "line 1 C8\n"),
     (
-        "an odd number of digits",
-        b"export a size=4096\n---\n012\n",
-        Outcome::Refused,
-        b"hex refused\n",
+        "export a size=1 depth=0 w=0 r=1000001\n---\n",
+        "line 1 C6\n",
     ),
-    (
-        "a repeated name",
-        b"export a size=1\n# again\nexport a size=2\n---\n",
-        Outcome::Refused,
-        b"line 3 C4\n",
-    ),
-    (
-        "a reservation above the limit",
-        b"export a size=1 r=11 l=10\n---\n",
-        Outcome::Refused,
-        b"line 1 C9\n",
-    ),
-    (
-        "a depth of zero",
-        b"export a size=1 depth=0\n---\n",
-        Outcome::Refused,
-        b"line 1 C8\n",
-    ),
-    (
-        "a setting given twice",
-        b"export a size=1 size=1\n---\n",
-        Outcome::Refused,
-        b"line 1 refused\n",
-    ),
-    (
-        "a number beyond 64 bits",
-        b"export a size=18446744073709551616\n---\n",
-        Outcome::Refused,
-        b"line 1 refused\n",
-    ),
-    (
-        "a head without an end",
-        b"export a size=1\n\n",
-        Outcome::Refused,
-        b"line 2 refused\n",
-    ),
-    (
-        "no export behind a comment",
-        b"# none\n\n---\n",
-        Outcome::Refused,
-        b"line 3 C3\n",
-    ),
-    (
-        "an export without a size",
-        b"export a\n---\n",
-        Outcome::Refused,
-        b"line 1 refused\n",
-    ),
-    (
-        "an export without a name",
-        b"export size=1\n---\n",
-        Outcome::Refused,
-        b"line 1 refused\n",
-    ),
-    (
-        "a setting before the size",
-        b"export a ro size=4096\n---\n",
-        Outcome::Refused,
-        b"line 1 refused\n",
-    ),
-    (
-        "a setting that is none",
-        b"export a size=1 speed=1\n---\n",
-        Outcome::Refused,
-        b"line 1 refused\n",
-    ),
-    (
-        "a word that is none",
-        b"import a size=1\n---\n",
-        Outcome::Refused,
-        b"line 1 refused\n",
-    ),
-    (
-        "read-only twice",
-        b"export a size=1 ro ro\n---\n",
-        Outcome::Refused,
-        b"line 1 refused\n",
-    ),
-    (
-        "a number without digits",
-        b"export a size=\n---\n",
-        Outcome::Refused,
-        b"line 1 refused\n",
-    ),
-    (
-        "a number with a sign",
-        b"export a size=+1\n---\n",
-        Outcome::Refused,
-        b"line 1 refused\n",
-    ),
-    (
-        "a line of another form that has a bad value too",
-        b"export a size=0 ro ro\n---\n",
-        Outcome::Refused,
-        b"line 1 refused\n",
-    ),
-    (
-        "the first of two bad lines",
-        b"export a size=0\nexport\n---\n",
-        Outcome::Refused,
-        b"line 1 C5\n",
-    ),
-    (
-        "a number that fits 64 bits",
-        b"export a size=18446744073709551615\n---\n",
-        Outcome::Refused,
-        b"line 1 C5\n",
-    ),
-    (
-        "a size above the greatest",
-        b"export a size=268435457\n---\n",
-        Outcome::Refused,
-        b"line 1 C5\n",
-    ),
-    (
-        "a reservation above the greatest",
-        b"export a size=1 r=1000001\n---\n",
-        Outcome::Refused,
-        b"line 1 C6\n",
-    ),
-    (
-        "a limit above the greatest",
-        b"export a size=1 l=1000001\n---\n",
-        Outcome::Refused,
-        b"line 1 C6\n",
-    ),
-    (
-        "a weight of zero",
-        b"export a size=1 w=0\n---\n",
-        Outcome::Refused,
-        b"line 1 C7\n",
-    ),
-    (
-        "a window above the greatest",
-        b"export a size=1 window=4097\n---\n",
-        Outcome::Refused,
-        b"line 1 C8\n",
-    ),
-    (
-        "three bad values",
-        b"export a size=1 depth=0 w=0 r=1000001\n---\n",
-        Outcome::Refused,
-        b"line 1 C6\n",
-    ),
-    (
-        "a repeated name with a bad size",
-        b"export a size=1\nexport a size=0\n---\n",
-        Outcome::Refused,
-        b"line 2 C4\n",
-    ),
-    (
-        "inflight without a number",
-        b"inflight\n---\n",
-        Outcome::Refused,
-        b"line 1 refused\n",
-    ),
-    (
-        "inflight twice",
-        b"inflight 1\ninflight 1\n---\n",
-        Outcome::Refused,
-        b"line 2 refused\n",
-    ),
-    (
-        "inflight of zero",
-        b"inflight 0\n---\n",
-        Outcome::Refused,
-        b"line 1 C8\n",
-    ),
-    (
-        "inflight above the greatest",
-        b"export a size=1\ninflight 4097\n---\n",
-        Outcome::Refused,
-        b"line 2 C8\n",
-    ),
-    (
-        "a space behind the end",
-        b"export a size=1\n--- \n",
-        Outcome::Refused,
-        b"line 2 refused\n",
-    ),
-    (
-        "a byte that isn't dropped",
-        b"export a size=1\n---\n00\x0c00\n",
-        Outcome::Refused,
-        b"hex refused\n",
-    ),
-    (
-        "two ends",
-        b"export a size=1\n---\n---\n",
-        Outcome::Refused,
-        b"hex refused\n",
-    ),
+    ("export a size=1\nexport a size=0\n---\n", "line 2 C4\n"),
+    ("inflight\n---\n", "line 1 refused\n"),
+    ("inflight 1\ninflight 1\n---\n", "line 2 refused\n"),
+    ("inflight 0\n---\n", "line 1 C8\n"),
+    ("export a size=1\ninflight 4097\n---\n", "line 2 C8\n"),
+    ("export a size=1\n--- \n", "line 2 refused\n"),
+    ("export a size=1\n---\n00\x0c00\n", "hex refused\n"),
+    ("export a size=1\n---\n---\n", "hex refused\n"),
 ];
 
 /// How a script goes, and what is written.
@@ -467,9 +300,11 @@ fn requests(rt: HostRuntime) {
 
 #[test]
 fn refusals(rt: HostRuntime) {
-    for row in &REFUSALS {
-        let well = goes_as(rt.alloc(), row);
-        assert!(rt; well, "{}", row.0);
+    for (script, line) in REFUSALS {
+        let (outcome, output) = outcome_of(rt.alloc(), script.as_bytes());
+        assert_eq!(rt; outcome, Outcome::Refused, "{script}");
+        let well = output.as_slice() == line.as_bytes();
+        assert!(rt; well, "{script}");
     }
 }
 
