@@ -37,18 +37,6 @@ picked_terms Weight p = by_interval p.terms.r_interval
     by_interval None = refl
     by_interval (Some interval) = refl
 
--- a later moment alone
-pub kept_later : (ms : List Standing) (slots slots' : List (Option Tags)) (asked asked' now now' inflight served : ℕ) → IsServed ms slots asked now inflight served → slots' ≡ slots → asked' ≤ now' → IsServed ms slots' asked' now' inflight served
-kept_later ms slots slots' asked asked' now now' inflight served kept same le =
-    let s = kept.server in
-    record {
-      server = record { few = s.few; firsts = same ∙ s.firsts; not_later = le; counted = s.counted; within = s.within; each = s.each };
-      room = kept.room;
-    }
-
-pub asked_before : (ms : List Standing) (slots : List (Option Tags)) (asked now t inflight served : ℕ) → IsServed ms slots asked now inflight served → asked ≤ max now t
-asked_before ms slots asked now t inflight served kept = let le = kept.server.not_later in omega arith
-
 module _ (A : Type 0) where
   pub stepped_full : (ms : List Standing) (slots : List (Option Tags)) (asked now t inflight served : ℕ) → IsServed ms slots asked now inflight served → inflight ≤ served → Stepped {A = A} (served_of ms now inflight) (Dispatch t) (served_of ms (max now t) inflight) Nothing
   stepped_full ms slots asked now t inflight served kept full = record { stepped = step_full (parts ms) now inflight t true (let c = kept.server.counted in omega arith); setup = refl }

@@ -1,19 +1,19 @@
 -- From a call of the export alone to the same call with its tags.
-use Rattle.std.proofs.Common.{◌≡◌, ℕ, Option, Some, None, List, [], ◌∷◌, map, length, filter, refl, sym, ◌∙◌, ap, subst, arith}
+use Rattle.std.proofs.Common.{◌≡◌, ℕ, List, [], ◌∷◌, map, length, refl, sym, ◌∙◌, ap, subst, arith}
 use Rattle.std.proofs.lemmas.List.{length-map}
-use Rattle.std.specs.Prelude.{not, ◌==◌, ◌^◌, ◌&&◌, nat_le, slice_get}
+use Rattle.std.specs.Prelude.{not, ◌==◌, ◌&&◌, slice_get}
 use Rattle.nbd_commands.specs.Terms.{Terms}
 use Rattle.tag_clock.specs.declared.Tags.{Tags}
-use Rattle.reply_box.specs.Sessions.{is_here, is_open_at, is_left_at, is_here_at, outbox_at}
+use Rattle.reply_box.specs.Sessions.{is_left_at, is_here_at, outbox_at}
 use Rattle.lone_export.specs.Alone.{Alone, Job, Moved, own_step, outstanding}
-use Rattle.lone_export.specs.Lone.{Whole, Does, DoesOr}
+use Rattle.lone_export.specs.Lone.{Whole, Does}
 use Rattle.lone_export.specs.declared.step.Step.{Step}
-use Rattle.lone_export.specs.declared.step.Step.TheVariants.{Attach, Take, Leave, Gone}
+use Rattle.lone_export.specs.declared.step.Step.TheVariants.{Take}
 use Rattle.lone_export.specs.declared.step.StepAnswer.{StepAnswer}
 use Rattle.lone_export.proofs.Cases.{if_one, some_one}
 use Rattle.server_table.specs.Parts.{alone_of, job_of_entry}
 use Rattle.server_core.specs.declared.member.Sent.{Sent}
-use Rattle.server_core.specs.Members.{Kept, entries_of, sent_tags, part_of, standing_of, IsMember, with_state, own, Went, WentOr}
+use Rattle.server_core.specs.Members.{Kept, entries_of, sent_tags, part_of, standing_of, IsMember, with_state, own, Went}
 
 -- ---- the requests with their tags, and without
 pub jobs_back : (jobs : List Job) (tags : List Tags) → length tags ≡ length jobs → map job_of_entry (entries_of jobs tags) ≡ jobs
@@ -44,17 +44,6 @@ KeepsRequests terms state step = (own_step terms state step).state ≡ seated st
 module _ (A : Type 0) where
   abbrev Still : Alone → Moved A → Type 0
   Still state moved = moved.state ≡ seated state moved.state
-
-  pub keeps_attach : (terms : Terms) (state : Alone) → KeepsRequests {A = A} terms state Attach
-  keeps_attach terms state =
-      if_one (Still state) (nat_le (2 ^ 56) state.count) refl
-      (if_one (Still state) (length (filter is_here state.sessions) == 64) refl refl)
-
-  pub keeps_leave : (terms : Terms) (state : Alone) (s : ℕ) → KeepsRequests {A = A} terms state (Leave s)
-  keeps_leave terms state s = if_one (Still state) (not (is_open_at state.sessions s)) refl refl
-
-  pub keeps_gone : (terms : Terms) (state : Alone) (s : ℕ) → KeepsRequests {A = A} terms state (Gone s)
-  keeps_gone terms state s = if_one (Still state) (not (is_here_at state.sessions s)) refl refl
 
   pub keeps_take : (terms : Terms) (state : Alone) (s : ℕ) → KeepsRequests {A = A} terms state (Take s)
   keeps_take terms state s =
@@ -89,12 +78,3 @@ module _ {A : Type 0} where
   went_kept m new step answer h does slots keeps =
       subst (λ (w : Whole). IsMember (record m { whole = w })) (sym (same_whole m.whole new step answer does slots keeps))
       (record { tagged = h.tagged; sent = h.sent; seated = h.seated; r_interval = h.r_interval; interval = h.interval; p_interval = h.p_interval; few = h.few; waiting_room = h.waiting_room; out_room = h.out_room })
-
-  -- the same where the call may have found no memory
-  pub went_or : (m : Kept) (new : Whole) (step : Step A) (answer : Option (StepAnswer A)) → IsMember m → DoesOr m.whole new step answer → new.slots ≡ m.whole.slots → KeepsRequests m.whole.terms m.whole.state step → WentOr (standing_of m) (standing_of (record m { whole = new })) step answer
-  went_or m new step None h same slots keeps = ap (λ (w : Whole). standing_of (record m { whole = w })) same
-  went_or m new step (Some answer) h does slots keeps = went m new step answer h does slots keeps
-
-  pub went_or_kept : (m : Kept) (new : Whole) (step : Step A) (answer : Option (StepAnswer A)) → IsMember m → DoesOr m.whole new step answer → new.slots ≡ m.whole.slots → KeepsRequests m.whole.terms m.whole.state step → IsMember (record m { whole = new })
-  went_or_kept m new step None h same slots keeps = subst (λ (w : Whole). IsMember (record m { whole = w })) (sym same) h
-  went_or_kept m new step (Some answer) h does slots keeps = went_kept m new step answer h does slots keeps

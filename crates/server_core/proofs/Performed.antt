@@ -11,7 +11,7 @@ use Rattle.lone_export.specs.Alone.{Alone, Job, Moved}
 use Rattle.lone_export.specs.declared.step.Step.TheVariants as own
 use Rattle.lone_export.specs.declared.step.StepAnswer.{StepAnswer}
 use Rattle.server_table.specs.declared.event.Event.TheVariants.{Perform}
-use Rattle.server_table.specs.declared.event.Answer.TheVariants.{Performed, NotOut}
+use Rattle.server_table.specs.declared.event.Answer.TheVariants.{Performed}
 use Rattle.server_table.specs.Table.{Row}
 use Rattle.server_table.specs.Parts.{Entry, Part, row_of, part_rows, rows_from, table_of, alone_of, job_of_entry, performed_part}
 use Rattle.server_table.specs.Answers.{as_answer}
@@ -20,7 +20,7 @@ use Rattle.server_table.proofs.Perform.{out_at, step_perform}
 use Rattle.server_table.proofs.Rows.{found, filter_part}
 use Rattle.server_core.specs.Kept.{IsServer}
 use Rattle.server_core.specs.Members.{Standing, Seat, seats_without, own as own_of, Performs}
-use Rattle.server_core.specs.Served.{Served, parts, served_of, IsServed, Stepped}
+use Rattle.server_core.specs.Served.{parts, served_of, IsServed, Stepped}
 use Rattle.server_core.proofs.Done.{was_out}
 use Rattle.server_core.proofs.Changed.{kept_done, some_served}
 use Rattle.server_core.proofs.Served.{part_there, within_parts, parts_set, same_setup, members_set, member_at, beyond, grows}
@@ -56,10 +56,6 @@ some_of : {X : Type 0} (o : Option X) → is_some o ≡ true → (x : X) × (o �
 some_of None is = absurd (cc)
 some_of (Some x) is = (x, refl)
 
-none_of : {X : Type 0} (o : Option X) → is_some o ≡ false → o ≡ None
-none_of None is = refl
-none_of (Some x) is = absurd (cc)
-
 mapped_is_some : {X Y : Type 0} (f : X → Y) (o : Option X) → is_some (option_map f o) ≡ is_some o
 mapped_is_some f None = refl
 mapped_is_some f (Some x) = refl
@@ -78,10 +74,6 @@ no_rows e n k (p ∷ ps) le =
 
 pub none_beyond : (ms : List Standing) (now inflight e n : ℕ) → length ms ≤ e → find (is_out_row e n) (served_of ms now inflight).table.rows ≡ None
 none_beyond ms now inflight e n le = found (is_out_row e n) (rows_from 0 (parts ms)) ∙ ap (λ (l : List Row). slice_get l 0) (no_rows e n 0 (parts ms) (let b = beyond ms e le in omega arith))
-
--- a number that isn't out
-pub stepped_missing : (A : Type 0) (v : Served) (e n : ℕ) → false ≡ is_some (find (is_out_row e n) v.table.rows) → Stepped {A = A} v (Perform e n) v NotOut
-stepped_missing A v e n is = record { stepped = rw (none_of (find (is_out_row e n) v.table.rows) (sym is)) refl; setup = refl }
 
 module _ (A : Type 0) where
   out_entry : (m m' : Standing) (n : ℕ) (memory : Bool) → Performs A m m' n memory → (x : Entry) × (find (λ (entry : Entry). entry.number == n) m.part.out ≡ Some x)

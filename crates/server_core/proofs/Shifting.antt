@@ -1,5 +1,5 @@
 -- The P tags of one export fall: what it is with its tags.
-use Rattle.std.proofs.Common.{◌≡◌, ℕ, ◌≤◌, Bool, false, cond, List, [], ◌∷◌, map, length, refl, sym, ◌∙◌, ap, subst, arith}
+use Rattle.std.proofs.Common.{◌≡◌, ℕ, Bool, false, cond, List, [], ◌∷◌, map, length, refl, sym, ◌∙◌, ap, subst}
 use Rattle.std.specs.Prelude.{◌==◌, ℤ}
 use Rattle.std.proofs.lemmas.List.{length-map}
 use Rattle.nbd_base.specs.Range.{IsOptionInRange}
@@ -28,23 +28,6 @@ shifts m d waiting share room h some a b =
     ∙ ap (λ (x : Share). standing_of (record m { share = x; waiting = map (shifted d) m.waiting; waiting_room = room })) b
     ∙ ap (λ (l : List Entry). record (standing_of m) { part = record (part_of m) { waiting = l; last_p = lowered d m.share.last_p } }) (entries_shifted d m.whole.state.waiting m.waiting)
     ∙ ap (λ (c : Bool). record (standing_of m) { part = record (part_of m) { waiting = map (entry_shifted d) (part_of m).waiting; last_p = cond c m.share.last_p (lowered d m.share.last_p) } }) (sym (some_waits m h some))
-
-pub shifts_kept : (m : Kept) (d : ℤ) (waiting : List Tags) (share : Share) (room : ℕ) → IsMember m → m.waiting_room ≤ room → waiting ≡ map (shifted d) m.waiting → share ≡ share_shifted d m.share → IsMember (record { whole = m.whole; share = share; interval = m.interval; waiting = waiting; waiting_room = room; out = m.out; out_room = m.out_room })
-shifts_kept m d waiting share room h more a b =
-    let n : length waiting ≡ length m.waiting = ap length a ∙ length-map m.waiting (shifted d) in
-    let tagged = h.tagged in
-    let wide = h.waiting_room in
-    record {
-      tagged = n ∙ h.tagged;
-      sent = h.sent;
-      seated = h.seated;
-      r_interval = ap (λ (x : Share). x.r_interval) b ∙ h.r_interval;
-      interval = h.interval;
-      p_interval = ap (λ (x : Share). x.p_interval) b ∙ h.p_interval;
-      few = h.few;
-      waiting_room = omega arith;
-      out_room = h.out_room;
-    }
 
 pub shift_in_range : (m : Kept) (d : ℤ) → IsMember m → TagsInRange (part_shifted d (part_of m)) → AllTagsInRange (map (shifted d) m.waiting)
 shift_in_range m d h range =

@@ -4,8 +4,9 @@ use eligibility::{Eligibility, Heaped, Listed};
 use export_store::Flat;
 use lone_export::Arrived;
 use nbd_commands::{Config, ExportList, ExportSettings};
-use nbd_wire::protocol::{READ, WRITE};
+use nbd_wire::protocol::{FLUSH, READ, WRITE};
 use nbd_wire::{Request, RequestHead};
+use refusing::Refusing;
 use reply_box::Taken;
 use server_table::{Answer, Event};
 use std::alloc::Global;
@@ -380,5 +381,71 @@ fn gone_is_still_served(rt: HostRuntime) -> Result<(), Fail> {
         _ => false,
     };
     assert!(rt; is_not_open);
+    Ok(())
+}
+
+type Memory<'a> = &'a Refusing<Global>;
+
+fn config_in<'a>(memory: Memory<'a>) -> Option<Config<Memory<'a>>> {
+    let mut list = ExportList::new(memory);
+    list.add(&rates(0, 0, 1)).ok()?;
+    Config::new(list, 4).ok()
+}
+
+fn flush_in<'a>() -> Request<Memory<'a>> {
+    let head = RequestHead {
+        flags: 0,
+        kind: FLUSH,
+        cookie: 7,
+        offset: 0,
+        length: 0,
+    };
+    Request::new(head, Bytes::new())
+}
+
+// Whether a server is made, while memory is refused as armed.
+fn is_made<'a, E: Eligibility<Alloc = Memory<'a>>>(
+    memory: Memory<'a>,
+    config: &Config<Memory<'a>>,
+) -> bool {
+    let made: Result<Server<Flat<Memory<'a>>, E>, _> = Server::new(memory, config);
+    made.is_ok()
+}
+
+// Each growth of `new` is refused in turn.
+#[test]
+fn new_wants_memory(rt: HostRuntime) -> Result<(), Fail> {
+    let mut refused = 0u64;
+    for nth in 1..100u64 {
+        let memory = Refusing::new(rt.alloc(), 0);
+        let config = config_in(&memory).ok_or("configured")?;
+        memory.arm(nth);
+        if is_made::<Heaped<Memory>>(&memory, &config) {
+            break;
+        }
+        refused = nth;
+        assert!(rt; is_made::<Heaped<Memory>>(&memory, &config));
+    }
+    assert!(rt; refused > 0);
+    Ok(())
+}
+
+// An attach that finds no memory opens no session; what follows takes none.
+#[test]
+fn sessions_want_memory(rt: HostRuntime) -> Result<(), Fail> {
+    let memory = Refusing::new(rt.alloc(), 0);
+    let config = config_in(&memory).ok_or("configured")?;
+    let mut server: Server<Flat<Memory>, Listed<Memory>> = Server::new(&memory, &config)?;
+    memory.arm(1);
+    assert!(rt; server.attach(0) == Err(NotAttached::NoMemory));
+    let session = server.attach(0).ok().ok_or("a session")?;
+    assert_eq!(rt; session.number, 0);
+    memory.arm(1);
+    assert!(rt; server.arrive(session, at(0), flush_in()).is_ok());
+    let chosen = server.dispatch(at(0)).ok_or("chosen")?;
+    assert!(rt; server.perform(chosen.ticket) == Some(true));
+    assert!(rt; server.take_reply(session).is_ok());
+    assert!(rt; server.leave(session).is_ok() && server.gone(session).is_ok());
+    assert!(rt; memory.is_armed());
     Ok(())
 }
