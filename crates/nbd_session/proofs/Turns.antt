@@ -1,6 +1,6 @@
 -- The steps for one request of the only session, where no other request is there.
 use Rattle.std.proofs.Common.{◌≡◌, ℕ, ◌+◌, ◌<◌, ◌≤◌, ◌^◌, ◌⊎◌, Bool, true, false, ◌==◌, nat_le, if◌then◌else◌, List, [], ◌∷◌, ◌++◌, Option, Some, refl, sym, ap, subst, ◌∙◌, inl, inr, arith}
-use Rattle.std.specs.Prelude.{ℤ}
+use Rattle.std.specs.Prelude.{ℤ, ◌↔◌}
 use Rattle.std.proofs.lemmas.Bool.{cases_Bool, cases_lt, eq-eqb, eqb-true, ne_eqb, le-leb, lt-leb}
 use Rattle.std.proofs.lemmas.List.{append-nil}
 use Rattle.std.specs.List.{flat_map}
@@ -14,8 +14,9 @@ use Rattle.lone_export.specs.Alone.{Alone, Job, Moved, own_step, alone, answers_
 use Rattle.lone_export.specs.declared.step.Step.TheVariants.{Attach, Arrive, Pick, Perform, Take}
 use Rattle.lone_export.specs.declared.step.StepAnswer.{StepAnswer}
 use Rattle.lone_export.specs.declared.step.StepAnswer.TheVariants as said
-use Rattle.nbd_session.specs.Requests.{opened, arriving, after, after_all, reply_to, replies, steps_behind, sent, FindsWorn, AreAnswered}
-use Rattle.nbd_session.specs.Plainly.{reply_of, image_behind, image_behind_all, steps_for, steps_for_all, plain_replies, zeros, behind, IsAtRest, ArePlain}
+use Rattle.nbd_session.specs.declared.talking.End.{End}
+use Rattle.nbd_session.specs.Requests.{opened, arriving, after, after_all, reply_to, replies, steps_behind, sent, FindsWorn, AreAnswered, Serves}
+use Rattle.nbd_session.specs.Plainly.{reply_of, image_behind, image_behind_all, steps_for, steps_for_all, plain_replies, zeros, behind, IsAtRest, ArePlain, AreAnsweredInTime, ServesPlainly}
 
 -- ---- the states on the way
 
@@ -274,3 +275,59 @@ plain terms ms depth window answered =
         λ h. finds_worn terms (after_all terms (opened terms) ms) m r.rests (omega (arith, h, count)),
       );
     }
+
+-- ---- the whole
+
+module _ (terms : Terms) (depth : 0 < terms.depth) (window : 0 < terms.window) where
+  counted_after : (state : Alone) (m : RequestMessage) → IsAtRest state → state.count < 2 ^ 56 → IsAtRest (after terms state m) × ((after terms state m).count ≡ state.count + steps_for terms m)
+  counted_after state m rests few =
+      let t = turn terms state m depth window rests few in
+      (subst IsAtRest (sym t.state) (rests_behind terms state m rests), ap (λ (s : Alone). s.count) t.state ∙ count_is terms state m)
+
+  in_time : (ms : List RequestMessage) (state : Alone) → IsAtRest state → AreAnswered terms state ms → AreAnsweredInTime terms state.count ms
+  in_time [] state rests a = tt
+  in_time (m ∷ ms) state rests a =
+      let few = few_of terms depth window state m rests a.1 in
+      let on = counted_after state m rests few in
+      (a.0, few, subst (λ (n : ℕ). AreAnsweredInTime terms n ms) on.1 (in_time ms (after terms state m) on.0 a.2))
+
+  none_worn : (ms : List RequestMessage) (state : Alone) → IsAtRest state → AreAnsweredInTime terms state.count ms → AreAnswered terms state ms
+  none_worn [] state rests a = tt
+  none_worn (m ∷ ms) state rests a =
+      let on = counted_after state m rests a.1 in
+      (a.0, finds_fresh terms state m depth window rests a.1, none_worn ms (after terms state m) on.0 (subst (λ (n : ℕ). AreAnsweredInTime terms n ms) (sym on.1) a.2))
+
+  module _ (bytes text : List ℕ) (end : End) where
+    served_plainly : Serves terms (opened terms) bytes text end → ServesPlainly terms bytes text end
+    served_plainly h =
+        let r = plain terms h.requests depth window h.answered in
+        record {
+          requests = h.requests;
+          rest = h.rest;
+          spelled = h.spelled;
+          said = h.said ∙ r.said;
+          answered = subst (λ (n : ℕ). AreAnsweredInTime terms n h.requests) (opened_count terms) (in_time h.requests (opened terms) (opened_rests terms) h.answered);
+          ends = elim h.ends [
+            | inl stop ↦ inl stop
+            | inr (is, w) ↦ inr (is, record { message = w.message; more = w.more; spelled = w.spelled; answered = w.answered; late = (r.worn w.message).0 w.worn })
+          ];
+        }
+
+    served_by_steps : ServesPlainly terms bytes text end → Serves terms (opened terms) bytes text end
+    served_by_steps h =
+        let answered = none_worn h.requests (opened terms) (opened_rests terms) (subst (λ (n : ℕ). AreAnsweredInTime terms n h.requests) (sym (opened_count terms)) h.answered) in
+        let r = plain terms h.requests depth window answered in
+        record {
+          requests = h.requests;
+          rest = h.rest;
+          spelled = h.spelled;
+          said = h.said ∙ sym r.said;
+          answered = answered;
+          ends = elim h.ends [
+            | inl stop ↦ inl stop
+            | inr (is, w) ↦ inr (is, record { message = w.message; more = w.more; spelled = w.spelled; answered = w.answered; worn = (r.worn w.message).1 w.late })
+          ];
+        }
+
+pub plain_service : (terms : Terms) (bytes text : List ℕ) (end : End) → 0 < terms.depth → 0 < terms.window → Serves terms (opened terms) bytes text end ↔ ServesPlainly terms bytes text end
+plain_service terms bytes text end depth window = (served_plainly terms depth window bytes text end, served_by_steps terms depth window bytes text end)

@@ -1,13 +1,16 @@
 -- What the steps for requests come to, by the bytes of the export alone.
-use Rattle.std.specs.Prelude.{◌≡◌, ℕ, ◌+◌, ◌<◌, ◌≤◌, ◌^◌, ◌==◌, ◌↔◌, if◌then◌else◌, List, [], ◌∷◌, ◌++◌, replicate, Some}
-use Rattle.nbd_wire.specs.Grammar.{reply_text, RequestMessage, ReplyMessage}
+use Rattle.std.specs.Prelude.{◌≡◌, ℕ, ◌+◌, ◌<◌, ◌≤◌, ◌^◌, ◌⊎◌, ◌==◌, ◌↔◌, if◌then◌else◌, List, [], ◌∷◌, ◌++◌, replicate, Some}
+use Rattle.std.specs.List.{flat_map}
+use Rattle.nbd_wire.specs.Grammar.{request_text, reply_text, RequestMessage, ReplyMessage}
 use Rattle.nbd_commands.specs.Terms.{Terms}
 use Rattle.nbd_commands.specs.Verdict.{verdict_of}
 use Rattle.nbd_commands.specs.Meaning.{image_after, data_of}
 use Rattle.reply_box.specs.Sessions.{new_session}
 use Rattle.lone_export.specs.Alone.{Alone, limit_tag}
 use Rattle.lone_export.specs.Lone.{Whole}
-use Rattle.nbd_session.specs.Requests.{opened, after_all, replies, FindsWorn, AreAnswered}
+use Rattle.nbd_session.specs.declared.talking.End.{End}
+use Rattle.nbd_session.specs.declared.talking.End.TheVariants as ends
+use Rattle.nbd_session.specs.Requests.{opened, after_all, replies, FindsWorn, IsAnswered, AreAnswered, StopsBy, Serves}
 
 -- ---- one request
 
@@ -51,6 +54,34 @@ pub record ArePlain (terms : Terms) (ms : List RequestMessage) : Type 0 where
 -- Requests that are each answered, at an export where one may wait and one be outstanding.
 abbrev pub RequestsArePlain : Type 0
 RequestsArePlain = (terms : Terms) (ms : List RequestMessage) → 0 < terms.depth → 0 < terms.window → AreAnswered terms (opened terms) ms → ArePlain terms ms
+
+-- ---- the whole
+
+-- each is answered, and fewer than 2^56 steps were counted before it, this many before the first
+abbrev pub AreAnsweredInTime : Terms → ℕ → List RequestMessage → Type 0
+AreAnsweredInTime terms steps [] = Unit {0}
+AreAnsweredInTime terms steps (m ∷ ms) = IsAnswered m × (steps < 2 ^ 56) × AreAnsweredInTime terms (steps + steps_for terms m) ms
+
+-- a request stands there behind 2^56 steps or more
+pub record ComesLate (steps : ℕ) (bytes : List ℕ) : Type 0 where
+  pub message : RequestMessage
+  pub more : List ℕ
+  pub spelled : bytes ≡ request_text message ++ more
+  pub answered : IsAnswered message
+  pub late : 2 ^ 56 ≤ steps
+
+-- To these bytes the server says this text, and so it ends, by the export's bytes and the count alone.
+pub record ServesPlainly (terms : Terms) (bytes text : List ℕ) (end : End) : Type 0 where
+  pub requests : List RequestMessage
+  pub rest : List ℕ
+  pub spelled : bytes ≡ flat_map request_text requests ++ rest
+  pub said : text ≡ plain_replies terms (zeros terms) requests
+  pub answered : AreAnsweredInTime terms 1 requests
+  pub ends : StopsBy rest end ⊎ ((end ≡ ends.Worn) × ComesLate (1 + steps_for_all terms requests) rest)
+
+-- Texts and ends are the same as by the steps of the export.
+abbrev pub ServiceIsPlain : Type 0
+ServiceIsPlain = (terms : Terms) (bytes text : List ℕ) (end : End) → 0 < terms.depth → 0 < terms.window → Serves terms (opened terms) bytes text end ↔ ServesPlainly terms bytes text end
 
 -- ---- inside
 

@@ -5,7 +5,7 @@ ghost use Rattle.nbd_session.specs.Haggled.{HandshakeIsHaggled};
 ghost use Rattle.nbd_commands.specs.Exports.{Export};
 ghost use Rattle.nbd_session.specs.declared.talking.End.{End};
 ghost use Rattle.nbd_session.specs.Conversation.{Talked, OneConversation, SomeConversation, BeginsAlike};
-ghost use Rattle.nbd_session.specs.Plainly.{RequestsArePlain};
+ghost use Rattle.nbd_session.specs.Plainly.{RequestsArePlain, ServiceIsPlain};
 ghost use Rattle.nbd_session.specs.Worked.{one_export, written_bytes, written_text, chosen_bytes, chosen_text, zeros_bytes, zeros_text, unknown_flag_bytes, unknown_flag_text, silent_bytes, silent_text, unnamed_bytes, unnamed_text, past_end_bytes, past_end_text, cut_head_bytes, cut_head_text, cut_payload_bytes, cut_payload_text, other_magic_bytes, other_magic_text, too_long_bytes, too_long_text};
 
 use crate::talking::End;
@@ -20,9 +20,10 @@ pub fn one_conversation()
 {}
 
 /// What requests are told, which come one after another, follows from the export's bytes alone: zeros, and their own
-/// changes. And an export is worn once it has counted 2^56 steps.
+/// changes. And an export is worn once it has counted 2^56 steps. So texts and ends are told by these alone.
 pub fn requests_are_plain()
-    ensures { RequestsArePlain }
+    ensures requests { RequestsArePlain }
+    ensures service { ServiceIsPlain }
 {}
 
 /// The text of a handshake is the greeting and what haggling says to the client's flags, to its options with the answers of
