@@ -6,13 +6,13 @@ ghost use Rattle.hex.specs.Hex.{decode_of};
 ghost use Rattle.nbdq.specs.Output.{is_gap, digits_of, printed, word_of, Prints};
 
 use crate::outcome::Outcome;
-use crate::script::{Head, LineFault, read_head};
+use crate::refused::{read_script, refuse_line};
+use crate::script::{Head, read_head};
 use hex::FromHexError;
 use nbd_base::NoMemory;
 use nbd_commands::Config;
 use nbd_session::{Counted, End, TalkFault, talk};
 use std::alloc::Allocator;
-use std::io;
 use std::io::{Read, Write};
 
 /// Reads a script, holds its conversation, and writes what the server says.
@@ -23,24 +23,13 @@ pub fn talk_script<A: Allocator + Copy, R: Read, W: Write>(
     input: &mut R,
     output: &mut W,
 ) -> Outcome {
-    let mut script = Vec::new(alloc);
-    if let Err(error) = input.read_to_end(&mut script) {
-        return if error.kind() == io::ErrorKind::OutOfMemory {
-            Outcome::NoMemory
-        } else {
-            Outcome::ReadFailed
-        };
-    }
+    let script = match read_script(alloc, input) {
+        Ok(script) => script,
+        Err(outcome) => return outcome,
+    };
     match read_head(alloc, &script) {
-        Head::Read(config, body) => converse(alloc, &config, body, output),
-        Head::Refused(_, LineFault::NoMemory) => Outcome::NoMemory,
-        Head::Refused(line, LineFault::Form) => {
-            Outcome::of_write(writeln!(output, "line {line} refused"), Outcome::Refused)
-        }
-        Head::Refused(line, LineFault::Value(refusal)) => {
-            let code = refusal.code();
-            Outcome::of_write(writeln!(output, "line {line} C{code}"), Outcome::Refused)
-        }
+        Head::Read(config, body) => converse(alloc, &config, body.text, output),
+        Head::Refused(line, fault) => refuse_line(output, line, fault),
     }
 }
 

@@ -1,23 +1,30 @@
 //! nbdq: a Network Block Device server. See README.md.
 #![tactic(auto)]
 
+mod answers;
 mod command_line;
 mod conversation;
 #[cfg(test)]
 mod faults;
 #[cfg(test)]
 mod handshakes;
+mod lines;
 mod outcome;
 #[cfg(test)]
 mod pieces;
+mod refused;
+mod replaying;
+#[cfg(test)]
+mod replays;
 mod script;
 #[cfg(test)]
 mod tests;
 
 use clap::error::ErrorKind;
-use command_line::read_command_line;
+use command_line::{Task, read_command_line};
 use conversation::talk_script;
 use outcome::Outcome;
+use replaying::replay_script;
 use std::io;
 use std::io::{BufReader, BufWriter, Write};
 use std::process::ExitCode;
@@ -25,7 +32,7 @@ use std::process::ExitCode;
 /// The status of a command line that is refused or asks for help.
 const USAGE: u8 = 2;
 
-fn run_talk(rt: &(impl Input + Print + AllocGlobal)) -> Outcome {
+fn run(task: Task, rt: &(impl Input + Print + AllocGlobal)) -> Outcome {
     let alloc = rt.alloc();
     let Ok(mut input) = BufReader::new(alloc, rt.reader()) else {
         return Outcome::NoMemory;
@@ -33,7 +40,10 @@ fn run_talk(rt: &(impl Input + Print + AllocGlobal)) -> Outcome {
     let Ok(mut output) = BufWriter::new(alloc, io::writer(rt)) else {
         return Outcome::NoMemory;
     };
-    let outcome = talk_script(alloc, &mut input, &mut output);
+    let outcome = match task {
+        Task::Talk => talk_script(alloc, &mut input, &mut output),
+        Task::Replay => replay_script(alloc, &mut input, &mut output),
+    };
     match output.flush() {
         Ok(()) => outcome,
         Err(_) => Outcome::WriteFailed,
@@ -43,7 +53,7 @@ fn run_talk(rt: &(impl Input + Print + AllocGlobal)) -> Outcome {
 // A standard error that fails changes no status.
 fn main(rt: HostRuntime) -> ExitCode {
     let outcome = match read_command_line(&rt) {
-        Ok(()) => run_talk(&rt),
+        Ok(task) => run(task, &rt),
         Err(error) if error.kind() == ErrorKind::OutOfMemory => Outcome::NoMemory,
         Err(error) => {
             let _ = rt.eprint(&error);

@@ -52,10 +52,18 @@ impl From<ConfigError> for LineFault {
     }
 }
 
+/// The part of a script behind its head.
+#[derive(Clone, Copy, Debug, PartialEq, Eq)]
+pub struct Body<'a> {
+    pub text: &'a [u8],
+    /// How many lines of the script are above it.
+    pub above: usize,
+}
+
 /// What reading the head of a script gives.
 pub enum Head<'a, A: Allocator + Copy> {
-    /// What is configured, and the bytes behind the head.
-    Read(Config<A>, &'a [u8]),
+    /// What is configured, and what stands behind the head.
+    Read(Config<A>, Body<'a>),
     /// The first refused line, counted from 1.
     Refused(usize, LineFault),
 }
@@ -71,7 +79,13 @@ pub fn read_head<A: Allocator + Copy>(alloc: A, script: &[u8]) -> Head<'_, A> {
         count = count.saturating_add(1);
         if line == b"---".as_slice() {
             return match draft.config() {
-                Ok(config) => Head::Read(config, rest),
+                Ok(config) => {
+                    let body = Body {
+                        text: rest,
+                        above: count,
+                    };
+                    Head::Read(config, body)
+                }
                 Err(refusal) => Head::Refused(count, LineFault::Value(refusal)),
             };
         }
@@ -83,7 +97,7 @@ pub fn read_head<A: Allocator + Copy>(alloc: A, script: &[u8]) -> Head<'_, A> {
 }
 
 /// The line at the front, and the bytes behind it.
-fn first_line(bytes: &[u8]) -> (&[u8], &[u8])
+pub fn first_line(bytes: &[u8]) -> (&[u8], &[u8])
     requires { 0 < length bytes.now }
     ensures { length result.1.now < length bytes.now }
 {
@@ -226,7 +240,7 @@ fn once<T: Copy>(place: &mut Option<T>, value: T) -> Result<(), LineFault>
 }
 
 /// A number in decimal digits that fits 64 bits.
-fn number(digits: &[u8]) -> Result<u64, LineFault>
+pub fn number(digits: &[u8]) -> Result<u64, LineFault>
     ensures read { IfOk result (λ n. written_number digits.now ≡ Some n) }
     ensures refused { OnErr result (IfSome (written_number digits.now) (λ n. 2 ^ 64 ≤ n)) }
 {
@@ -256,7 +270,7 @@ fn with_digit(value: u64, digit: u8) -> Option<u64>
 }
 
 /// The fields of a line, which one or more spaces part.
-fn fields_of<A: Allocator>(alloc: A, line: &[u8]) -> Result<Vec<&[u8], A>, AllocError> {
+pub fn fields_of<A: Allocator>(alloc: A, line: &[u8]) -> Result<Vec<&[u8], A>, AllocError> {
     let mut fields = Vec::new(alloc);
     for field in line.split(|byte| *byte == b' ') {
         if !field.is_empty() {

@@ -1,7 +1,7 @@
 //! Whole scripts, and the whole output of each. The expected texts were worked out from the protocol's formats, apart from
 //! this program.
 
-use crate::command_line::asks_talk;
+use crate::command_line::{Task, asked_task};
 use crate::conversation::talk_script;
 use crate::outcome::Outcome;
 use clap::error::ErrorKind;
@@ -460,7 +460,11 @@ fn what_a_write_comes_to(rt: HostRuntime) {
 #[test]
 fn command_lines(rt: HostRuntime) {
     let alloc = rt.alloc();
-    assert!(rt; asks_talk(alloc, &["nbdq", "talk"]).is_ok());
+    assert_eq!(rt; asked_task(alloc, &["nbdq", "talk"]).ok(), Some(Task::Talk));
+    assert_eq!(rt;
+        asked_task(alloc, &["nbdq", "replay"]).ok(),
+        Some(Task::Replay)
+    );
     for (words, kind) in [
         (["nbdq"].as_slice(), ErrorKind::MissingSubcommand),
         (&["nbdq", "--help"], ErrorKind::DisplayHelp),
@@ -471,7 +475,7 @@ fn command_lines(rt: HostRuntime) {
         (&["nbdq", "--quiet"], ErrorKind::UnknownArgument),
     ] {
         assert_eq!(rt;
-            asks_talk(alloc, words).err().map(|error| error.kind()),
+            asked_task(alloc, words).err().map(|error| error.kind()),
             Some(kind)
         );
     }

@@ -16,3 +16,4 @@ pub mod Shifting
 pub mod Ways
 pub mod Accepting
 pub mod Goings
+pub mod Counting

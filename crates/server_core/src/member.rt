@@ -118,6 +118,13 @@ impl<I: Image> Member<I> {
         self.lone.slot_of(number)
     }
 
+    /// How many steps were counted.
+    pub(crate) fn steps(&self) -> u64
+        ensures { result ≡ self.now.part.count }
+    {
+        self.lone.steps()
+    }
+
     /// How many requests wait.
     pub(crate) fn waiting(&self) -> usize
         ensures { result ≡ length self.now.part.waiting }

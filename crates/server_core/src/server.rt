@@ -84,6 +84,18 @@ fn waiting_of<I: Image>(members: &[Member<I>]) -> usize
     total
 }
 
+/// How many steps were counted, of all these exports.
+fn steps_of<I: Image>(members: &[Member<I>]) -> u128
+    requires { length members.now ≤ 64 }
+    ensures { result ≡ sum_by (λ member. member.part.count) members.now }
+{
+    let mut total = 0;
+    for member in members {
+        total += u128::from(member.steps());
+    }
+    total
+}
+
 /// A refusal of an export alone, as one of the server.
 fn here<T>(said: Result<T, NotOpen>) -> Result<T, SessionRefusal>
     ensures { result ≡ told_here said }
@@ -156,6 +168,13 @@ impl<I: Image, E: Eligibility<Alloc = I::Alloc>> Server<I, E> {
         ensures { result ≡ length (filter (λ row. not row.out) self.now.table.rows) }
     {
         waiting_of(&self.members)
+    }
+
+    /// How many steps changed something, of all exports together. It takes no memory.
+    pub fn steps(&self) -> u128
+        ensures { result ≡ sum_by (λ side. side.count) self.now.table.sides }
+    {
+        steps_of(&self.members)
     }
 
     /// Nothing more arrives on a session that is open. It takes no memory.

@@ -227,7 +227,7 @@ fn one_at_a_time<E: Eligibility<Alloc = Global>>(alloc: Global) -> Option<[bool;
         performed,
         again,
         gone,
-        chosen(&mut server, 0) == Some((1, 0, Phase::Weight)),
+        chosen(&mut server, 0) == Some((1, 0, Phase::Weight)) && server.steps() == 7,
     ])
 }
 
