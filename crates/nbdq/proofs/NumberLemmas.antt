@@ -58,8 +58,3 @@ number_too_great digits i value most within great =
         → IfSome (if is then number_behind next (drop (i + 1) digits) else None) (λ n. most ≤ n)
     chosen true h = h refl
     chosen false h = tt
-
--- what is refused for a greater bound is refused for a lower one
-pub still_too_great : (o : Option ℕ) (most less : ℕ) → less ≤ most → IfSome o (λ n. most ≤ n) → IfSome o (λ n. less ≤ n)
-still_too_great None most less le h = tt
-still_too_great (Some n) most less le h = omega (arith, le, h)
