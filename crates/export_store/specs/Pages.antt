@@ -1,0 +1,48 @@
+-- An image in pages, of which some are held in memory.
+use Rattle.std.specs.Prelude.{◌≡◌, ℕ, zero, suc, ◌+◌, ◌*◌, ◌/◌, ◌<◌, Bool, true, ◌&&◌, nat_lt, nat_le, min, is_some, unwrap_or, Option, List, [], ◌++◌, length, take, replicate}
+use Rattle.std.specs.Ordering.{nat_cmp}
+use Rattle.std.specs.BTreeMap.{is_at}
+use Rattle.std.specs.Map.{lookup}
+
+-- how many bytes an image has, and the pages that are held: each with its number, from 0, in that order
+pub record Pages : Type 0 where
+  pub size : ℕ
+  pub held : List (ℕ × List ℕ)
+
+-- a page of zeros
+unfoldable pub zero_page : List ℕ
+zero_page = replicate 4096 0
+
+-- the page that is held under a number
+abbrev pub held_page : Pages → ℕ → Option (List ℕ)
+held_page pages number = lookup (is_at (nat_cmp number)) pages.held
+
+-- whether a page is held
+abbrev pub is_held : Pages → ℕ → Bool
+is_held pages number = is_some (held_page pages number)
+
+-- the bytes of a page, whether it is held or not
+abbrev pub page_of : Pages → ℕ → List ℕ
+page_of pages number = unwrap_or (held_page pages number) zero_page
+
+-- the first pages in a row
+abbrev pub in_a_row : (ℕ → List ℕ) → ℕ → List ℕ
+in_a_row page zero = []
+in_a_row page (suc count) = in_a_row page count ++ page count
+
+-- the bytes of the image
+unfoldable pub image_of : Pages → List ℕ
+image_of pages = take pages.size (in_a_row (page_of pages) (pages.size / 4096 + 1))
+
+-- each page that is held has all its bytes, and begins within the image
+pub record IsPaged (pages : Pages) : Type 0 where
+  pub whole : (number : ℕ) → length (page_of pages number) ≡ 4096
+  pub within : (number : ℕ) → is_held pages number ≡ true → 4096 * number < pages.size
+
+-- whether a page has a byte of a range
+abbrev pub has_byte_of : ℕ → ℕ → ℕ → Bool
+has_byte_of offset count number = nat_lt 0 count && nat_lt offset (4096 * number + 4096) && nat_lt (4096 * number) (offset + count)
+
+-- whether a page, which ends where the next begins or with the image, lies whole in a range
+abbrev pub lies_whole_in : ℕ → ℕ → ℕ → ℕ → Bool
+lies_whole_in size offset count number = nat_le offset (4096 * number) && nat_le (min (4096 * number + 4096) size) (offset + count)
