@@ -3,6 +3,8 @@ use Rattle.std.proofs.Common.{◌≡◌, ◌≢◌, ◌⊎◌, ◌↔◌, ℕ, z
 use Rattle.std.proofs.lemmas.Bool.{cases_eq, cases_lt, eq-eqb, eqb-true, ne_eqb}
 use Rattle.std.specs.Ordering.{nat_cmp, eq_by_cmp}
 use Rattle.std.specs.Cmp.{nat_cmp_total, unsigned_tied}
+use Rattle.std.specs.Prelude.{option_map}
+use Rattle.std.proofs.lemmas.Option.{slice_get_past}
 use Rattle.std.specs.FinMap as fin
 use Rattle.nbd_base.proofs.Numbers.{tied_same, tied_other}
 use Rattle.slab.specs.Slab.{Slab, get, slab_len, entries, entries_from, Updates}
@@ -307,6 +309,18 @@ module _ {T : Type 0} where
   -- the item at a place, from the ring
   pub waiting_item : (b : Buffer T) (s : Slab (Numbered T)) (p i place : ℕ) → slice_get b.items place ≡ item_of (slice_get (view_of b s p i).waiting place)
   waiting_item b s p i place = at-numbered p b.items place
+
+  number-numbered : (n : ℕ) (xs : List T) (i : ℕ) → i < length xs → option_map (λ (row : ℕ × T). row.0) (slice_get (numbered n xs) i) ≡ Some (n + i)
+  number-numbered n [] i lt = absurd (omega arith)
+  number-numbered n (x ∷ xs) zero lt = ap Some (omega arith)
+  number-numbered n (x ∷ xs) (suc i) lt = number-numbered (n + 1) xs i (omega arith) ∙ ap Some (omega arith)
+
+  -- the number at a place, from that of the first
+  pub waiting_number : (b : Buffer T) (s : Slab (Numbered T)) (p i place : ℕ) → place < length b.items → option_map (λ (row : ℕ × T). row.0) (slice_get (view_of b s p i).waiting place) ≡ Some (p + place)
+  waiting_number b s p i place lt = number-numbered p b.items place lt
+
+  pub no_number : (b : Buffer T) (s : Slab (Numbered T)) (p i place : ℕ) → length b.items ≤ place → option_map (λ (row : ℕ × T). row.0) (slice_get (view_of b s p i).waiting place) ≡ None
+  no_number b s p i place le = ap (option_map (λ (row : ℕ × T). row.0)) (slice_get_past (numbered p b.items) place (subst (λ n. n ≤ place) (sym (length-numbered p b.items)) le))
 
   numbered-in-order : (n : ℕ) (xs : List T) → IsNumberedFrom n (n + length xs) (numbered n xs)
   numbered-in-order n [] = omega arith

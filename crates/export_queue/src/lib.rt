@@ -7,7 +7,7 @@
 //! After [`ExportQueue::new`] nothing takes memory: the ring and the slab have all their room from then on.
 #![tactic(auto)]
 
-ghost use Rattle.std.specs.Prelude.{◌≡◌, ◌+◌, ◌-◌, ◌<◌, ◌^◌, ◌↔◌, length, Some, IsOk, IsTrue, IfOk, IfErr, IfSome, IfNone, OnSome, option_copied, slice_get};
+ghost use Rattle.std.specs.Prelude.{◌≡◌, ◌+◌, ◌-◌, ◌<◌, ◌^◌, ◌↔◌, length, Some, IsOk, IsTrue, IfOk, IfErr, IfSome, IfNone, OnSome, option_copied, option_map, slice_get};
 ghost use Rattle.std.specs.FinMap as fin;
 ghost use Rattle.export_queue.specs.Queue.{empty_queue, after_push, after_pick, after_finish, first_number, number_of, item_of, item_held, slot_in, IsFree, IsFresh, IsInOrder};
 
@@ -112,6 +112,16 @@ impl<T: Drop, A: Allocator + Copy> ExportQueue<T, A> {
         ensures { option_copied result ≡ item_of (slice_get self.now.waiting place) }
     {
         self.ring.get(place)
+    }
+
+    /// The number of the waiting item at this place, from 0 for the first.
+    pub fn number_at(&self, place: usize) -> Option<u64>
+        ensures { result ≡ option_map (λ row. row.0) (slice_get self.now.waiting place) }
+    {
+        if place >= self.ring.len() {
+            return None;
+        }
+        Some(self.picked + place as u64)
     }
 
     /// Puts an item behind the others that wait, and gives its number. A full queue hands the item back. The condition is
@@ -264,6 +274,7 @@ mod tests {
         assert!(rt; queue.held(second.slot, 1).copied() == Some(11));
         assert_eq!(rt; queue.waiting(), 1);
         assert!(rt; queue.waiting_at(0).copied() == Some(12));
+        assert!(rt; queue.number_at(0) == Some(2) && queue.number_at(1).is_none());
         queue.laws();
         Ok(())
     }
