@@ -329,9 +329,6 @@ module _ {A : Type 0} where
   pub open_same : (p : Parts A) (s : ℕ) (w : Whole) → IsLone p → whole_of p ≡ w → is_open_at p.sessions.sessions s ≡ true → is_open_at w.state.sessions s ≡ true
   open_same p s w is e h = subst (λ (v : Whole). is_open_at v.state.sessions s ≡ true) e h
 
-  pub fresh_same : (p : Parts A) (b : Bool) (w : Whole) → IsLone p → whole_of p ≡ w → nat_le (2 ^ 56) p.count ≡ b → nat_le (2 ^ 56) w.state.count ≡ b
-  fresh_same p b w is e h = subst (λ (v : Whole). nat_le (2 ^ 56) v.state.count ≡ b) e h
-
   pub let_open : (p : Parts A) (s : ℕ) (w : Whole) → IsLone p → whole_of p ≡ w → is_open_at w.state.sessions s ≡ true → is_open_at p.sessions.sessions s ≡ true
   let_open p s w is e h = subst (λ (v : Whole). is_open_at v.state.sessions s ≡ true) (sym e) h
 

@@ -1,16 +1,14 @@
 -- What is true of an export's parts is kept when a request is done.
-use Rattle.std.proofs.Common.{◌≡◌, ◌≢◌, ◌⊎◌, ℕ, ◌+◌, ◌-◌, ◌≤◌, Bool, true, false, not, ◌==◌, ◌&&◌, ◌||◌, IsTrue, take, drop, replicate, List, [], ◌∷◌, ◌++◌, length, map, filter, find, Option, Some, None, if◌then◌else◌, refl, sym, ap, subst, ◌∙◌, inl, inr, arith, length-append}
+use Rattle.std.proofs.Common.{◌≡◌, ◌≢◌, ◌⊎◌, ℕ, ◌+◌, ◌-◌, ◌≤◌, Bool, true, false, not, ◌==◌, ◌&&◌, ◌||◌, IsTrue, replicate, List, [], ◌∷◌, ◌++◌, length, map, filter, find, Option, Some, None, if◌then◌else◌, refl, sym, ap, subst, ◌∙◌, inl, inr, arith}
 use Rattle.std.proofs.lemmas.Bool.{cases_eq, eq-eqb, ne_eqb, eqb-true}
-use Rattle.std.proofs.lemmas.List.{length-take, length-drop, length-replicate}
+use Rattle.std.proofs.lemmas.List.{length-replicate}
 use Rattle.std.specs.Bool.{OnTrue, OnFalse}
 use Rattle.std.specs.Ordering.{nat_cmp}
 use Rattle.std.specs.FinMap as fin
 use Rattle.nbd_base.specs.Words.{when_some, change_at}
-use Rattle.nbd_wire.specs.declared.requests.RequestHead.{RequestHead}
 use Rattle.nbd_wire.specs.Grammar.{RequestMessage, ReplyMessage, IsRequest}
 use Rattle.nbd_commands.specs.Terms.{Terms}
 use Rattle.nbd_commands.specs.Verdict.{verdict_of, verdict_at}
-use Rattle.export_store.specs.Bytes.{overwritten}
 use Rattle.nbd_commands.specs.Verdict.{is_write, is_trim, is_write_zeroes}
 use Rattle.nbd_commands.specs.Meaning.{image_after, data_of, may_want_memory}
 use Rattle.nbd_commands.proofs.VerdictLemmas.{served_by_any}
@@ -19,7 +17,7 @@ use Rattle.reply_box.specs.Box.{Box, after_put, IsOwed}
 use Rattle.export_queue.specs.Queue.{Queue, after_finish, item_held, item_if, slot_in}
 use Rattle.lone_export.specs.Alone.{Job, own_step, moves, stays, done, undone}
 use Rattle.lone_export.specs.Lone.{Whole, Does, slot_among, slot_at, slots_without}
-use Rattle.lone_export.specs.Parts.{Parts, jobs, jobs_of, AreAbove, AreJobs, AreOwed, job_of, out_job, slot_of, terms_at, state_at, whole_of, IsLone}
+use Rattle.lone_export.specs.Parts.{Parts, jobs, jobs_of, AreAbove, AreJobs, AreOwed, job_of, out_job, slot_of, terms_at, state_at, whole_of, IsLone, reply_to, Settles}
 use Rattle.lone_export.specs.declared.row.Row.{Row}
 use Rattle.lone_export.specs.declared.step.Step.TheVariants as step
 use Rattle.lone_export.specs.declared.step.StepAnswer.TheVariants as said
@@ -298,18 +296,29 @@ module _ {A : Type 0} where
           let no : None ≡ Some r.1 = f ∙ ap (λ b. if b then Some r.1 else None) (eq-eqb r.0 slot same) in
           cc
 
-  module _ (p : Parts A) (slot n : ℕ) (row again : Row A) (image content : List ℕ) (error : ℕ) (memory : Bool) (reply : ReplyMessage) (head : RequestHead) (q : Queue (Row A)) (b : Box) (w : Whole)
-      (is : IsLone p) (e : whole_of p ≡ w) (h : Some row ≡ item_held p.queue slot n) (k : Some again ≡ item_held p.queue slot n) (headed : head ≡ again.request.head) (request : IsRequest again.request)
-      (finishes : q ≡ after_finish p.queue n) (puts : b ≡ after_put p.sessions again.session reply)
+  -- the number is in service in its slot
+  pub held_at : (p : Parts A) (slot n : ℕ) → Some slot ≡ slot_in (fin.get p.queue.out n) → None ≡ item_held p.queue slot n → ⊥
+  held_at p slot n there none = by (fin.get p.queue.out n) there none
+    where
+      by : (o : Option (ℕ × Row A)) → Some slot ≡ slot_in o → None ≡ item_if o slot → ⊥
+      by None f g = cc
+      by (Some r) f g =
+          let same : r.0 ≡ slot = cc in
+          let no : None ≡ Some r.1 = g ∙ ap (λ b. if b then Some r.1 else None) (eq-eqb r.0 slot same) in
+          cc
+
+  module _ (p : Parts A) (slot n : ℕ) (row : Row A) (image content : List ℕ) (error : ℕ) (memory : Bool) (q : Queue (Row A)) (b : Box) (w : Whole)
+      (is : IsLone p) (e : whole_of p ≡ w) (h : Some row ≡ item_held p.queue slot n) (settles : Settles p.queue p.sessions slot n memory content q b)
       (with : OnTrue memory ((error ≡ 0) × (content ≡ data_of p.image row.request) × (image ≡ image_after p.image row.request)))
-      (without : OnFalse memory ((error ≡ 12) × (content ≡ []) × (image ≡ p.image) × IsTrue (may_want_memory row.request)))
-      (replies : OnTrue memory (reply ≡ record { error = 0; cookie = head.cookie; content = content }))
-      (tells : OnFalse memory (reply ≡ record { error = 12; cookie = head.cookie; content = [] })) where
+      (without : OnFalse memory ((error ≡ 12) × (content ≡ []) × (image ≡ p.image) × IsTrue (may_want_memory row.request))) where
+    abbrev again : Row A
+    again = settles.row
+
     same_row : row ≡ again
-    same_row = let both : Some row ≡ Some again = h ∙ sym k in cc
+    same_row = let both : Some row ≡ Some again = h ∙ settles.held in cc
 
     long_still : length image ≡ length p.image
-    long_still = length_done p slot n again image memory is (sym k) request (by memory with) (less memory without)
+    long_still = length_done p slot n again image memory is settles.held settles.request (by memory with) (less memory without)
       where
         by : (m : Bool) → OnTrue m ((error ≡ 0) × (content ≡ data_of p.image row.request) × (image ≡ image_after p.image row.request)) → OnTrue m (image ≡ image_after p.image again.request)
         by true x = x.2 ∙ ap (λ (r : Row A). image_after p.image r.request) same_row
@@ -320,20 +329,20 @@ module _ {A : Type 0} where
         less false x = x.2
 
     pub performed_lone : IsLone (record p { image = image; queue = q; sessions = b; count = p.count + 1 })
-    performed_lone = lone-perform p slot n again image reply q b is (sym k) long_still finishes puts
+    performed_lone = lone-perform p slot n again image _ q b is settles.held long_still settles.finished settles.replied
 
     pub performed_does : (slot_at w n ≡ Some slot) × Does {A = A} w (whole_of (record p { image = image; queue = q; sessions = b; count = p.count + 1 })) (step.Perform n memory) (said.Performed memory)
-    performed_does = (perform_at p slot n again w is e (sym k), perform_does p slot n again image memory reply q b w is e (sym k) finishes puts (by memory with replies) (less memory without tells))
+    performed_does = (perform_at p slot n again w is e settles.held, perform_does p slot n again image memory (reply_to memory again.request.head.cookie content) q b w is e settles.held settles.finished settles.replied (by memory with) (less memory without))
       where
-        by : (m : Bool) → OnTrue m ((error ≡ 0) × (content ≡ data_of p.image row.request) × (image ≡ image_after p.image row.request)) → OnTrue m (reply ≡ record { error = 0; cookie = head.cookie; content = content })
-            → OnTrue m ((image ≡ image_after p.image again.request) × (reply ≡ record { error = 0; cookie = again.request.head.cookie; content = data_of p.image again.request }))
-        by true x y = (
+        by : (m : Bool) → OnTrue m ((error ≡ 0) × (content ≡ data_of p.image row.request) × (image ≡ image_after p.image row.request))
+            → OnTrue m ((image ≡ image_after p.image again.request) × (reply_to m again.request.head.cookie content ≡ record { error = 0; cookie = again.request.head.cookie; content = data_of p.image again.request }))
+        by true x = (
           x.2 ∙ ap (λ (r : Row A). image_after p.image r.request) same_row,
-          y ∙ (λ i. record { error = 0; cookie = (headed i).cookie; content = (x.1 ∙ ap (λ (r : Row A). data_of p.image r.request) same_row) i }),
+          λ i. record { error = 0; cookie = again.request.head.cookie; content = (x.1 ∙ ap (λ (r : Row A). data_of p.image r.request) same_row) i },
         )
-        by false x y = x
+        by false x = x
 
-        less : (m : Bool) → OnFalse m ((error ≡ 12) × (content ≡ []) × (image ≡ p.image) × IsTrue (may_want_memory row.request)) → OnFalse m (reply ≡ record { error = 12; cookie = head.cookie; content = [] })
-            → OnFalse m ((image ≡ p.image) × (may_want_memory again.request ≡ true) × (reply ≡ record { error = 12; cookie = again.request.head.cookie; content = [] }))
-        less true x y = x
-        less false x y = (x.2, ap (λ (r : Row A). may_want_memory r.request) (sym same_row) ∙ x.3, y ∙ ap (λ (z : RequestHead). record { error = 12; cookie = z.cookie; content = [] }) headed)
+        less : (m : Bool) → OnFalse m ((error ≡ 12) × (content ≡ []) × (image ≡ p.image) × IsTrue (may_want_memory row.request))
+            → OnFalse m ((image ≡ p.image) × (may_want_memory again.request ≡ true) × (reply_to m again.request.head.cookie content ≡ record { error = 12; cookie = again.request.head.cookie; content = [] }))
+        less true x = x
+        less false x = (x.2, ap (λ (r : Row A). may_want_memory r.request) (sym same_row) ∙ x.3, refl)

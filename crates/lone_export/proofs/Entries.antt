@@ -1,8 +1,8 @@
 -- The entries of a finite map by number, in order.
-use Rattle.std.proofs.Common.{◌≡◌, ◌≢◌, ◌⊎◌, ℕ, ◌<◌, true, false, not, ◌==◌, List, [], ◌∷◌, ◌++◌, filter, Option, None, cond, refl, sym, ap, ◌∙◌, inl, inr}
+use Rattle.std.proofs.Common.{◌≡◌, ◌≢◌, ◌⊎◌, ℕ, ◌<◌, not, ◌==◌, List, [], ◌∷◌, ◌++◌, filter, Option, None, cond, refl, sym, ap, ◌∙◌, inl, inr}
 use Rattle.std.proofs.lemmas.Bool.{cases_eq, eq-eqb, ne_eqb}
 use Rattle.std.specs.Ordering.{nat_cmp, eq_by_cmp}
-use Rattle.std.specs.Cmp.{nat_cmp_total, nat_cmp_is, unsigned_tied}
+use Rattle.std.specs.Cmp.{nat_cmp_total, nat_cmp_is}
 use Rattle.std.specs.declared.cmp.Ordering.TheVariants.{Greater}
 use Rattle.std.specs.FinMap as fin
 use Rattle.std.specs.FinMap.Entries.{put, by_order, is_sorted-where_key, find-where_key}

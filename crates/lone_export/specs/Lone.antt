@@ -1,5 +1,5 @@
 -- What a contract sees of a `Lone`, and what its calls answer, as steps.
-use Rattle.std.specs.Prelude.{◌≡◌, ℕ, ◌+◌, ◌<◌, ◌≤◌, ◌^◌, ◌==◌, nat_le, ◌&&◌, Bool, true, false, not, List, [], ◌∷◌, ◌++◌, length, filter, find, if◌then◌else◌, Option, Some, None, Result, Ok, Err}
+use Rattle.std.specs.Prelude.{◌≡◌, ◌⊎◌, ℕ, ◌+◌, ◌<◌, ◌≤◌, ◌^◌, ◌==◌, nat_le, ◌&&◌, Bool, true, false, not, List, [], ◌∷◌, ◌++◌, length, filter, find, if◌then◌else◌, Option, Some, None, Result, Ok, Err}
 use Rattle.nbd_base.specs.Words.{when_some}
 use Rattle.nbd_wire.specs.Grammar.{RequestMessage}
 use Rattle.nbd_commands.specs.Terms.{Terms}
@@ -110,16 +110,21 @@ module _ {A : Type 0} where
   abbrev pub MayReplay : Whole → Step A → Type 0
   MayReplay w step = step ≡ Pick → length w.state.out < w.inflight
 
-  -- whether a step that is made again may want memory: a session's outbox, a request's copy, or what the request itself
-  -- may want where it had it
+  -- whether a step that is made again may want memory: the outbox of a session that is not refused, a request's copy, or
+  -- what the request itself may want where it had it
   abbrev pub wants_memory : Alone → Step A → Bool
-  wants_memory state Attach = true
+  wants_memory state Attach = not (nat_le (2 ^ 56) state.count) && not (length (filter is_here state.sessions) == 64)
   wants_memory state (Arrive s t q) = true
   wants_memory state Pick = false
   wants_memory state (Perform n memory) = memory && when_some (find (λ job. job.number == n) state.out) (λ job. may_want_memory job.request) false
   wants_memory state (Take s) = false
   wants_memory state (Leave s) = false
   wants_memory state (Gone s) = false
+
+  -- why a list of steps is made no further: it ends, its next step may not be made, or may have found no memory
+  abbrev pub StopsAt : Whole → Option (Step A) → Type 0
+  StopsAt w None = Unit {0}
+  StopsAt w (Some step) = (MayReplay w step → ⊥) ⊎ (wants_memory w.state step ≡ true)
 
   -- the steps were made one after another, and their answers follow those that were there before
   pub record IsReplayed (old new : Whole) (steps : List (Step A)) (before after : List (StepAnswer A)) : Type 0 where

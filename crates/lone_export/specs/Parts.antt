@@ -1,14 +1,15 @@
 -- An export as its parts keep it, and what is true of them.
-use Rattle.std.specs.Prelude.{◌≡◌, ℕ, suc, ◌+◌, ◌*◌, ◌<◌, ◌≤◌, ◌^◌, ◌==◌, true, List, [], ◌∷◌, ◌++◌, map, length, filter, Option, Some, None, ℤ, pos, ◌<ℤ◌, ◌≤ℤ◌}
+use Rattle.std.specs.Prelude.{◌≡◌, ℕ, suc, ◌+◌, ◌*◌, ◌<◌, ◌≤◌, ◌^◌, ◌==◌, Bool, true, if◌then◌else◌, List, [], ◌∷◌, ◌++◌, map, length, filter, Option, Some, None, ℤ, pos, ◌<ℤ◌, ◌≤ℤ◌}
 use Rattle.std.specs.FinMap as fin
+use Rattle.nbd_wire.specs.Grammar.{ReplyMessage, IsRequest}
 use Rattle.nbd_commands.specs.Terms.{Terms}
 use Rattle.nbd_commands.specs.Verdict.{verdict_of}
 use Rattle.nbd_commands.specs.declared.judging.ExportInfo.{ExportInfo}
 use Rattle.tag_clock.specs.Intervals.{Intervals}
 use Rattle.tag_clock.specs.Clocks.{Limit}
-use Rattle.export_queue.specs.Queue.{Queue}
+use Rattle.export_queue.specs.Queue.{Queue, after_finish, item_held}
 use Rattle.reply_box.specs.Sessions.{Session, is_here}
-use Rattle.reply_box.specs.Box.{Box}
+use Rattle.reply_box.specs.Box.{Box, after_put}
 use Rattle.lone_export.specs.Alone.{Alone, Job}
 use Rattle.lone_export.specs.Calls.{to_come}
 use Rattle.lone_export.specs.Lone.{Whole}
@@ -64,6 +65,10 @@ pub record IsBounded (terms : Terms) (state : Alone) (asked : ℕ) : Type 0 wher
   pub interval : terms.l_interval < 2 ^ 30
   pub tag : IsTag state.next state.last
 
+-- the reply to a request that was performed: error 12 (ENOMEM) where no memory was there
+abbrev pub reply_to : Bool → ℕ → List ℕ → ReplyMessage
+reply_to memory cookie content = if memory then record { error = 0; cookie = cookie; content = content } else record { error = 12; cookie = cookie; content = [] }
+
 module _ {A : Type 0} where
   abbrev pub job_of : (ℕ × Row A) → Job
   job_of e = record { number = e.0; session = e.1.session; request = e.1.request }
@@ -107,3 +112,11 @@ module _ {A : Type 0} where
     pub depth : p.queue.depth ≤ 4096
     pub window : p.sessions.window ≤ 4096
     pub inflight : p.queue.inflight ≤ 4096
+
+  -- a request that is in service in this slot was performed: it is in service no longer, and its session has its reply
+  pub record Settles (queue : Queue (Row A)) (sessions : Box) (slot n : ℕ) (memory : Bool) (content : List ℕ) (queue_then : Queue (Row A)) (sessions_then : Box) : Type 0 where
+    pub row : Row A
+    pub held : item_held queue slot n ≡ Some row
+    pub request : IsRequest row.request
+    pub finished : queue_then ≡ after_finish queue n
+    pub replied : sessions_then ≡ after_put sessions row.session (reply_to memory row.request.head.cookie content)

@@ -1,8 +1,11 @@
 //! One export alone: its image, its requests, its sessions and its limit tags.
-ghost use Rattle.std.specs.Prelude.{◌≡◌, ◌≢◌, ◌<◌, [], length, Ok, IsErrOf, IfOk, IfErr, IfSome, IfNone, OnSome, Some};
-ghost use Rattle.std.specs.Bool.{OnTrue, OnFalse};
+ghost use Rattle.std.specs.Prelude.{◌≡◌, ◌≢◌, ◌<◌, [], length, Ok, IsErrOf, IfOk, IfErr, IfSome, IfNone, OnSome, Some, IsSome};
 ghost use Rattle.nbd_commands.specs.Terms.{terms_of};
 ghost use Rattle.nbd_commands.specs.Exports.{IsWithin};
+ghost use Rattle.export_queue.specs.Queue.{item_held};
+ghost use Rattle.reply_box.specs.Box.{IsOwed};
+ghost use Rattle.lone_export.specs.Parts.{Settles, reply_to};
+ghost use Rattle.lone_export.specs.declared.row.Row.{Row};
 ghost use Rattle.lone_export.specs.Lone.{opening_of, Does, DoesOr, pick_said, leave_said, gone_said, take_said, attach_said, arrived_said, slots_picked, slots_without, slot_at, MayAttach};
 
 mod reading;
@@ -171,11 +174,7 @@ impl<I: Image> Lone<I> {
         };
         let done = apply(self.alloc, &mut self.image, &row.request);
         let memory = done.memory;
-        let Some(row) = self.queue.finish(slot, number) else {
-            return None;
-        };
-        let reply = reply_of(done, row.request.head().cookie);
-        self.sessions.put(row.session, reply);
+        settle(&mut self.queue, &mut self.sessions, slot, number, done);
         self.count += 1;
         Some(memory)
     }
@@ -190,7 +189,7 @@ impl<I: Image> Lone<I> {
         ensures { IfOk result (λ lone. lone ≡ opening_of (terms_of config.now) inflight) }
     {
         let Some(tuning) = Tuning::new(config.reservation(), config.limit(), config.weight()) else {
-            return Err(NoMemory);
+            unreachable!();
         };
         let image = I::zeros(alloc, config.size() as usize)?;
         let queue = ExportQueue::new(alloc, config.depth(), inflight)?;
@@ -208,10 +207,29 @@ impl<I: Image> Lone<I> {
     }
 }
 
+/// The request that is in service in `slot` under `number` was performed: it is in service no longer, and its reply goes to
+/// its session.
+fn settle<A: Allocator + Copy>(
+    queue: &mut ExportQueue<Row<A>, A>,
+    sessions: &mut ReplyBox<A>,
+    slot: usize,
+    number: u64,
+    done: Done<A>,
+)
+    requires held { IsSome (item_held queue.old slot number) }
+    requires owed { (row : Row A) → item_held queue.old slot number ≡ Some row → IsOwed sessions.old row.session }
+    ensures { Settles queue.old sessions.old slot number done.memory done.content queue.new sessions.new }
+{
+    let Some(row) = queue.finish(slot, number) else {
+        unreachable!();
+    };
+    let reply = reply_to(done, row.request.head().cookie);
+    sessions.put(row.session, reply);
+}
+
 /// The reply to a request that was performed.
-fn reply_of<A: Allocator>(done: Done<A>, cookie: u64) -> Reply<A>
-    ensures with { OnTrue done.memory (result ≡ record { error = 0; cookie = cookie; content = done.content }) }
-    ensures without { OnFalse done.memory (result ≡ record { error = 12; cookie = cookie; content = [] }) }
+fn reply_to<A: Allocator>(done: Done<A>, cookie: u64) -> Reply<A>
+    ensures { result ≡ reply_to done.memory cookie done.content }
 {
     if done.memory {
         Reply::done(cookie, done.content)

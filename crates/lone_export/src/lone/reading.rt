@@ -1,5 +1,5 @@
 //! What is read of an export, and what its steps are refused for.
-ghost use Rattle.std.specs.Prelude.{◌≡◌, ◌<◌, length, ◌↔◌, IsTrue};
+ghost use Rattle.std.specs.Prelude.{◌≡◌, ◌<◌, ◌^◌, nat_le, length, ◌↔◌, IsTrue, option_map, slice_get};
 ghost use Rattle.lone_export.specs.Calls.{to_come};
 ghost use Rattle.lone_export.specs.Lone.{slot_at, MayAttach, MayArrive, Admits, IsInBounds};
 
@@ -26,6 +26,13 @@ impl<I: Image> Lone<I> {
         ensures { result ≡ length self.now.state.waiting }
     {
         self.queue.waiting()
+    }
+
+    /// The number of the request that waits at this place, from 0 for the first.
+    pub fn number_at(&self, place: usize) -> Option<u64>
+        ensures { result ≡ option_map (λ job. job.number) (slice_get self.now.state.waiting place) }
+    {
+        self.queue.number_at(place)
     }
 
     /// Whether fewer requests are in service than may be at once, so that one may be picked.
@@ -63,7 +70,7 @@ impl<I: Image> Lone<I> {
     pub fn may_attach(&self) -> Result<(), AttachRefusal>
         ensures { MayAttach self.now result }
     {
-        if self.count >= MOST_STEPS {
+        if self.is_worn() {
             return Err(AttachRefusal::Worn);
         }
         if self.sessions.is_full() {
@@ -76,21 +83,24 @@ impl<I: Image> Lone<I> {
     pub fn may_arrive(&self, session: u64) -> Result<(), ArriveRefusal>
         ensures { MayArrive self.now session result }
     {
-        match self.sessions.may_admit(session) {
-            Err(AdmitFault::NotOpen) => Err(ArriveRefusal::NotOpen),
-            Err(AdmitFault::Hold) => {
-                if self.count >= MOST_STEPS {
-                    return Err(ArriveRefusal::Worn);
-                }
-                Err(ArriveRefusal::Hold)
-            }
-            Ok(()) => {
-                if self.count >= MOST_STEPS {
-                    return Err(ArriveRefusal::Worn);
-                }
-                Ok(())
-            }
+        if !self.sessions.is_open(session) {
+            return Err(ArriveRefusal::NotOpen);
         }
+        if self.is_worn() {
+            return Err(ArriveRefusal::Worn);
+        }
+        match self.sessions.may_admit(session) {
+            Ok(()) => Ok(()),
+            Err(AdmitFault::Hold) => Err(ArriveRefusal::Hold),
+            Err(AdmitFault::NotOpen) => unreachable!(),
+        }
+    }
+
+    // Whether as many steps were counted as attaches and arrivals may count.
+    fn is_worn(&self) -> bool
+        ensures { result ≡ nat_le (2 ^ 56) self.now.state.count }
+    {
+        MOST_STEPS <= self.count
     }
 
     /// Whether a request of the session would wait, if it arrived.

@@ -1,11 +1,12 @@
 //! Steps that were made before are made again.
-ghost use Rattle.std.specs.Prelude.{◌≡◌, ◌≤◌, ◌↔◌, [], length, take, false, IsTrue, IfOk, IfSome, IfNone, OnErr};
+ghost use Rattle.std.specs.Prelude.{◌≡◌, ◌≤◌, ◌↔◌, ◌+◌, ◌<◌, [], length, take, slice_get, vec_len, false, IsTrue, IfOk, IfSome, IfNone, OnErr};
 ghost use Rattle.std.specs.Bool.{OnTrue, OnFalse};
+ghost use Rattle.std.specs.Vec.{vec_capacity};
 ghost use Rattle.nbd_commands.specs.Verdict.{verdict_at};
 ghost use Rattle.nbd_commands.specs.Meaning.{image_after, data_of, may_want_memory};
-ghost use Rattle.lone_export.specs.Lone.{Does, MayReplay, IsReplayed, mark_again, wants_memory};
+ghost use Rattle.lone_export.specs.Lone.{Does, MayReplay, IsReplayed, StopsAt, mark_again, wants_memory};
 
-use crate::lone::{Lone, reply_of};
+use crate::lone::{Lone, settle};
 use crate::said::{arrived_said, attach_said, gone_said, leave_said, pick_said, take_said};
 use crate::step::{Step, StepAnswer};
 use bytes::Bytes;
@@ -62,31 +63,35 @@ impl<I: Image> Lone<I> {
         }
     }
 
-    /// Makes the steps one after another, up to the first that finds no memory or may not be made. Their answers go
-    /// behind the others of `answers`, and the result is how many were made.
+    /// Makes the steps one after another, and tells how many: all, or those before the first that may not be made or found
+    /// no memory. Their answers go behind the others of `answers`, which gets room for all of them first: where it finds
+    /// none, no step is made.
     pub fn replay_all<B: Allocator>(
         &mut self,
         steps: &[Step<I::Alloc>],
         answers: &mut Vec<StepAnswer<I::Alloc>, B>,
-    ) -> usize
-        ensures few { result ≤ length steps.now }
-        ensures made { IsReplayed {A = I.Alloc} self.old self.new (take result steps.now) answers.old.items answers.new.items }
+    ) -> Result<usize, NoMemory>
+        ensures few { IfOk result (λ made. made ≤ length steps.now) }
+        ensures made { IfOk result (λ made. IsReplayed {A = I.Alloc} self.old self.new (take made steps.now) answers.old.items answers.new.items) }
+        ensures stopped { IfOk result (λ made. StopsAt {A = I.Alloc} self.new (slice_get steps.now made)) }
+        ensures err { OnErr result ((self.new ≡ self.old) × (answers.new.items ≡ answers.old.items)) }
+        ensures no_room { OnErr result (vec_capacity answers.old < vec_len answers.old + length steps.now) }
     {
+        if answers.reserve(steps.len()).is_err() {
+            return Err(NoMemory);
+        }
         let mut made = 0;
         for step in steps {
             if !self.may_replay(step) {
-                return made;
-            }
-            if answers.reserve(1).is_err() {
-                return made;
+                return Ok(made);
             }
             let Ok(answer) = self.replay(step) else {
-                return made;
+                return Ok(made);
             };
             answers.push_reserved(answer);
             made += 1;
         }
-        made
+        Ok(made)
     }
 
     // The request of this number is done, or told that no memory was there, as the mark says.
@@ -98,18 +103,14 @@ impl<I: Image> Lone<I> {
             return Ok(StepAnswer::NotOut);
         };
         let Some(row) = self.queue.held(slot, number) else {
-            return Ok(StepAnswer::NotOut);
+            unreachable!();
         };
         let again = apply_again(self.alloc, &mut self.image, &row.request, memory);
         let Some(done) = again else {
             return Err(NoMemory);
         };
         let memory = done.memory;
-        let Some(row) = self.queue.finish(slot, number) else {
-            return Err(NoMemory);
-        };
-        let reply = reply_of(done, row.request.head().cookie);
-        self.sessions.put(row.session, reply);
+        settle(&mut self.queue, &mut self.sessions, slot, number, done);
         self.count += 1;
         Ok(StepAnswer::Performed { memory })
     }

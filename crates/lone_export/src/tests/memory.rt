@@ -1,5 +1,7 @@
 //! Each growth is refused in turn: a call that finds no memory leaves all as it was, and succeeds when it is made again.
 
+ghost use Rattle.std.specs.Prelude.{◌≤◌, length};
+
 use super::*;
 use nbd_commands::ExportConfig;
 use refusing::Refusing;
@@ -101,6 +103,20 @@ fn each_growth_is_refused_in_turn(rt: HostRuntime) -> Result<(), NoMemory> {
     Ok(())
 }
 
+// How many of the steps are replayed: none where no memory is there for the answers, which changes nothing.
+fn replayed<A: Allocator + Copy>(
+    lone: &mut Lone<Flat<A>>,
+    steps: &[Step<A>],
+    answers: &mut Vec<StepAnswer<A>, A>,
+) -> usize
+    ensures { result ≤ length steps.now }
+{
+    match lone.replay_all(steps, answers) {
+        Ok(made) => made,
+        Err(NoMemory) => 0,
+    }
+}
+
 // Whether a list of steps is replayed in two goes at most: the second makes those that the first left.
 fn is_resumed<A: Allocator + Copy>(
     alloc: A,
@@ -121,8 +137,8 @@ fn is_resumed<A: Allocator + Copy>(
     ];
     let mut answers = Vec::new(alloc);
     let all = &steps[..];
-    let first = lone.replay_all(all, &mut answers);
-    let rest = lone.replay_all(&all[first..], &mut answers);
+    let first = replayed(&mut lone, all, &mut answers);
+    let rest = replayed(&mut lone, &all[first..], &mut answers);
     let last = answers.last().ok_or(NoMemory)?;
     Ok(
         first + rest == 9

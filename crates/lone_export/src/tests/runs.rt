@@ -250,7 +250,7 @@ fn a_list_of_steps_is_replayed(rt: HostRuntime) -> Result<(), Fail> {
     }
     let mut lone = opened(rt.alloc(), &ExportSettings::new(b"a", 4096))?;
     let mut answers = Vec::new(rt.alloc());
-    assert_eq!(rt; lone.replay_all(&steps, &mut answers), 16);
+    assert_eq!(rt; lone.replay_all(&steps, &mut answers), Ok(16));
     assert_eq!(rt; (lone.steps(), answers.len()), (12, 16));
     for (answer, wanted) in answers.iter().zip(wanted.iter()) {
         assert_eq!(rt; text(rt.alloc(), answer)?.as_str(), *wanted);
@@ -274,7 +274,7 @@ fn no_more_are_picked_than_may_be(rt: HostRuntime) -> Result<(), Fail> {
     let export = config.exports().first().ok_or("an export")?;
     let mut lone: Lone<Flat<Global>> = Lone::new(rt.alloc(), export, 1)?;
     let mut answers = Vec::new(rt.alloc());
-    assert_eq!(rt; lone.replay_all(&steps, &mut answers), 4);
+    assert_eq!(rt; lone.replay_all(&steps, &mut answers), Ok(4));
     assert_eq!(rt; (lone.waiting(), answers.len()), (1, 4));
     assert!(rt; !lone.may_pick() && !lone.may_replay(&Step::Pick));
     Ok(())

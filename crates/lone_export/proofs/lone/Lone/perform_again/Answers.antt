@@ -9,23 +9,21 @@ returns-in_default-clause-ok g c = not_out _ c.args.number c.args.memory _ c.sel
 pub apply_again-again-requires : goal.apply_again-again-requires
 apply_again-again-requires g c = may_apply _ c.in-Some.slot c.args.number _ c.self.invariant (sym c.in-Some-held.ensures)
 
-pub put-requires : goal.put-requires
-put-requires g c = done_owed _ c.in-Some.slot c.args.number _ c.self.invariant (sym c.in-Some-finish.ensures.item)
+pub settle-requires-clause-owed : goal.settle-requires-clause-owed
+settle-requires-clause-owed g c = λ row held. done_owed _ c.in-Some.slot c.args.number row c.self.invariant held
 
 pub invariant_of-self-2 : goal.invariant_of-self-2
 invariant_of-self-2 g c =
     let d = c.in-Some-again in
-    performed_lone _ c.in-Some.slot c.args.number c.in-Some-held.row.now c.in-Some-finish.row _ d.done.content d.done.error d.done.memory _ c.head.result _ _ _
-    c.self.invariant c.self.view_is c.in-Some-held.ensures c.in-Some-finish.ensures.item c.head.ensures.value c.head.ensures.fits c.in-Some-finish.ensures.some c.put.ensures
-    d.ensures.done d.ensures.no_memory c.reply_of-reply.ensures.with c.reply_of-reply.ensures.without
+    performed_lone _ c.in-Some.slot c.args.number c.in-Some-held.row.now _ d.done.content d.done.error d.done.memory _ _ _
+    c.self.invariant c.self.view_is c.in-Some-held.ensures c.settle.ensures d.ensures.done d.ensures.no_memory
 
 pub returns-clause-ok : goal.returns-clause-ok
 returns-clause-ok g c =
     let d = c.in-Some-again in
     done_again _ c.in-Some.slot c.args.number c.in-Some-held.row.now c.args.memory d.done.memory _ _ c.self.invariant c.self.view_is c.in-Some-held.ensures d.ensures.mark
-    (performed_does _ c.in-Some.slot c.args.number c.in-Some-held.row.now c.in-Some-finish.row _ d.done.content d.done.error d.done.memory _ c.head.result _ _ _
-    c.self.invariant c.self.view_is c.in-Some-held.ensures c.in-Some-finish.ensures.item c.head.ensures.value c.head.ensures.fits c.in-Some-finish.ensures.some c.put.ensures
-    d.ensures.done d.ensures.no_memory c.reply_of-reply.ensures.with c.reply_of-reply.ensures.without).1
+    (performed_does _ c.in-Some.slot c.args.number c.in-Some-held.row.now _ d.done.content d.done.error d.done.memory _ _ _
+    c.self.invariant c.self.view_is c.in-Some-held.ensures c.settle.ensures d.ensures.done d.ensures.no_memory).1
 
 pub returns-in_default-again-clause-err : goal.returns-in_default-again-clause-err
 returns-in_default-again-clause-err g c =
