@@ -19,14 +19,14 @@ use Rattle.server_table.specs.declared.event.Answer.TheVariants as said
 use Rattle.server_table.specs.Table.{Row, Side, Table, Setup, Choice, side, no_side, waits_in, is_due_by_reservation, is_due_by_limit, due_by_reservation, due_by_limit, foremost, r_key, p_key, choice, is_idle, all_lowered, lower_p, lower_last_p, credited, lower_r, lower_last_r, shifted, opening_table, put}
 use Rattle.tag_clock.specs.Tags.{later}
 use Rattle.server_table.specs.Steps.{Outcome, step, with_sessions, is_out_row, outstanding_in, accepted_in, new_row, with_last, done_side, undone_side, done_in, undone_in, send, sent, is_by_weight, with_credit, answers_of, run_answers, entered_in, seated, outcome}
-use Rattle.core_laws.specs.Counts.{choices_by, is_phase, now_after, is_choice_in, choices, accepted_at, first_accepted}
+use Rattle.core_laws.specs.Counts.{is_phase, now_after, is_choice_in, choices, accepted_at, first_accepted}
 use Rattle.lone_export.proofs.Cases.{if_one, some_one, some_told}
 use Rattle.nbd_base.proofs.Words.{length-change_at}
 use Rattle.core_laws.proofs.Lists.{unseen-change_at, unseen-change_each, get_or-change_at, get_or-change_at_other, filter-map, filter_swap}
 use Rattle.core_laws.proofs.Order.{Mem, mem_filter, mem_all, mem_of_filter, mem_passes, foremost_mem}
 use Rattle.core_laws.proofs.Tidy.{is_of, rows_of, filter-and, IsKept, latest, Tidy}
 use Rattle.core_laws.proofs.Chosen.{IsChosen, is_chosen, choice_first, and_left, and_right, not_true, tidy_step, same_record, tidy_now}
-use Rattle.core_laws.specs.Runs.{Run, HasExport}
+use Rattle.core_laws.specs.Runs.{Run, HasExport, answers_in}
 use Rattle.core_laws.proofs.Runs.{opening_tidy, opening_side_at}
 use Rattle.core_laws.proofs.Limits.{credit_now}
 use Rattle.core_laws.proofs.Kept.{tidy_shifted, is_of_export}
@@ -592,17 +592,17 @@ module _ {A : Type 0} where
               none_yet Weight = omega arith
 
   -- from the opening table
-  pub counted_run : (run : Run A) (e : ℕ) (terms : Terms) (t b : ℕ) (phase : Phase) → HasExport run e terms → first_accepted e run.events (run_answers run.setup run.events run.marks) ≡ Some t → Within t (interval_in terms phase) b (choices_by e phase b run)
+  pub counted_run : (run : Run A) (e : ℕ) (terms : Terms) (t b : ℕ) (phase : Phase) → HasExport run e terms → first_accepted e run.events (run_answers run.setup run.events run.marks) ≡ Some t → Within t (interval_in terms phase) b (choices e phase b 0 run.events (answers_in run))
   counted_run run e terms t b phase there first = counted run.setup terms e t b phase there run.events (opening_table run.setup) run.marks (opening_tidy run.setup terms e there) virgin first
     where
       virgin : Virgin e (opening_table run.setup)
       virgin = record { next = ap (λ (s : Side). s.next) (opening_side_at run.setup terms e there); r = ap (λ (s : Side). s.last_r) (opening_side_at run.setup terms e there); l = ap (λ (s : Side). s.last_l) (opening_side_at run.setup terms e there); rows = refl }
 
-  pub nothing_before : (run : Run A) (e : ℕ) (terms : Terms) (t b : ℕ) (phase : Phase) → HasExport run e terms → first_accepted e run.events (run_answers run.setup run.events run.marks) ≡ Some t → b < t → choices_by e phase b run ≡ 0
-  nothing_before run e terms t b phase there first lt = none_before t (interval_in terms phase) b (choices_by e phase b run) (counted_run run e terms t b phase there first) lt
+  pub nothing_before : (run : Run A) (e : ℕ) (terms : Terms) (t b : ℕ) (phase : Phase) → HasExport run e terms → first_accepted e run.events (run_answers run.setup run.events run.marks) ≡ Some t → b < t → choices e phase b 0 run.events (answers_in run) ≡ 0
+  nothing_before run e terms t b phase there first lt = none_before t (interval_in terms phase) b (choices e phase b 0 run.events (answers_in run)) (counted_run run e terms t b phase there first) lt
 
-  pub bounded_by_limit : (run : Run A) (e : ℕ) (terms : Terms) (t b : ℕ) → HasExport run e terms → first_accepted e run.events (run_answers run.setup run.events run.marks) ≡ Some t → t ≤ b → 0 < terms.l_interval → choices_by e Weight b run ≤ 1 + (b - t) / terms.l_interval
-  bounded_by_limit run e terms t b there first le lt = at_most t terms.l_interval b (choices_by e Weight b run) (counted_run run e terms t b Weight there first) lt
+  pub bounded_by_limit : (run : Run A) (e : ℕ) (terms : Terms) (t b : ℕ) → HasExport run e terms → first_accepted e run.events (run_answers run.setup run.events run.marks) ≡ Some t → t ≤ b → 0 < terms.l_interval → choices e Weight b 0 run.events (answers_in run) ≤ 1 + (b - t) / terms.l_interval
+  bounded_by_limit run e terms t b there first le lt = at_most t terms.l_interval b (choices e Weight b 0 run.events (answers_in run)) (counted_run run e terms t b Weight there first) lt
 
-  pub bounded_by_reservation : (run : Run A) (e : ℕ) (terms : Terms) (t b interval : ℕ) → HasExport run e terms → first_accepted e run.events (run_answers run.setup run.events run.marks) ≡ Some t → t ≤ b → terms.r_interval ≡ Some interval → 0 < interval → choices_by e Reservation b run ≤ 1 + (b - t) / interval
-  bounded_by_reservation run e terms t b interval there first le is lt = at_most t interval b (choices_by e Reservation b run) (subst (λ (i : ℕ). Within t i b (choices_by e Reservation b run)) (ap (λ o. unwrap_or o 0) is) (counted_run run e terms t b Reservation there first)) lt
+  pub bounded_by_reservation : (run : Run A) (e : ℕ) (terms : Terms) (t b interval : ℕ) → HasExport run e terms → first_accepted e run.events (run_answers run.setup run.events run.marks) ≡ Some t → t ≤ b → terms.r_interval ≡ Some interval → 0 < interval → choices e Reservation b 0 run.events (answers_in run) ≤ 1 + (b - t) / interval
+  bounded_by_reservation run e terms t b interval there first le is lt = at_most t interval b (choices e Reservation b 0 run.events (answers_in run)) (subst (λ (i : ℕ). Within t i b (choices e Reservation b 0 run.events (answers_in run))) (ap (λ o. unwrap_or o 0) is) (counted_run run e terms t b Reservation there first)) lt

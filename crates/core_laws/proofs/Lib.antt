@@ -12,3 +12,4 @@ pub mod Heads
 pub mod Pace
 pub mod Counts
 pub mod Made
+pub mod Places

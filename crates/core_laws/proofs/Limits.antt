@@ -18,6 +18,7 @@ use Rattle.tag_clock.specs.LimitTags.{unrolled, beginnings, limit_tags}
 use Rattle.tag_clock.proofs.Unrolled.{last_of, later-last_of, last_of-push, begun_on}
 use Rattle.server_table.specs.Table.{Row, Table, Setup, Choice, is_due_by_limit, due_by_limit, p_key, choice}
 use Rattle.server_table.specs.Steps.{Outcome, step, sent, is_by_weight, with_credit}
+use Rattle.core_laws.specs.Statements.{WaitsInItsLimit}
 use Rattle.lone_export.proofs.Cases.{if_one, some_one, some_told}
 use Rattle.core_laws.proofs.Order.{Mem, mem_of_filter, mem_passes, foremost_mem}
 use Rattle.core_laws.proofs.Chosen.{IsChosen, is_chosen, and_left, and_right, not_true}
@@ -38,7 +39,7 @@ credit_now setup chosen table =
 
 module _ {A : Type 0} where
   pub weight_waits : (setup : Setup) (table : Table) (e n t : ℕ) (memory : Bool) → (step {A = A} setup table (Dispatch t) memory).answer ≡ said.Picked e n Weight →
-      (k : ℕ) × (row : Row) × (slice_get table.rows k ≡ Some row) × (row.export ≡ e) × (row.number ≡ n) × (row.out ≡ false) × (row.l ≤ℤ pos (step {A = A} setup table (Dispatch t) memory).table.now)
+      WaitsInItsLimit table t e n
   weight_waits setup table e n t memory =
       some_told P (choice setup.inflight now) (λ chosen is answer. go chosen answer (is_chosen setup.inflight now chosen is)) (λ none answer. absurd (not_picked answer))
     where
@@ -46,7 +47,7 @@ module _ {A : Type 0} where
       now = record table { now = max table.now t }
 
       P : Outcome A → Type 0
-      P new = new.answer ≡ said.Picked e n Weight → (k : ℕ) × (row : Row) × (slice_get table.rows k ≡ Some row) × (row.export ≡ e) × (row.number ≡ n) × (row.out ≡ false) × (row.l ≤ℤ pos new.table.now)
+      P new = new.answer ≡ said.Picked e n Weight → WaitsInItsLimit table t e n
 
       not_picked : ◌≡◌ {A = Answer A} said.Nothing (said.Picked e n Weight) → ⊥
       not_picked h = grind (arith, h)
@@ -60,11 +61,11 @@ module _ {A : Type 0} where
       differ : Reservation ≡ Weight → ⊥
       differ h = grind (arith, h)
 
-      go : (chosen : Choice) → ◌≡◌ {A = Answer A} (said.Picked chosen.row.export chosen.row.number chosen.phase) (said.Picked e n Weight) → IsChosen now chosen → (k : ℕ) × (row : Row) × (slice_get table.rows k ≡ Some row) × (row.export ≡ e) × (row.number ≡ n) × (row.out ≡ false) × (row.l ≤ℤ pos (with_credit setup chosen (sent chosen.row now)).now)
+      go : (chosen : Choice) → ◌≡◌ {A = Answer A} (said.Picked chosen.row.export chosen.row.number chosen.phase) (said.Picked e n Weight) → IsChosen now chosen → WaitsInItsLimit table t e n
       go chosen answer (inl h) = absurd (differ (sym h.1 ∙ (fields chosen.row.export chosen.row.number chosen.phase answer).2))
       go chosen answer (inr h) =
           let m : Mem chosen.row (filter (is_due_by_limit now.now) table.rows) = foremost_mem p_key (due_by_limit now) chosen.row h.0 in
           let at : (k : ℕ) × (slice_get table.rows k ≡ Some chosen.row) = mem_at chosen.row table.rows (mem_of_filter (is_due_by_limit now.now) chosen.row table.rows m) in
           let due : is_due_by_limit now.now chosen.row ≡ true = mem_passes (is_due_by_limit now.now) chosen.row table.rows m in
           let f : (chosen.row.export ≡ e) × (chosen.row.number ≡ n) × (chosen.phase ≡ Weight) = fields chosen.row.export chosen.row.number chosen.phase answer in
-          (at.0, chosen.row, at.1, f.0, f.1, not_true chosen.row.out (and_left (not chosen.row.out) _ due), rw (credit_now setup chosen (sent chosen.row now)) (under chosen.row.l now.now (and_right (not chosen.row.out) _ due)))
+          (at.0, chosen.row, at.1, f.0, f.1, not_true chosen.row.out (and_left (not chosen.row.out) _ due), under chosen.row.l now.now (and_right (not chosen.row.out) _ due))

@@ -7,7 +7,6 @@ use Rattle.server_table.specs.declared.event.Event.TheVariants.{Arrive, Dispatch
 use Rattle.server_table.specs.declared.event.Answer.{Answer}
 use Rattle.server_table.specs.declared.event.Answer.TheVariants.{Accepted, Picked}
 use Rattle.nbd_base.specs.Words.{when_some}
-use Rattle.core_laws.specs.Runs.{Run, answers_in}
 
 abbrev pub is_phase : Phase → Phase → Bool
 is_phase Reservation Reservation = true
@@ -46,11 +45,3 @@ module _ {A : Type 0} where
   first_accepted e [] answers = None
   first_accepted e (event ∷ events) [] = None
   first_accepted e (event ∷ events) (said ∷ answers) = when_some (accepted_at e event said) (λ t. Some t) (first_accepted e events answers)
-
-  -- how many of export e's requests were chosen in a phase while the greatest moment of a dispatch wasn't above b
-  abbrev pub choices_by : ℕ → Phase → ℕ → Run A → ℕ
-  choices_by e phase b run = choices e phase b 0 run.events (answers_in run)
-
-  -- the moment of export e's first accepted arrival
-  abbrev pub first_moment : ℕ → Run A → Option ℕ
-  first_moment e run = first_accepted e run.events (answers_in run)

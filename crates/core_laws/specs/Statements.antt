@@ -1,5 +1,5 @@
 -- What the laws say, of one run or of one step.
-use Rattle.std.specs.Prelude.{◌≡◌, ◌≢◌, ◌↔◌, ◌<◌, ◌≤◌, ◌+◌, ◌-◌, ◌/◌, ◌^◌, ℕ, Bool, true, List, length, filter, slice_get, Some, pos, ◌≤ℤ◌, false}
+use Rattle.std.specs.Prelude.{◌≡◌, ◌≢◌, ◌↔◌, ◌<◌, ◌≤◌, ◌+◌, ◌-◌, ◌/◌, ◌^◌, max, ℕ, Bool, true, List, length, filter, take, slice_get, Some, pos, ◌≤ℤ◌, false}
 use Rattle.nbd_wire.specs.Grammar.{RequestMessage}
 use Rattle.nbd_commands.specs.Terms.{Terms}
 use Rattle.nbd_commands.specs.Verdict.{verdict_of}
@@ -12,25 +12,89 @@ use Rattle.lone_export.specs.Alone.{opening, alone, answers_alone}
 use Rattle.lone_export.specs.LimitTags.{given_tags, accepted_moments}
 use Rattle.server_table.specs.declared.event.Event.{Event}
 use Rattle.server_table.specs.declared.event.Event.TheVariants.{Arrive, Dispatch}
-use Rattle.server_table.specs.declared.event.Answer.TheVariants.{Answered, Picked, Nothing}
+use Rattle.server_table.specs.declared.event.Answer.{Answer}
+use Rattle.server_table.specs.declared.event.Answer.TheVariants.{Answered, Picked, Nothing, NoMemory}
 use Rattle.server_table.specs.Table.{Row, Table, Setup, part, side, waits_in, choice, choice_with}
-use Rattle.server_table.specs.Steps.{step, outstanding_in}
-use Rattle.server_table.specs.Shares.{named, is_made}
+use Rattle.server_table.specs.Steps.{step, outstanding_in, last_table}
+use Rattle.server_table.specs.Shares.{own, told, named, is_made}
 use Rattle.core_laws.specs.Runs.{Run, answers_in, table_in, own_steps, told_answers, last_part, HasExport}
-use Rattle.core_laws.specs.Counts.{choices_by, first_moment}
+use Rattle.core_laws.specs.Counts.{choices, first_accepted}
 use Rattle.core_laws.specs.Heads.{first_rows}
 use Rattle.core_laws.specs.Made.{made_events, made_marks}
 
+-- ---- of a table
+
+-- nothing but the depth of its queue refuses an arrival of session s to export e
+pub record PassesAllElse (setup : Setup) (table : Table) (e s : ℕ) (q : RequestMessage) (terms : Terms) : Type 0 where
+  pub there : slice_get setup.exports e ≡ Some terms
+  pub is_open : is_open_at (side table e).sessions s ≡ true
+  pub young : (side table e).count < 2 ^ 56
+  pub spare : outstanding_in e s table ≢ terms.window
+  pub fine : verdict_of terms q ≡ 0
+
+-- as many requests of export e wait as its depth
+abbrev pub HasFullQueue : Table → ℕ → Terms → Type 0
+HasFullQueue table e terms = length (filter (waits_in e) table.rows) ≡ terms.depth
+
+-- request n of export e waits, and at a dispatch at t its limit tag isn't above the greatest moment of a dispatch
+abbrev pub WaitsInItsLimit : Table → ℕ → ℕ → ℕ → Type 0
+WaitsInItsLimit table t e n = (k : ℕ) × (row : Row) × (slice_get table.rows k ≡ Some row) × (row.export ≡ e) × (row.number ≡ n) × (row.out ≡ false) ×
+    (row.l ≤ℤ pos (max table.now t))
+
 module _ {A : Type 0} where
-  -- ---- a run
+  -- ---- a run, by its events and the answers that were given to them
 
   -- each export is told what it is told alone, under its own steps
-  abbrev pub IsToldAsAlone : Run A → Type 0
-  IsToldAsAlone run = (e : ℕ) (terms : Terms) → HasExport run e terms → told_answers e run ≡ answers_alone terms (opening terms) (own_steps e run)
+  abbrev pub IsToldAsAlone : Setup → List (Event A) → List (Answer A) → Type 0
+  IsToldAsAlone setup events answers = (e : ℕ) (terms : Terms) → slice_get setup.exports e ≡ Some terms →
+      told e events answers ≡ answers_alone terms (opening terms) (own e events answers)
 
-  -- and is in the end what it is alone: its bytes, outboxes, sessions, requests, last limit tag and count
-  abbrev pub EndsAsAlone : Run A → Type 0
-  EndsAsAlone run = (e : ℕ) (terms : Terms) → HasExport run e terms → last_part e run ≡ alone terms (opening terms) (own_steps e run)
+  -- and is in the last table what it is alone: its bytes, outboxes, sessions, requests, last limit tag and count
+  abbrev pub EndsAsAlone : Setup → List (Event A) → List (Answer A) → Table → Type 0
+  EndsAsAlone setup events answers table = (e : ℕ) (terms : Terms) → slice_get setup.exports e ≡ Some terms →
+      part e table ≡ alone terms (opening terms) (own e events answers)
+
+  -- an export's limit tags are those of the moments of its accepted arrivals
+  abbrev pub HasUnrolledTags : Setup → List (Event A) → List (Answer A) → Type 0
+  HasUnrolledTags setup events answers = (e : ℕ) (terms : Terms) → slice_get setup.exports e ≡ Some terms →
+      given_tags (told e events answers) ≡ limit_tags terms.l_interval (accepted_moments (own e events answers) (told e events answers))
+
+  -- of an export's requests none is chosen while the greatest moment of a dispatch is below its first accepted arrival
+  abbrev pub ChoosesNoneBefore : Setup → List (Event A) → List (Answer A) → Type 0
+  ChoosesNoneBefore setup events answers = (e : ℕ) (terms : Terms) (t b : ℕ) (phase : Phase) → slice_get setup.exports e ≡ Some terms →
+      first_accepted e events answers ≡ Some t → b < t → choices e phase b 0 events answers ≡ 0
+
+  -- and later no more by weight than its limit allows, nor by reservation than its reservation gives
+  abbrev pub ChoosesByLimit : Setup → List (Event A) → List (Answer A) → Type 0
+  ChoosesByLimit setup events answers = (e : ℕ) (terms : Terms) (t b : ℕ) → slice_get setup.exports e ≡ Some terms →
+      first_accepted e events answers ≡ Some t → t ≤ b → 0 < terms.l_interval → choices e Weight b 0 events answers ≤ 1 + (b - t) / terms.l_interval
+
+  abbrev pub ChoosesByReservation : Setup → List (Event A) → List (Answer A) → Type 0
+  ChoosesByReservation setup events answers = (e : ℕ) (terms : Terms) (t b interval : ℕ) → slice_get setup.exports e ≡ Some terms →
+      first_accepted e events answers ≡ Some t → t ≤ b → terms.r_interval ≡ Some interval → 0 < interval →
+      choices e Reservation b 0 events answers ≤ 1 + (b - t) / interval
+
+  -- at place k of the run stand this event and its answer
+  abbrev pub StandsAt : ℕ → List (Event A) → List (Answer A) → Event A → Answer A → Type 0
+  StandsAt k events answers event said = (slice_get events k ≡ Some event) × (slice_get answers k ≡ Some said)
+
+  -- the table before place k
+  abbrev pub table_before : ℕ → Setup → List (Event A) → List Bool → Table
+  table_before k setup events marks = last_table setup (take k events) marks
+
+  -- an arrival that nothing else refuses is answered 5 (EIO) exactly where as many requests of its own export wait as its
+  -- depth
+  abbrev pub QueuesCountTheirOwn : Setup → List (Event A) → List (Answer A) → List Bool → Type 0
+  QueuesCountTheirOwn setup events answers marks = (k e s t : ℕ) (q : RequestMessage) (terms : Terms) (said : Answer A) →
+      StandsAt k events answers (Arrive e s t q) said → said ≢ NoMemory → PassesAllElse setup (table_before k setup events marks) e s q terms →
+      (said ≡ Answered 5) ↔ HasFullQueue (table_before k setup events marks) e terms
+
+  -- a choice by weight is of a request whose limit tag isn't above the greatest moment of a dispatch, its own included
+  abbrev pub WeightsWait : Setup → List (Event A) → List (Answer A) → List Bool → Type 0
+  WeightsWait setup events answers marks = (k t e n : ℕ) → StandsAt k events answers (Dispatch t) (Picked e n Weight) →
+      WaitsInItsLimit (table_before k setup events marks) t e n
+
+  -- ---- two runs
 
   -- two runs agree at e: it has the same terms in both, and the same own steps. The number of exports, the terms of the
   -- others, how many requests may be out and all other events may differ
@@ -47,29 +111,13 @@ module _ {A : Type 0} where
   abbrev pub EndsTheSame : Run A → Run A → Type 0
   EndsTheSame one two = (e : ℕ) (terms : Terms) → AgreeAt e terms one two → last_part e one ≡ last_part e two
 
-  -- an export's limit tags are those of the moments of its accepted arrivals
-  abbrev pub HasUnrolledTags : Run A → Type 0
-  HasUnrolledTags run = (e : ℕ) (terms : Terms) → HasExport run e terms →
-      given_tags (told_answers e run) ≡ limit_tags terms.l_interval (accepted_moments (own_steps e run) (told_answers e run))
+  -- ---- one run, by its marks
 
   -- in the last table, whatever the moment, the choice is that among the first waiting row of each export, with as many out
   abbrev pub HeadsSuffice : Run A → Type 0
   HeadsSuffice run = (table : Table) (now : ℕ) → table ≡ table_in run →
       choice run.setup.inflight (record table { now = now }) ≡
       choice_with run.setup.inflight (length (filter (λ row. row.out) table.rows)) (record table { now = now; rows = first_rows (length run.setup.exports) table.rows })
-
-  -- of an export's requests none is chosen while the greatest moment of a dispatch is below its first accepted arrival
-  abbrev pub ChoosesNoneBefore : Run A → Type 0
-  ChoosesNoneBefore run = (e : ℕ) (terms : Terms) (t b : ℕ) (phase : Phase) → HasExport run e terms → first_moment e run ≡ Some t → b < t → choices_by e phase b run ≡ 0
-
-  -- and later no more by weight than its limit allows, nor by reservation than its reservation gives
-  abbrev pub ChoosesByLimit : Run A → Type 0
-  ChoosesByLimit run = (e : ℕ) (terms : Terms) (t b : ℕ) → HasExport run e terms → first_moment e run ≡ Some t →
-      t ≤ b → 0 < terms.l_interval → choices_by e Weight b run ≤ 1 + (b - t) / terms.l_interval
-
-  abbrev pub ChoosesByReservation : Run A → Type 0
-  ChoosesByReservation run = (e : ℕ) (terms : Terms) (t b interval : ℕ) → HasExport run e terms → first_moment e run ≡ Some t →
-      t ≤ b → terms.r_interval ≡ Some interval → 0 < interval → choices_by e Reservation b run ≤ 1 + (b - t) / interval
 
   -- without the events that found no memory, and their marks
   abbrev pub without_failures : Run A → Run A
@@ -102,17 +150,13 @@ abbrev pub LeavesAll : Type 0 → Setup → Table → ℕ → Bool → Type 0
 LeavesAll A setup table t memory = (e : ℕ) →
     (step {A = A} setup table (Dispatch t) memory).answer ≡ Nothing → part e (step {A = A} setup table (Dispatch t) memory).table ≡ part e table
 
--- where nothing else refuses an arrival, it is answered 5 (EIO) exactly where as many requests of its own export wait as
--- its depth
+-- an arrival that nothing else refuses is answered 5 (EIO) exactly where as many requests of its own export wait as its
+-- depth
 abbrev pub QueueCountsItsOwn : Type 0 → Setup → Table → Type 0
-QueueCountsItsOwn A setup table = (e s t : ℕ) (q : RequestMessage) (terms : Terms) →
-    slice_get setup.exports e ≡ Some terms → is_open_at (side table e).sessions s ≡ true → (side table e).count < 2 ^ 56 →
-    outstanding_in e s table ≢ terms.window → verdict_of terms q ≡ 0 →
-    ((step {A = A} setup table (Arrive e s t q) true).answer ≡ Answered 5) ↔ (length (filter (waits_in e) table.rows) ≡ terms.depth)
+QueueCountsItsOwn A setup table = (e s t : ℕ) (q : RequestMessage) (terms : Terms) → PassesAllElse setup table e s q terms →
+    ((step {A = A} setup table (Arrive e s t q) true).answer ≡ Answered 5) ↔ HasFullQueue table e terms
 
 -- a choice by weight is of a row that waits and whose limit tag isn't above the greatest moment of a dispatch
 abbrev pub WeightWaitsForItsLimit : Type 0 → Setup → Table → ℕ → Bool → Type 0
 WeightWaitsForItsLimit A setup table t memory = (e n : ℕ) →
-    (step {A = A} setup table (Dispatch t) memory).answer ≡ Picked e n Weight →
-    (k : ℕ) × (row : Row) × (slice_get table.rows k ≡ Some row) × (row.export ≡ e) × (row.number ≡ n) × (row.out ≡ false) ×
-    (row.l ≤ℤ pos (step {A = A} setup table (Dispatch t) memory).table.now)
+    (step {A = A} setup table (Dispatch t) memory).answer ≡ Picked e n Weight → WaitsInItsLimit table t e n

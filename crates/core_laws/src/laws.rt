@@ -5,16 +5,16 @@ ghost use Rattle.lone_export.specs.LimitTags.{GivesUnrolledTags};
 ghost use Rattle.lone_export.specs.declared.step.Step.{Step};
 ghost use Rattle.server_table.specs.declared.event.Event.{Event};
 ghost use Rattle.server_table.specs.Table.{Table, Setup};
-ghost use Rattle.core_laws.specs.Runs.{Run};
-ghost use Rattle.core_laws.specs.Statements.{IsToldAsAlone, EndsAsAlone, IsToldTheSame, EndsTheSame, LeavesOthers, LeavesUnchosen, LeavesAll, QueueCountsItsOwn, WeightWaitsForItsLimit, HasUnrolledTags, HeadsSuffice, ChoosesNoneBefore, ChoosesByLimit, ChoosesByReservation, KeepsOtherAnswers, KeepsLastTable};
+ghost use Rattle.core_laws.specs.Runs.{Run, answers_in, table_in};
+ghost use Rattle.core_laws.specs.Statements.{IsToldAsAlone, EndsAsAlone, IsToldTheSame, EndsTheSame, LeavesOthers, LeavesUnchosen, LeavesAll, QueueCountsItsOwn, QueuesCountTheirOwn, WeightWaitsForItsLimit, WeightsWait, HasUnrolledTags, HeadsSuffice, ChoosesNoneBefore, ChoosesByLimit, ChoosesByReservation, KeepsOtherAnswers, KeepsLastTable};
 
 use std::alloc::Allocator;
 
 /// In every run each export is told what it would be told alone under its own steps, and is in the end what it would be
 /// alone: whatever order the events take, and whatever the others do.
 pub fn projection<A: Allocator>()
-    ensures told { (run : Run A) → IsToldAsAlone run }
-    ensures last { (run : Run A) → EndsAsAlone run }
+    ensures told { (run : Run A) → IsToldAsAlone run.setup run.events (answers_in run) }
+    ensures last { (run : Run A) → EndsAsAlone run.setup run.events (answers_in run) (table_in run) }
 {}
 
 /// Two runs that agree on an export's terms and own steps tell it the same and leave it the same.
@@ -33,22 +33,24 @@ pub fn locality<A: Allocator>()
         → LeavesAll A setup table t memory }
 {}
 
-/// A queue refusal counts the waiting requests of its own export alone, at any table.
+/// A queue refusal counts the waiting requests of its own export alone, at any table, and so at each place of a run.
 pub fn queue_refusal<A: Allocator>()
-    ensures { (setup : Setup) (table : Table) → QueueCountsItsOwn A setup table }
+    ensures step { (setup : Setup) (table : Table) → QueueCountsItsOwn A setup table }
+    ensures run { (run : Run A) → QueuesCountTheirOwn run.setup run.events (answers_in run) run.marks }
 {}
 
-/// No choice by weight precedes its request's limit tag, at any table.
+/// No choice by weight precedes its request's limit tag, at any table, and so at each place of a run.
 pub fn weight_waits_for_its_limit<A: Allocator>()
-    ensures { (setup : Setup) (table : Table) (t : ℕ) (memory : Bool)
+    ensures step { (setup : Setup) (table : Table) (t : ℕ) (memory : Bool)
         → WeightWaitsForItsLimit A setup table t memory }
+    ensures run { (run : Run A) → WeightsWait run.setup run.events (answers_in run) run.marks }
 {}
 
 /// An export's limit tags follow from the moments of its own accepted arrivals: that of the k-th is the greatest, over the
 /// arrivals j up to it, of its moment and k - j intervals. So it is alone, and so it is in every run.
 pub fn limit_tags_unrolled<A: Allocator>()
     ensures alone { (terms : Terms) (steps : List (Step A)) → GivesUnrolledTags terms steps }
-    ensures run { (run : Run A) → HasUnrolledTags run }
+    ensures run { (run : Run A) → HasUnrolledTags run.setup run.events (answers_in run) }
 {}
 
 /// The choice over all rows of a run's table is the choice over the first waiting row of each export.
@@ -60,9 +62,9 @@ pub fn heads_suffice<A: Allocator>()
 /// moment of its first accepted arrival: none before `t`; by weight at most one, and one more for each interval of its
 /// limit from `t` to `b`; by reservation at most one, and one more for each interval of its reservation.
 pub fn choice_count<A: Allocator>()
-    ensures none { (run : Run A) → ChoosesNoneBefore run }
-    ensures limit { (run : Run A) → ChoosesByLimit run }
-    ensures reservation { (run : Run A) → ChoosesByReservation run }
+    ensures none { (run : Run A) → ChoosesNoneBefore run.setup run.events (answers_in run) }
+    ensures limit { (run : Run A) → ChoosesByLimit run.setup run.events (answers_in run) }
+    ensures reservation { (run : Run A) → ChoosesByReservation run.setup run.events (answers_in run) }
 {}
 
 /// Where the events that found no memory are taken out of a run with their marks, every other answer stays, and the last
