@@ -1,0 +1,4 @@
+pub mod Kept
+pub mod Fronts
+pub mod Logs
+pub mod Moves

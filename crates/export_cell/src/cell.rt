@@ -1,0 +1,293 @@
+//! The cell of one export.
+ghost use Rattle.std.specs.Prelude.{◌≡◌, ◌≢◌, ◌<◌, ◌≤◌, length, Ok, IsErrOf, IfOk, IfErr, IfSome, IfNone, OnSome, OnErr, Some, is_ok, is_some};
+ghost use Rattle.nbd_commands.specs.Terms.{terms_of};
+ghost use Rattle.nbd_commands.specs.Exports.{IsWithin};
+ghost use Rattle.lone_export.specs.Lone.{Does, DoesOr, pick_said, leave_said, gone_said, take_said, attach_said, slots_picked, slots_without, slot_at, arrived_said as arrived_said_alone, MayAttach, MayArrive};
+ghost use Rattle.lone_export.specs.declared.step.StepAnswer.TheVariants.{Performed};
+ghost use Rattle.export_cell.specs.Journal.{IsJournal, JournalMove, IsAdvanced, IsReserved, IsWithinBytes, reserved, surplus, noted_as, kept_log, opening_cell, arrived_said};
+ghost use Rattle.export_cell.specs.declared.refusal.ArriveFault.{ArriveFault};
+
+mod trimming;
+
+use crate::refusal::{ArriveFault, NotArrived};
+use export_queue::Picked;
+use export_store::Image;
+use lone_export::{Arrived, Lone, NotArrived as NotArrivedAlone, NotAttached, Step};
+use nbd_base::NoMemory;
+use nbd_commands::ExportConfig;
+use nbd_wire::Request;
+use reply_box::{NotOpen, Taken};
+use std::collections::VecDeque;
+use std::marker::Model;
+use tag_clock::Moment;
+
+/// An export as it is, the same export as it was at the start of its kept history, and the log of the steps between.
+#[derive(Drop)]
+pub struct ExportCell<I: Image> {
+    live: Lone<I>,
+    base: Lone<I>,
+    // It always has room for the steps that can still come of what is there.
+    log: VecDeque<Step<I::Alloc>, I::Alloc>,
+    // The bytes of payload in the log.
+    payload: usize,
+}
+
+impl<I: Image> Model for ExportCell<I> {
+    ghost use Rattle.std.specs.VecDeque.{deque_capacity};
+    ghost use Rattle.lone_export.specs.declared.step.StepAnswer.TheVariants.{Performed};
+    ghost use Rattle.export_cell.specs.Journal.{Cell, cell_of, kept_log, IsCell};
+
+    ghost Value = { Cell };
+
+    ghost view = { λ c. cell_of c.live c.base (kept_log c.log.items) (deque_capacity c.log) };
+
+    ghost invariant = { λ c. IsCell c.live c.base (kept_log c.log.items) c.payload (deque_capacity c.log) };
+}
+
+impl<I: Image> ExportCell<I> {
+    /// An export in its opening state, with an empty log. `inflight` requests of it may be in service at once.
+    pub fn new(
+        alloc: I::Alloc,
+        config: &ExportConfig<I::Alloc>,
+        inflight: usize,
+    ) -> Result<Self, NoMemory>
+        requires { IsWithin 4096 inflight }
+        ensures { IfOk result (λ cell. cell ≡ opening_cell (terms_of config.now) inflight) }
+    {
+        let live = Lone::new(alloc, config, inflight)?;
+        let base = Lone::new(alloc, config, inflight)?;
+        let log = VecDeque::with_capacity(alloc, 0)?;
+        Ok(ExportCell {
+            live,
+            base,
+            log,
+            payload: 0,
+        })
+    }
+
+    /// How many steps were counted.
+    pub fn steps(&self) -> u64
+        ensures { result ≡ self.now.live.state.count }
+    {
+        self.live.steps()
+    }
+
+    /// The export as it is.
+    pub fn live(&self) -> &Lone<I>
+        ensures { result.now ≡ self.now.live }
+    {
+        &self.live
+    }
+
+    /// The export as it was before the first step of the log.
+    pub fn base(&self) -> &Lone<I>
+        ensures state { result.now.state ≡ self.now.journal.base }
+        ensures terms { result.now.terms ≡ self.now.live.terms }
+    {
+        &self.base
+    }
+
+    /// The steps from the base to the export as it is, oldest first.
+    pub fn entries(&self) -> &VecDeque<Step<I::Alloc>, I::Alloc>
+        ensures { kept_log result.now.items ≡ self.now.journal.log }
+    {
+        &self.log
+    }
+
+    /// Does nothing: its contract says what is true of every cell.
+    ///
+    /// The export as it is is its base after the steps of the log, and these have 64 MiB of payload at most.
+    pub fn laws(&self)
+        ensures journal { IsJournal self.now.live self.now.journal }
+        ensures payload { IsWithinBytes self.now.journal.log }
+    {
+        let _ = &self.payload;
+    }
+
+    /// Opens a session and gives its number. The oldest steps of the log go into the base, as many as have to.
+    pub fn attach(&mut self) -> Result<u64, NotAttached>
+        ensures step { DoesOr {A = I.Alloc} self.old.live self.new.live Step.Attach (attach_said result) }
+        ensures journal { JournalMove {A = I.Alloc} self.old.live.terms Step.Attach (attach_said result) self.old.journal self.new.journal }
+        ensures no_memory { IsErrOf result NotAttached.NoMemory → MayAttach self.old.live (Ok tt) }
+        ensures slots { self.new.live.slots ≡ self.old.live.slots }
+    {
+        if let Err(refusal) = self.live.may_attach() {
+            return Err(NotAttached::Refused(refusal));
+        }
+        if let Err(_) = self.make_room(0) {
+            return Err(NotAttached::NoMemory);
+        }
+        match self.live.attach() {
+            Ok(number) => {
+                self.log.push_back_reserved(Step::Attach);
+                Ok(number)
+            }
+            Err(refused) => Err(refused),
+        }
+    }
+
+    /// A request of a session arrives at a moment: what `reserve` and `enter` do. One that is refused, or for which no
+    /// memory is there, is handed back.
+    pub fn arrive(
+        &mut self,
+        session: u64,
+        moment: Moment,
+        request: Request<I::Alloc>,
+    ) -> Result<Arrived, NotArrived<I::Alloc>>
+        ensures step { DoesOr {A = I.Alloc} self.old.live self.new.live (Step.Arrive session moment request) (arrived_said result) }
+        ensures journal { JournalMove {A = I.Alloc} self.old.live.terms (Step.Arrive session moment request) (arrived_said result) self.old.journal self.new.journal }
+        ensures no_memory { IfErr result (λ e. e.fault ≡ ArriveFault.NoMemory → MayArrive self.old.live session (Ok tt)) }
+        ensures back { IfErr result (λ e. e.request ≡ request) }
+        ensures slots { self.new.live.slots ≡ self.old.live.slots }
+    {
+        let Ok(kept) = self.reserve(session, &request) else {
+            let fault = ArriveFault::NoMemory;
+            return Err(NotArrived { fault, request });
+        };
+        match self.enter(session, moment, request, kept) {
+            Ok(arrived) => Ok(arrived),
+            Err(refused) => Err(NotArrived {
+                fault: ArriveFault::Refused(refused.refusal),
+                request: refused.request,
+            }),
+        }
+    }
+
+    /// Makes room in the log for a request of a session and for all the steps that it can bring. The oldest steps go into
+    /// the base, as many as have to; without memory some of these.
+    ///
+    /// The answer is the copy of the request that the log will keep: a second handle to the same payload. It is None where
+    /// the export refuses the request, and then nothing changes.
+    pub fn reserve(
+        &mut self,
+        session: u64,
+        request: &Request<I::Alloc>,
+    ) -> Result<Option<Request<I::Alloc>>, NoMemory>
+        ensures live { self.new.live ≡ self.old.live }
+        ensures reserved { IfOk result (λ kept. IsReserved self.new session request.now kept) }
+        ensures journal { IfOk result (λ kept. self.new.journal ≡ reserved self.old.live.terms kept self.old.journal) }
+        ensures no_memory { OnErr result (MayArrive self.old.live session (Ok tt)
+            × IsAdvanced self.old.live.terms (surplus (length request.now.payload) self.old.journal.log) self.old.journal self.new.journal) }
+    {
+        if let Err(_) = self.live.may_arrive(session) {
+            return Ok(None);
+        }
+        if let Err(error) = self.make_room(request.payload().len()) {
+            return Err(error);
+        }
+        let Ok(kept) = request.clone() else {
+            return Err(NoMemory);
+        };
+        Ok(Some(kept))
+    }
+
+    /// The request for which there is room arrives; it is refused exactly where there is no copy of it. It takes no memory.
+    pub fn enter(
+        &mut self,
+        session: u64,
+        moment: Moment,
+        request: Request<I::Alloc>,
+        kept: Option<Request<I::Alloc>>,
+    ) -> Result<Arrived, NotArrivedAlone<I::Alloc>>
+        requires { IsReserved self.old session request kept }
+        ensures step { Does {A = I.Alloc} self.old.live self.new.live (Step.Arrive session moment request) (arrived_said_alone result) }
+        ensures entered { is_ok result ≡ is_some kept }
+        ensures journal { self.new.journal ≡ noted_as {A = I.Alloc} (arrived_said_alone result) (Step.Arrive session moment request) self.old.journal }
+        ensures back { IfErr result (λ e. e.request ≡ request) }
+        ensures slots { self.new.live.slots ≡ self.old.live.slots }
+    {
+        let Some(kept) = kept else {
+            return self.live.arrive(session, moment, request);
+        };
+        let bytes = request.payload().len();
+        match self.live.arrive(session, moment, request) {
+            Ok(arrived) => {
+                self.log.push_back_reserved(Step::Arrive {
+                    session,
+                    moment,
+                    request: kept,
+                });
+                self.payload += bytes;
+                Ok(arrived)
+            }
+            Err(refused) => Err(refused),
+        }
+    }
+
+    /// The first request that waits is in service now, in the slot that is answered. It takes no memory.
+    pub fn pick(&mut self) -> Option<Picked>
+        requires { length self.old.live.state.out < self.old.live.inflight }
+        ensures step { Does {A = I.Alloc} self.old.live self.new.live Step.Pick (pick_said result) }
+        ensures journal { JournalMove {A = I.Alloc} self.old.live.terms Step.Pick (Some (pick_said result)) self.old.journal self.new.journal }
+        ensures slots { self.new.live.slots ≡ slots_picked self.old.live.slots result }
+    {
+        let Some(picked) = self.live.pick() else {
+            return None;
+        };
+        self.log.push_back_reserved(Step::Pick);
+        Some(picked)
+    }
+
+    /// The request that is in service in `slot` under `number` is done, and its reply goes to its session. The answer
+    /// tells whether memory was there for it.
+    ///
+    /// None where the slot doesn't hold that number, also where the number is in service in another slot.
+    pub fn perform(&mut self, slot: usize, number: u64) -> Option<bool>
+        ensures some { IfSome result (λ memory. (slot_at self.old.live number ≡ Some slot)
+            × Does {A = I.Alloc} self.old.live self.new.live (Step.Perform number memory) (Performed memory)) }
+        ensures journal { IfSome result (λ memory.
+            JournalMove {A = I.Alloc} self.old.live.terms (Step.Perform number memory) (Some (Performed memory)) self.old.journal self.new.journal) }
+        ensures none { IfNone result ((slot_at self.old.live number ≢ Some slot) × (self.new ≡ self.old)) }
+        ensures slots { OnSome result (self.new.live.slots ≡ slots_without self.old.live.state.out self.old.live.slots number) }
+    {
+        let Some(memory) = self.live.perform(slot, number) else {
+            return None;
+        };
+        self.log
+            .push_back_reserved(Step::Perform { number, memory });
+        Some(memory)
+    }
+
+    /// The oldest reply of the session is taken. It takes no memory.
+    pub fn take(&mut self, session: u64) -> Result<Taken<I::Alloc>, NotOpen>
+        ensures step { Does {A = I.Alloc} self.old.live self.new.live (Step.Take session) (take_said result) }
+        ensures journal { JournalMove {A = I.Alloc} self.old.live.terms (Step.Take session) (Some (take_said result)) self.old.journal self.new.journal }
+        ensures slots { self.new.live.slots ≡ self.old.live.slots }
+    {
+        match self.live.take(session) {
+            Ok(Taken::Reply(reply)) => {
+                self.log.push_back_reserved(Step::Take { session });
+                Ok(Taken::Reply(reply))
+            }
+            Ok(Taken::Empty) => Ok(Taken::Empty),
+            Ok(Taken::End) => Ok(Taken::End),
+            Err(refused) => Err(refused),
+        }
+    }
+
+    /// Nothing more arrives on the session. It takes no memory.
+    pub fn leave(&mut self, session: u64) -> Result<(), NotOpen>
+        ensures step { Does {A = I.Alloc} self.old.live self.new.live (Step.Leave session) (leave_said result) }
+        ensures journal { JournalMove {A = I.Alloc} self.old.live.terms (Step.Leave session) (Some (leave_said result)) self.old.journal self.new.journal }
+        ensures slots { self.new.live.slots ≡ self.old.live.slots }
+    {
+        if let Err(refused) = self.live.leave(session) {
+            return Err(refused);
+        }
+        self.log.push_back_reserved(Step::Leave { session });
+        Ok(())
+    }
+
+    /// The session is dropped with its replies; its requests are still served. It takes no memory.
+    pub fn gone(&mut self, session: u64) -> Result<(), NotOpen>
+        ensures step { Does {A = I.Alloc} self.old.live self.new.live (Step.Gone session) (gone_said result) }
+        ensures journal { JournalMove {A = I.Alloc} self.old.live.terms (Step.Gone session) (Some (gone_said result)) self.old.journal self.new.journal }
+        ensures slots { self.new.live.slots ≡ self.old.live.slots }
+    {
+        if let Err(refused) = self.live.gone(session) {
+            return Err(refused);
+        }
+        self.log.push_back_reserved(Step::Gone { session });
+        Ok(())
+    }
+}

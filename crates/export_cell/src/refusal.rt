@@ -1,0 +1,24 @@
+//! Why a request doesn't arrive.
+
+use lone_export::ArriveRefusal;
+use nbd_wire::Request;
+use std::alloc::Allocator;
+use thiserror::Error;
+
+/// Why a request doesn't arrive.
+#[derive(Clone, Copy, Debug, PartialEq, Eq, Error)]
+pub enum ArriveFault {
+    /// The export refuses it.
+    #[error("{0}")]
+    Refused(ArriveRefusal),
+    /// No memory was there for its place in the log, or for the steps that it can bring.
+    #[error("no memory")]
+    NoMemory,
+}
+
+/// A request that didn't arrive, handed back.
+#[derive(Drop)]
+pub struct NotArrived<A: Allocator> {
+    pub fault: ArriveFault,
+    pub request: Request<A>,
+}
