@@ -17,3 +17,5 @@ pub mod Ways
 pub mod Accepting
 pub mod Goings
 pub mod Counting
+pub mod Counted
+pub mod Tagged

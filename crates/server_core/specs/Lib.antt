@@ -4,5 +4,6 @@ pub mod Members
 pub mod Tickets
 pub mod Here
 pub mod Served
+pub mod Counted
 pub mod Way
 pub mod Run

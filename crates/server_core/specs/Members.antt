@@ -168,6 +168,10 @@ Arrives old new s t q (Ok (Accepted number limit_tag)) =
 Arrives {A} old new s t q (Ok (Answered error)) = (AdmitsAt old s q → ⊥) × Went {A = A} old new (Arrive s t q) (said.Answered error)
 Arrives {A} old new s t q (Err e) = (AdmitsAt old s q → ⊥) × Went {A = A} old new (Arrive s t q) (refusal_said e.refusal)
 
+-- ---- what is told of a request that waits
+abbrev pub told_tags : Entry → (ℕ × Tags)
+told_tags entry = (entry.number, entry.tags)
+
 -- ---- the P tags fall
 abbrev pub shifted_standing : ℤ → Standing → Standing
 shifted_standing delta standing = record standing { part = part_shifted delta standing.part }

@@ -1,39 +1,29 @@
--- A run of a server, by its events and the answers that it gave.
-use Rattle.std.specs.Prelude.{◌≡◌, ℕ, Bool, List, take}
+-- What is so of a run of a server, by its events and the answers that it gave.
+use Rattle.std.specs.Prelude.{◌≡◌, List}
 use Rattle.server_table.specs.declared.event.Event.{Event}
 use Rattle.server_table.specs.declared.event.Answer.{Answer}
-use Rattle.server_table.specs.Table.{Table, Setup}
-use Rattle.server_table.specs.Steps.{last_table}
+use Rattle.server_table.specs.Table.{Setup}
+use Rattle.server_table.specs.Steps.{last_table, run_answers}
 use Rattle.server_table.specs.Shares.{marks_of}
-use Rattle.core_laws.specs.Runs.{Run, answers_in}
-use Rattle.core_laws.specs.Statements.{IsToldAsAlone, EndsAsAlone, QueueCountsItsOwn, WeightWaitsForItsLimit, HasUnrolledTags, ChoosesNoneBefore, ChoosesByLimit, ChoosesByReservation}
+use Rattle.core_laws.specs.Statements.{IsToldAsAlone, EndsAsAlone, QueuesCountTheirOwn, WeightsWait, HasUnrolledTags, ChoosesNoneBefore, ChoosesByLimit, ChoosesByReservation}
 
 module _ {A : Type 0} where
-  -- memory was there for each event as its answer tells
-  abbrev pub run_of : Setup → List (Event A) → List (Answer A) → Run A
-  run_of setup events answers = record { setup = setup; events = events; marks = marks_of answers }
-
-  -- the answers of the definition
+  -- the answers are those of the definition, with memory there for each event as its answer tells
   abbrev pub IsAnswered : Setup → List (Event A) → List (Answer A) → Type 0
-  IsAnswered setup events answers = answers ≡ answers_in (run_of setup events answers)
+  IsAnswered setup events answers = answers ≡ run_answers setup events (marks_of answers)
 
-  -- of each table that the run comes to
-  abbrev pub AtEachTable : Run A → (Table → Type 0) → Type 0
-  AtEachTable run P = (k : ℕ) → P (last_table run.setup (take k run.events) run.marks)
-
+  -- each export is told what it is told alone under its own steps, and ends as it does alone
   abbrev pub IsAlone : Setup → List (Event A) → List (Answer A) → Type 0
-  IsAlone setup events answers = IsToldAsAlone (run_of setup events answers) × EndsAsAlone (run_of setup events answers)
+  IsAlone setup events answers = IsToldAsAlone setup events answers × EndsAsAlone setup events answers (last_table setup events (marks_of answers))
 
-  abbrev pub QueuesCountTheirOwn : Setup → List (Event A) → List (Answer A) → Type 0
-  QueuesCountTheirOwn setup events answers = AtEachTable (run_of setup events answers) (QueueCountsItsOwn A setup)
+  -- an arrival is answered 5 (EIO) for the requests of its own export that wait, and for no others
+  abbrev pub CountsItsOwn : Setup → List (Event A) → List (Answer A) → Type 0
+  CountsItsOwn setup events answers = QueuesCountTheirOwn setup events answers (marks_of answers)
 
-  abbrev pub WeightsWait : Setup → List (Event A) → List (Answer A) → Type 0
-  WeightsWait setup events answers = AtEachTable (run_of setup events answers) (λ table. (t : ℕ) (memory : Bool) → WeightWaitsForItsLimit A setup table t memory)
-
-  abbrev pub TagsAreUnrolled : Setup → List (Event A) → List (Answer A) → Type 0
-  TagsAreUnrolled setup events answers = HasUnrolledTags (run_of setup events answers)
+  -- no choice by weight comes before its request's limit tag
+  abbrev pub WaitsForLimits : Setup → List (Event A) → List (Answer A) → Type 0
+  WaitsForLimits setup events answers = WeightsWait setup events answers (marks_of answers)
 
   -- none before the first accepted arrival; by weight no more than the limit allows, by reservation no more than it gives
-  abbrev pub ChoicesKeepToRates : Setup → List (Event A) → List (Answer A) → Type 0
-  ChoicesKeepToRates setup events answers =
-      ChoosesNoneBefore (run_of setup events answers) × ChoosesByLimit (run_of setup events answers) × ChoosesByReservation (run_of setup events answers)
+  abbrev pub KeepsToRates : Setup → List (Event A) → List (Answer A) → Type 0
+  KeepsToRates setup events answers = ChoosesNoneBefore setup events answers × ChoosesByLimit setup events answers × ChoosesByReservation setup events answers

@@ -1,5 +1,5 @@
 -- What a contract sees of a server, and what its calls answer, as events.
-use Rattle.std.specs.Prelude.{◌≡◌, ℕ, List, [], ◌∷◌, ◌++◌, map, get_or, Option, Some, None, Result, Ok, Err, ⊤}
+use Rattle.std.specs.Prelude.{◌≡◌, ℕ, Bool, List, [], ◌∷◌, ◌++◌, map, filter, get_or, Option, Some, None, Result, Ok, Err, ⊤}
 use Rattle.nbd_base.specs.Words.{change_at}
 use Rattle.nbd_commands.specs.Terms.{terms_of}
 use Rattle.nbd_commands.specs.Exports.{Offer}
@@ -9,7 +9,8 @@ use Rattle.reply_box.specs.declared.seat.Taken.TheVariants as taking
 use Rattle.server_table.specs.declared.event.Event.{Event}
 use Rattle.server_table.specs.declared.event.Answer.{Answer}
 use Rattle.server_table.specs.declared.event.Answer.TheVariants as said
-use Rattle.server_table.specs.Table.{Table, Setup, opening_table}
+use Rattle.server_table.specs.Order.{tags_of}
+use Rattle.server_table.specs.Table.{Table, Setup, opening_table, waits_in}
 use Rattle.server_table.specs.Steps.{step}
 use Rattle.server_table.specs.Shares.{mark_of}
 use Rattle.server_table.specs.Parts.{Part, table_of, setup_of}
@@ -44,6 +45,10 @@ opening_served setup = record { setup = setup; table = opening_table setup; seat
 -- the request is out, in that slot
 abbrev pub Holds : Served → Place → Type 0
 Holds served place = slot_in (get_or served.seats place.export []) place.number ≡ Some place.slot
+
+-- the tags of the requests of export e that wait, each with its number, in the order of their numbers
+abbrev pub waiting_tags : ℕ → Table → List (ℕ × Tags)
+waiting_tags e table = map (λ row. (row.number, tags_of row)) (filter (waits_in e) table.rows)
 
 -- ---- as it is kept
 abbrev pub parts : List Standing → List Part
@@ -107,6 +112,10 @@ module _ {A : Type 0} where
   abbrev pub dispatch_says : Option Chosen → Answer A
   dispatch_says None = said.Nothing
   dispatch_says (Some chosen) = said.Picked chosen.ticket.export chosen.ticket.number chosen.phase
+
+  abbrev pub perform_says : Option Bool → Answer A
+  perform_says None = said.NotOut
+  perform_says (Some memory) = said.Performed memory
 
 -- the seats once a request was chosen
 abbrev pub seats_chosen : Option Chosen → List (List Seat) → List (List Seat)

@@ -1,7 +1,7 @@
 //! A server by its events.
 ghost use Rattle.std.specs.Prelude.{◌≡◌};
 ghost use Rattle.server_table.specs.declared.event.Event.TheVariants as event;
-ghost use Rattle.server_core.specs.Served.{Stepped, attach_says, arrive_says, dispatch_says, take_says, leave_says, gone_says};
+ghost use Rattle.server_core.specs.Served.{Stepped, attach_says, arrive_says, dispatch_says, take_says, leave_says, gone_says, refusal_says};
 
 use crate::refusal::{ArriveRefusal, NotArrived, NotAttached, SessionRefusal};
 use crate::server::Server;
@@ -54,6 +54,15 @@ fn dispatch_answer<A: Allocator>(said: Option<Chosen>) -> Answer<A>
     }
 }
 
+fn refusal_answer<A: Allocator>(refusal: SessionRefusal) -> Answer<A>
+    ensures { result ≡ refusal_says refusal }
+{
+    match refusal {
+        SessionRefusal::NoExport => Answer::NoExport,
+        SessionRefusal::NotOpen => Answer::NotOpen,
+    }
+}
+
 fn take_answer<A: Allocator>(said: Result<Taken<A>, SessionRefusal>) -> Answer<A>
     ensures { result ≡ take_says said }
 {
@@ -61,8 +70,7 @@ fn take_answer<A: Allocator>(said: Result<Taken<A>, SessionRefusal>) -> Answer<A
         Ok(Taken::Reply(reply)) => Answer::Reply(reply),
         Ok(Taken::Empty) => Answer::Empty,
         Ok(Taken::End) => Answer::End,
-        Err(SessionRefusal::NoExport) => Answer::NoExport,
-        Err(SessionRefusal::NotOpen) => Answer::NotOpen,
+        Err(refusal) => refusal_answer(refusal),
     }
 }
 
@@ -71,8 +79,7 @@ fn leave_answer<A: Allocator>(said: Result<(), SessionRefusal>) -> Answer<A>
 {
     match said {
         Ok(()) => Answer::Left,
-        Err(SessionRefusal::NoExport) => Answer::NoExport,
-        Err(SessionRefusal::NotOpen) => Answer::NotOpen,
+        Err(refusal) => refusal_answer(refusal),
     }
 }
 
@@ -81,8 +88,7 @@ fn gone_answer<A: Allocator>(said: Result<(), SessionRefusal>) -> Answer<A>
 {
     match said {
         Ok(()) => Answer::Dropped,
-        Err(SessionRefusal::NoExport) => Answer::NoExport,
-        Err(SessionRefusal::NotOpen) => Answer::NotOpen,
+        Err(refusal) => refusal_answer(refusal),
     }
 }
 

@@ -1,5 +1,5 @@
 //! One export of a server: the export alone, and beside it the tags of its requests.
-ghost use Rattle.std.specs.Prelude.{◌≡◌, ◌≢◌, ◌<◌, ◌++◌, length, slice_get, ◌↔◌, IsTrue, IfErr, IsSome, ◌==◌, not, filter, find, is_some, IfOk, IfSome, IfNone, Some};
+ghost use Rattle.std.specs.Prelude.{◌≡◌, ◌≢◌, ◌<◌, ◌++◌, length, map, option_map, slice_get, ◌↔◌, IsTrue, IfErr, IsSome, ◌==◌, not, filter, find, is_some, IfOk, IfSome, IfNone, Some};
 ghost use Rattle.std.specs.Vec.{vec_capacity};
 ghost use Rattle.nbd_commands.specs.Terms.{terms_of};
 ghost use Rattle.nbd_commands.specs.Exports.{IsWithin};
@@ -48,7 +48,7 @@ impl<I: Image> Model for Member<I> {
 }
 
 impl<I: Image> Member<I> {
-    ghost use Rattle.server_core.specs.Members.{opening_standing, slot_in, Went, WentOr, WantsMemory, Performs, Picks, AdmitsAt, Arrives, shifted_standing};
+    ghost use Rattle.server_core.specs.Members.{opening_standing, slot_in, Went, WentOr, WantsMemory, Performs, Picks, AdmitsAt, Arrives, shifted_standing, told_tags};
     ghost use Rattle.server_table.specs.Ways.{part_shifted};
     ghost use Rattle.server_table.specs.Order.{IsNumbered, head_tags};
     ghost use Rattle.server_table.specs.Picks.{part_picked};
@@ -64,7 +64,7 @@ impl<I: Image> Member<I> {
         ensures { IfOk result (λ member. (member ≡ opening_standing inflight (terms_of config.now)) × AreShort (terms_of config.now)) }
     {
         let Some(tuning) = Tuning::new(config.reservation(), config.limit(), config.weight()) else {
-            return Err(NoMemory);
+            unreachable!();
         };
         let lone = Lone::new(alloc, config, inflight)?;
         let waiting = VecDeque::with_capacity(alloc, config.depth())?;
@@ -132,6 +132,34 @@ impl<I: Image> Member<I> {
         self.lone.waiting()
     }
 
+    /// The tags of the request that waits at this place, from 0 for the first, with its number.
+    fn tags_at(&self, place: usize) -> Option<(u64, Tags)>
+        ensures { result ≡ option_map told_tags (slice_get self.now.part.waiting place) }
+    {
+        let Some(tags) = tags_in(&self.waiting, place) else {
+            return None;
+        };
+        let Some(number) = self.lone.number_at(place) else {
+            return None;
+        };
+        Some((number, tags))
+    }
+
+    /// The tags of the requests that wait, each with its number.
+    pub(crate) fn tags(&self, alloc: I::Alloc) -> Result<Vec<(u64, Tags), I::Alloc>, NoMemory>
+        ensures { IfOk result (λ told. told.items ≡ map told_tags self.now.part.waiting) }
+    {
+        let count = self.waiting();
+        let mut told = Vec::with_capacity(alloc, count)?;
+        for place in 0..count {
+            let Some(one) = self.tags_at(place) else {
+                unreachable!();
+            };
+            told.push(one)?;
+        }
+        Ok(told)
+    }
+
     /// Whether a request of the session would wait, if it arrived.
     pub(crate) fn admits(&self, session: u64, request: &Request<I::Alloc>) -> bool
         ensures { IsTrue result ↔ AdmitsAt self.now session request.now }
@@ -151,7 +179,7 @@ impl<I: Image> Member<I> {
         ensures arrives { Arrives {A = I.Alloc} self.old self.new session moment request result }
         ensures back { IfErr result (λ e. e.request ≡ request) }
     {
-        // A moment is below 2^62.
+        // Asked for what its contract tells: a moment is below 2^62.
         let _ = moment.nanoseconds();
         match self.lone.arrive(session, moment, request) {
             Ok(Arrived::Accepted { number, limit_tag }) => {
@@ -180,7 +208,7 @@ impl<I: Image> Member<I> {
     pub(crate) fn first(&self) -> Option<Tags>
         ensures { result ≡ head_tags self.now.part.waiting }
     {
-        first_of(&self.waiting)
+        tags_in(&self.waiting, 0)
     }
 
     /// The first request that waits is in service now, chosen by this phase.
@@ -220,10 +248,10 @@ impl<I: Image> Member<I> {
     }
 }
 
-fn first_of<A: Allocator>(waiting: &VecDeque<Tags, A>) -> Option<Tags>
-    ensures { result ≡ slice_get waiting.now.items 0 }
+fn tags_in<A: Allocator>(waiting: &VecDeque<Tags, A>, place: usize) -> Option<Tags>
+    ensures { result ≡ slice_get waiting.now.items place }
 {
-    match waiting.front() {
+    match waiting.get(place) {
         Some(tags) => Some(*tags),
         None => None,
     }

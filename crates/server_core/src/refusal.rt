@@ -31,6 +31,16 @@ pub enum NotAttached {
     NoMemory,
 }
 
+/// Why no tags are told.
+#[derive(Clone, Copy, Debug, PartialEq, Eq, Error)]
+pub enum NoTags {
+    /// There is no such export.
+    #[error("no export")]
+    NoExport,
+    #[error("no memory")]
+    NoMemory,
+}
+
 /// Why an arrival is refused.
 #[derive(Clone, Copy, Debug, PartialEq, Eq, Error)]
 pub enum ArriveRefusal {

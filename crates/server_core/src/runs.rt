@@ -1,7 +1,8 @@
 //! A whole run of a server.
 ghost use Rattle.std.specs.Prelude.{◌≡◌, IfOk};
+ghost use Rattle.core_laws.specs.Statements.{HasUnrolledTags};
 ghost use Rattle.server_core.specs.Served.{setup_for};
-ghost use Rattle.server_core.specs.Run.{IsAnswered, IsAlone, QueuesCountTheirOwn, WeightsWait, TagsAreUnrolled, ChoicesKeepToRates};
+ghost use Rattle.server_core.specs.Run.{IsAnswered, IsAlone, CountsItsOwn, WaitsForLimits, KeepsToRates};
 
 use crate::server::Server;
 use core_laws::{
@@ -25,17 +26,12 @@ pub fn run<I: Image, E: Eligibility<Alloc = I::Alloc>>(
 ) -> Result<Vec<Answer<I::Alloc>, I::Alloc>, NoMemory>
     ensures answers { IfOk result (λ answers. IsAnswered (setup_for config.now) events.items answers.items) }
     ensures alone { IfOk result (λ answers. IsAlone (setup_for config.now) events.items answers.items) }
-    ensures queue { IfOk result (λ answers. QueuesCountTheirOwn (setup_for config.now) events.items answers.items) }
-    ensures weight { IfOk result (λ answers. WeightsWait (setup_for config.now) events.items answers.items) }
-    ensures tags { IfOk result (λ answers. TagsAreUnrolled (setup_for config.now) events.items answers.items) }
-    ensures counts { IfOk result (λ answers. ChoicesKeepToRates (setup_for config.now) events.items answers.items) }
+    ensures queue { IfOk result (λ answers. CountsItsOwn (setup_for config.now) events.items answers.items) }
+    ensures weight { IfOk result (λ answers. WaitsForLimits (setup_for config.now) events.items answers.items) }
+    ensures tags { IfOk result (λ answers. HasUnrolledTags (setup_for config.now) events.items answers.items) }
+    ensures counts { IfOk result (λ answers. KeepsToRates (setup_for config.now) events.items answers.items) }
 {
-    let mut server: Server<I, E> = Server::new(alloc, config)?;
-    let mut answers = Vec::new(alloc);
-    for event in events {
-        let answer = server.event(event);
-        answers.push(answer)?;
-    }
+    let answers = answer_each::<I, E>(alloc, config, events)?;
     // What the definition promises of every run, it promises of this one.
     projection::<I::Alloc>();
     queue_refusal::<I::Alloc>();
@@ -43,4 +39,21 @@ pub fn run<I: Image, E: Eligibility<Alloc = I::Alloc>>(
     limit_tags_unrolled::<I::Alloc>();
     choice_count::<I::Alloc>();
     Ok(answers)
+}
+
+/// The answers of a new server to the events.
+fn answer_each<I: Image, E: Eligibility<Alloc = I::Alloc>>(
+    alloc: I::Alloc,
+    config: &Config<I::Alloc>,
+    events: Vec<Event<I::Alloc>, I::Alloc>,
+) -> Result<Vec<Answer<I::Alloc>, I::Alloc>, NoMemory>
+    ensures { IfOk result (λ told. IsAnswered (setup_for config.now) events.items told.items) }
+{
+    let mut server: Server<I, E> = Server::new(alloc, config)?;
+    let mut told = Vec::new(alloc);
+    for event in events {
+        let answer = server.event(event);
+        told.push(answer)?;
+    }
+    Ok(told)
 }

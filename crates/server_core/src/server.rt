@@ -1,5 +1,5 @@
 //! The server.
-ghost use Rattle.std.specs.Prelude.{◌≡◌, ◌≤◌, ◌<◌, ◌^◌, not, filter, map, length, find, is_some, slice_set, IfOk, IfErr, IfSome, IfNone, OnSome};
+ghost use Rattle.std.specs.Prelude.{◌≡◌, ◌↔◌, ◌+◌, ◌≤◌, ◌<◌, ◌^◌, not, filter, map, length, find, is_some, slice_set, IfOk, IfErr, IfSome, IfNone, OnSome};
 ghost use Rattle.eligibility.specs.Choice.{IsActive, IsSlotInRange};
 ghost use Rattle.nbd_base.specs.Words.{change_at};
 ghost use Rattle.server_table.specs.Steps.{is_out_row};
@@ -13,7 +13,7 @@ ghost use Rattle.server_core.specs.Here.{here as told_here, attached as told_att
 ghost use Rattle.server_table.specs.declared.event.Event.TheVariants as event;
 
 use crate::member::Member;
-use crate::refusal::{ArriveRefusal, NotArrived, NotAttached, SessionRefusal};
+use crate::refusal::{ArriveRefusal, NoTags, NotArrived, NotAttached, SessionRefusal};
 use crate::session::SessionId;
 use crate::ticket::{Chosen, Ticket};
 use crate::way::{make_way, put_first};
@@ -144,7 +144,8 @@ fn arrived<A: Allocator>(
 }
 
 impl<I: Image, E: Eligibility<Alloc = I::Alloc>> Server<I, E> {
-    ghost use Rattle.server_core.specs.Served.{Holds, Stepped, attach_says, leave_says, gone_says, take_says, arrive_says, dispatch_says, seats_chosen, opening_served, setup_for};
+    ghost use Rattle.server_core.specs.Served.{Holds, Stepped, attach_says, leave_says, gone_says, take_says, arrive_says, dispatch_says, perform_says, seats_chosen, opening_served, setup_for, waiting_tags};
+    ghost use Rattle.server_core.specs.Counted.{counted_steps, rise, IsSound};
 
     /// A server of the exports of a configuration, each in its opening state.
     pub fn new(alloc: I::Alloc, config: &Config<I::Alloc>) -> Result<Self, NoMemory>
@@ -177,9 +178,31 @@ impl<I: Image, E: Eligibility<Alloc = I::Alloc>> Server<I, E> {
         steps_of(&self.members)
     }
 
+    /// Tells what is true of every server.
+    pub fn kept(&self)
+        ensures { IsSound self.now }
+    {
+        let _ = &self.served;
+    }
+
+    /// The tags of an export's requests that wait, each with its number, in the order of their numbers.
+    pub fn tags(&self, alloc: I::Alloc, export: u32) -> Result<Vec<(u64, Tags), I::Alloc>, NoTags>
+        ensures told { IfOk result (λ told. (export < length self.now.setup.exports) × (told.items ≡ waiting_tags export self.now.table)) }
+        ensures refused { IfErr result (λ e. e ≡ NoTags.NoExport ↔ (length self.now.setup.exports ≤ export)) }
+    {
+        if export as usize >= self.members.len() {
+            return Err(NoTags::NoExport);
+        }
+        match self.members[export as usize].tags(alloc) {
+            Ok(told) => Ok(told),
+            Err(NoMemory) => Err(NoTags::NoMemory),
+        }
+    }
+
     /// Nothing more arrives on a session that is open. It takes no memory.
     pub fn leave(&mut self, session: SessionId) -> Result<(), SessionRefusal>
         ensures step { Stepped {A = I.Alloc} self.old (event.Leave session.export session.number) self.new (leave_says result) }
+        ensures counted { counted_steps self.new ≡ counted_steps self.old + rise {A = I.Alloc} (leave_says result) }
         ensures seats { self.new.seats ≡ self.old.seats }
     {
         if session.export as usize >= self.members.len() {
@@ -192,6 +215,7 @@ impl<I: Image, E: Eligibility<Alloc = I::Alloc>> Server<I, E> {
     /// A session that isn't gone is dropped with its replies; its requests are still served. It takes no memory.
     pub fn gone(&mut self, session: SessionId) -> Result<(), SessionRefusal>
         ensures step { Stepped {A = I.Alloc} self.old (event.Gone session.export session.number) self.new (gone_says result) }
+        ensures counted { counted_steps self.new ≡ counted_steps self.old + rise {A = I.Alloc} (gone_says result) }
         ensures seats { self.new.seats ≡ self.old.seats }
     {
         if session.export as usize >= self.members.len() {
@@ -204,6 +228,7 @@ impl<I: Image, E: Eligibility<Alloc = I::Alloc>> Server<I, E> {
     /// The oldest reply of a session that isn't gone is taken. It takes no memory.
     pub fn take_reply(&mut self, session: SessionId) -> Result<Taken<I::Alloc>, SessionRefusal>
         ensures step { Stepped {A = I.Alloc} self.old (event.Take session.export session.number) self.new (take_says result) }
+        ensures counted { counted_steps self.new ≡ counted_steps self.old + rise {A = I.Alloc} (take_says result) }
         ensures seats { self.new.seats ≡ self.old.seats }
     {
         if session.export as usize >= self.members.len() {
@@ -216,6 +241,7 @@ impl<I: Image, E: Eligibility<Alloc = I::Alloc>> Server<I, E> {
     /// Opens a session of an export.
     pub fn attach(&mut self, export: u32) -> Result<SessionId, NotAttached>
         ensures step { Stepped {A = I.Alloc} self.old (event.Attach export) self.new (attach_says result) }
+        ensures counted { counted_steps self.new ≡ counted_steps self.old + rise {A = I.Alloc} (attach_says result) }
         ensures seats { self.new.seats ≡ self.old.seats }
         ensures export { IfOk result (λ session. session.export ≡ export) }
     {
@@ -250,6 +276,7 @@ impl<I: Image, E: Eligibility<Alloc = I::Alloc>> Server<I, E> {
         ensures some { IfSome result (λ memory. Holds self.old ticket
             × Stepped {A = I.Alloc} self.old (event.Perform ticket.export ticket.number) self.new (answer.Performed memory)) }
         ensures none { IfNone result ((Holds self.old ticket → ⊥) × (self.new ≡ self.old)) }
+        ensures counted { counted_steps self.new ≡ counted_steps self.old + rise {A = I.Alloc} (perform_says result) }
         ensures seats { OnSome result (self.new.seats ≡ change_at (seats_without ticket.number) ticket.export self.old.seats) }
     {
         if ticket.export as usize >= self.members.len() {
@@ -272,6 +299,7 @@ impl<I: Image, E: Eligibility<Alloc = I::Alloc>> Server<I, E> {
         request: Request<I::Alloc>,
     ) -> Result<Arrived, NotArrived<I::Alloc>>
         ensures step { Stepped {A = I.Alloc} self.old (event.Arrive session.export session.number moment request) self.new (arrive_says result) }
+        ensures counted { counted_steps self.new ≡ counted_steps self.old + rise {A = I.Alloc} (arrive_says result) }
         ensures seats { self.new.seats ≡ self.old.seats }
         ensures back { IfErr result (λ e. e.request ≡ request) }
     {
@@ -288,7 +316,7 @@ impl<I: Image, E: Eligibility<Alloc = I::Alloc>> Server<I, E> {
             let member = &mut self.members[session.export as usize];
             return arrived(member.arrive(session.number, moment, request));
         }
-        // A moment is below 2^62.
+        // Asked for what its contract tells: a moment is below 2^62.
         let _ = moment.nanoseconds();
         make_way(&mut self.members, &mut self.eligible, waiting, moment);
         let member = &mut self.members[session.export as usize];
@@ -302,6 +330,7 @@ impl<I: Image, E: Eligibility<Alloc = I::Alloc>> Server<I, E> {
     /// request scheduling). It takes no memory.
     pub fn dispatch(&mut self, moment: Moment) -> Option<Chosen>
         ensures step { Stepped {A = I.Alloc} self.old (event.Dispatch moment) self.new (dispatch_says result) }
+        ensures counted { counted_steps self.new ≡ counted_steps self.old + rise {A = I.Alloc} (dispatch_says result) }
         ensures ticket { IfSome result (λ chosen. Holds self.new chosen.ticket) }
         ensures seats { self.new.seats ≡ seats_chosen result self.old.seats }
     {

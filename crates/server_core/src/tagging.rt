@@ -96,3 +96,20 @@ pub(crate) fn give_credit<A: Allocator>(
         _ => {}
     }
 }
+
+#[cfg(test)]
+mod tests {
+    use super::*;
+
+    // No limit on the credit stands in the rules: a tag may fall below zero.
+    #[test]
+    fn credit_falls_below_zero(rt: HostRuntime) {
+        let mut tags = Tags {
+            r: Some(5),
+            l: 7,
+            p: 9,
+        };
+        credit(&mut tags, 250_000_000);
+        assert_eq!(rt; (tags.r, tags.l, tags.p), (Some(-249_999_995), 7, 9));
+    }
+}

@@ -1,386 +1,331 @@
+//! Scripts of events, each on a server and by `run`, with both forms of eligibility. The expected tags, choices and answers
+//! were worked out from the rules of the scheduler, apart from this program.
+
 use crate::*;
 use bytes::Bytes;
 use eligibility::{Eligibility, Heaped, Listed};
-use export_store::Flat;
-use lone_export::Arrived;
+use export_store::Paged;
 use nbd_commands::{Config, ExportList, ExportSettings};
 use nbd_wire::protocol::{FLUSH, READ, WRITE};
 use nbd_wire::{Request, RequestHead};
 use refusing::Refusing;
-use reply_box::Taken;
 use server_table::{Answer, Event};
 use std::alloc::Global;
 use std::test::Fail;
 use tag_clock::{Moment, Phase};
 
-type Tried<E> = Server<Flat<Global>, E>;
+type Tried<E> = Server<Paged<Global>, E>;
+
+/// What a script shows; its exports, each by its reservation, limit, weight, depth and window; how many requests may be in
+/// service; and its turns, `EVENT: ANSWER`.
+type Script = (&'static str, &'static [[u64; 5]], u64, &'static str);
+
+const SCRIPTS: [Script; 13] = [
+    (
+        "twice the weight is served twice as often, and equal tags go to the lower export",
+        &[[0, 0, 1, 8, 8], [0, 0, 2, 8, 8]],
+        32,
+        "attach 0: session 0; attach 1: session 0; read 0 0 0 1: accepted 0 0; read 0 0 0 2: accepted 1 0; read 1 0 0 1: accepted 0 0; read 1 0 0 2: accepted 1 0; dispatch 0: weight 0 0; dispatch 0: weight 1 0; dispatch 0: weight 1 1; dispatch 0: weight 0 1; dispatch 0: none",
+    ),
+    (
+        "a limit holds back, and the server's time doesn't fall",
+        &[[0, 10, 1, 8, 8]],
+        32,
+        "attach 0: session 0; read 0 0 0 1: accepted 0 0; read 0 0 0 2: accepted 1 100000000; read 0 0 0 3: accepted 2 200000000; dispatch 0: weight 0 0; perform 0 0: performed; dispatch 99999999: none; dispatch 100000000: weight 0 1; dispatch 5: none; dispatch 200000000: weight 0 2",
+    ),
+    (
+        "limit tags follow the arrivals, not the server's time, which a dispatch that chooses nothing keeps",
+        &[[0, 10, 1, 8, 8]],
+        32,
+        "attach 0: session 0; dispatch 100000000: none; read 0 0 0 1: accepted 0 0; read 0 0 0 2: accepted 1 100000000; dispatch 0: weight 0 0; dispatch 0: weight 0 1",
+    ),
+    (
+        "moments of arrivals may fall",
+        &[[0, 10, 1, 8, 8]],
+        32,
+        "attach 0: session 0; read 0 0 10 1: accepted 0 10; read 0 0 0 2: accepted 1 100000010",
+    ),
+    (
+        "a choice by weight is credited in the tag of what waits, and in the last one",
+        &[[4, 0, 1, 8, 8]],
+        32,
+        "attach 0: session 0; read 0 0 0 1: accepted 0 0; read 0 0 0 2: accepted 1 0; dispatch 0: reservation 0 0; dispatch 0: weight 0 1; read 0 0 0 3: accepted 2 0; tags 0: 2 250000000 0 2000000000; read 0 0 0 4: accepted 3 0; dispatch 0: weight 0 2; tags 0: 3 250000000 0 3000000000",
+    ),
+    (
+        "a due reservation goes before a greater weight",
+        &[[0, 0, 1000000, 8, 8], [1, 0, 1, 8, 8]],
+        32,
+        "attach 0: session 0; attach 1: session 0; read 0 0 0 1: accepted 0 0; read 1 0 0 1: accepted 0 0; dispatch 0: reservation 1 0; dispatch 0: weight 0 0",
+    ),
+    (
+        "an arrival to an idle export takes the others' P tags down to its moment",
+        &[[0, 0, 1, 8, 8], [0, 0, 1, 8, 8]],
+        32,
+        "attach 0: session 0; attach 1: session 0; read 0 0 0 1: accepted 0 0; read 0 0 0 2: accepted 1 0; read 0 0 0 3: accepted 2 0; dispatch 0: weight 0 0; dispatch 0: weight 0 1; read 1 0 5 1: accepted 0 5; tags 0: 2 - 0 5; tags 1: 0 - 5 5; dispatch 5: weight 0 2; tags 0: ; tags 2: no export",
+    ),
+    (
+        "a shift leaves R and L tags, and one to a later moment takes the P tags up, the last one with them",
+        &[[1, 10, 1, 8, 8], [0, 0, 1, 8, 8]],
+        32,
+        "attach 0: session 0; attach 1: session 0; read 0 0 0 1: accepted 0 0; read 0 0 0 2: accepted 1 100000000; dispatch 0: reservation 0 0; tags 0: 1 1000000000 100000000 1000000000; read 1 0 5 1: accepted 0 5; tags 0: 1 1000000000 100000000 5; dispatch 5: weight 1 0; read 1 0 2000000005 2: accepted 1 2000000005; read 0 0 0 3: accepted 2 200000000; tags 0: 1 1000000000 100000000 2000000005, 2 2000000000 200000000 3000000005; tags 1: 1 - 2000000005 2000000005",
+    ),
+    (
+        "an idle export keeps its last P tag, though the others' fall",
+        &[[0, 0, 1, 8, 8], [0, 0, 1, 8, 8]],
+        32,
+        "attach 0: session 0; attach 1: session 0; read 1 0 0 1: accepted 0 0; dispatch 0: weight 1 0; read 0 0 0 1: accepted 0 0; read 0 0 0 2: accepted 1 0; dispatch 0: weight 0 0; read 1 0 5 2: accepted 1 5; tags 1: 1 - 5 1000000000; read 0 0 5 3: accepted 2 5; tags 0: 1 - 0 5, 2 - 5 1000000005",
+    ),
+    (
+        "a queue counts its own requests, and a reply of error 5 comes in its turn",
+        &[[0, 0, 1, 2, 8], [0, 0, 1, 8, 8]],
+        32,
+        "attach 0: session 0; attach 1: session 0; read 0 0 0 1: accepted 0 0; read 0 0 0 2: accepted 1 0; read 1 0 0 1: accepted 0 0; read 1 0 0 2: accepted 1 0; read 1 0 0 3: accepted 2 0; read 0 0 0 3: answered 5; dispatch 0: weight 0 0; read 0 0 0 4: accepted 2 0; take 0 0: reply 3 5 []",
+    ),
+    (
+        "one in service at once, of all exports together",
+        &[[0, 0, 1, 8, 8], [0, 0, 1, 8, 8]],
+        1,
+        "attach 0: session 0; attach 1: session 0; read 0 0 0 1: accepted 0 0; read 1 0 0 1: accepted 0 0; dispatch 0: weight 0 0; dispatch 0: none; perform 1 0: not out; perform 0 0: performed; dispatch 0: weight 1 0",
+    ),
+    (
+        "a window of one holds until the reply is taken; a request past the end is refused for itself, and changes no byte",
+        &[[0, 0, 1, 8, 1]],
+        32,
+        "attach 0: session 0; attach 0: session 1; read 0 0 0 1: accepted 0 0; read 0 0 0 2: hold; dispatch 0: weight 0 0; perform 0 0: performed; read 0 0 0 2: hold; take 0 0: reply 1 0 [0, 0, 0, 0]; beyond 0 0 0 2: answered 28; take 0 0: reply 2 28 []; read 0 0 0 3: accepted 1 0; dispatch 0: weight 0 1; perform 0 1: performed; take 0 0: reply 3 0 [0, 0, 0, 0]; attach 9: no export; read 9 0 0 1: no export; read 0 2 0 1: not open; take 9 0: no export; leave 9 0: no export; gone 9 0: no export; gone 0 2: not open",
+    ),
+    (
+        "the write of a session that is gone is still done, once, and another session reads it",
+        &[[0, 0, 1, 8, 8]],
+        32,
+        "attach 0: session 0; attach 0: session 1; write 0 0 0 1: accepted 0 0; dispatch 0: weight 0 0; gone 0 0: gone; perform 0 0: performed; perform 0 0: not out; read 0 1 0 2: accepted 1 0; dispatch 0: weight 0 1; perform 0 1: performed; take 0 1: reply 2 0 [222, 173, 190, 239]; take 0 1: empty; take 0 0: not open; leave 0 1: left; take 0 1: end; gone 0 1: gone",
+    ),
+];
 
 fn at(nanoseconds: u64) -> Moment {
     Moment::new(nanoseconds).unwrap_or(Moment::zero())
 }
 
-fn rates(reservation: u64, limit: u64, weight: u64) -> ExportSettings<'static> {
-    let mut settings = ExportSettings::new(b"a", 4096);
-    settings.reservation = reservation;
-    settings.limit = limit;
-    settings.weight = weight;
+fn settings(name: &'static [u8], rates: &[u64; 5]) -> ExportSettings<'static> {
+    let mut settings = ExportSettings::new(name, 4);
+    settings.reservation = rates[0];
+    settings.limit = rates[1];
+    settings.weight = rates[2];
+    settings.depth = rates[3];
+    settings.window = rates[4];
     settings
 }
 
-// A server of two exports, the second of weight 1, with a session of each.
-fn server_of<E: Eligibility<Alloc = Global>>(
-    alloc: Global,
-    first: &ExportSettings<'static>,
-    second: &ExportSettings<'static>,
-    inflight: u64,
-) -> Option<Tried<E>> {
+fn config_of(alloc: Global, exports: &[[u64; 5]], inflight: u64) -> Option<Config<Global>> {
     let mut list = ExportList::new(alloc);
-    list.add(first).ok()?;
-    let mut other = *second;
-    other.name = b"b";
-    list.add(&other).ok()?;
-    let config = Config::new(list, inflight).ok()?;
-    let mut server = Server::new(alloc, &config).ok()?;
-    server.attach(0).ok()?;
-    server.attach(1).ok()?;
-    Some(server)
+    for (name, rates) in [b"a", b"b"].iter().zip(exports) {
+        list.add(&settings(name.as_slice(), rates)).ok()?;
+    }
+    Config::new(list, inflight).ok()
 }
 
-fn read_of(cookie: u64) -> Request<Global> {
+/// A request of 4 bytes: a READ, a WRITE, or a WRITE past the end.
+fn request_of(alloc: Global, name: &str, cookie: u64) -> Option<Request<Global>> {
+    let (kind, offset) = match name {
+        "read" => (READ, 0),
+        "write" => (WRITE, 0),
+        "beyond" => (WRITE, 1),
+        _ => return None,
+    };
     let head = RequestHead {
         flags: 0,
-        kind: READ,
+        kind,
         cookie,
-        offset: 0,
+        offset,
         length: 4,
     };
-    Request::new(head, Bytes::new())
+    if kind == READ {
+        return Some(Request::new(head, Bytes::new()));
+    }
+    let written = [0xde, 0xad, 0xbe, 0xef];
+    let payload = Bytes::copy_from_slice(alloc, written.as_slice()).ok()?;
+    Some(Request::new(head, payload))
 }
 
-// A READ arrives: its number and limit tag, where it waits.
-fn sent<E: Eligibility<Alloc = Global>>(
+/// The event of a line: an arrival by its export, session, moment and cookie.
+fn event_of(alloc: Global, line: &str) -> Option<Event<Global>> {
+    let mut words = line.split(' ');
+    let name = words.next()?;
+    let mut numbers = [0u64; 4];
+    for (number, word) in numbers.iter_mut().zip(words) {
+        *number = word.parse().ok()?;
+    }
+    let [first, session, moment, cookie] = numbers;
+    let number = session;
+    let export = u32::try_from(first).unwrap_or(u32::MAX);
+    Some(match name {
+        "attach" => Event::Attach { export },
+        "dispatch" => Event::Dispatch { moment: at(first) },
+        "perform" => Event::Perform { export, number },
+        "take" => Event::Take { export, session },
+        "leave" => Event::Leave { export, session },
+        "gone" => Event::Gone { export, session },
+        _ => Event::Arrive {
+            export,
+            session,
+            moment: at(moment),
+            request: request_of(alloc, name, cookie)?,
+        },
+    })
+}
+
+fn text_of(alloc: Global, answer: &Answer<Global>) -> Result<String<Global>, Fail> {
+    Ok(match answer {
+        Answer::Session(number) => format!(in alloc; "session {number}")?,
+        Answer::Accepted { number, limit_tag } => {
+            format!(in alloc; "accepted {number} {limit_tag}")?
+        }
+        Answer::Answered(error) => format!(in alloc; "answered {error}")?,
+        Answer::Picked {
+            export,
+            number,
+            phase: Phase::Reservation,
+        } => format!(in alloc; "reservation {export} {number}")?,
+        Answer::Picked {
+            export,
+            number,
+            phase: Phase::Weight,
+        } => format!(in alloc; "weight {export} {number}")?,
+        Answer::Reply(reply) => {
+            let (cookie, error) = (reply.cookie(), reply.error());
+            let content = reply.content().as_slice();
+            format!(in alloc; "reply {cookie} {error} {content:?}")?
+        }
+        other => String::from_str(alloc, word_of(other))?,
+    })
+}
+
+fn word_of(answer: &Answer<Global>) -> &'static str {
+    match answer {
+        Answer::Nothing => "none",
+        Answer::Performed { memory: true } => "performed",
+        Answer::Empty => "empty",
+        Answer::End => "end",
+        Answer::Left => "left",
+        Answer::Dropped => "gone",
+        Answer::NoExport => "no export",
+        Answer::NotOpen => "not open",
+        Answer::Full => "full",
+        Answer::Hold => "hold",
+        Answer::NotOut => "not out",
+        _ => "another answer",
+    }
+}
+
+/// The tags of the requests of an export that wait, as a text.
+fn tags_text<E: Eligibility<Alloc = Global>>(
+    alloc: Global,
+    server: &Tried<E>,
+    export: &str,
+) -> Result<String<Global>, Fail> {
+    let told = match server.tags(alloc, export.parse().ok().ok_or("an export")?) {
+        Ok(told) => told,
+        Err(refusal) => return Ok(format!(in alloc; "{refusal}")?),
+    };
+    let mut text = String::new(alloc);
+    for (number, tags) in &told {
+        let between = if text.is_empty() { "" } else { ", " };
+        match tags.r {
+            Some(r) => write!(text, "{between}{number} {r} {} {}", tags.l, tags.p)?,
+            None => write!(text, "{between}{number} - {} {}", tags.l, tags.p)?,
+        }
+    }
+    Ok(text)
+}
+
+/// What a server answers to a line.
+fn told_by<E: Eligibility<Alloc = Global>>(
+    alloc: Global,
     server: &mut Tried<E>,
-    export: u32,
-    nanoseconds: u64,
-) -> Option<(u64, i128)> {
-    let session = SessionId { export, number: 0 };
-    match server
-        .arrive(session, at(nanoseconds), read_of(nanoseconds))
-        .ok()?
-    {
-        Arrived::Accepted { number, limit_tag } => Some((number, limit_tag)),
-        Arrived::Answered(_) => None,
+    line: &str,
+) -> Result<String<Global>, Fail> {
+    if let Some(export) = line.strip_prefix("tags ") {
+        return tags_text(alloc, server, export);
     }
+    let event = event_of(alloc, line).ok_or("an event")?;
+    text_of(alloc, &server.event(event))
 }
 
-fn chosen<E: Eligibility<Alloc = Global>>(
-    server: &mut Tried<E>,
-    nanoseconds: u64,
-) -> Option<(u32, u64, Phase)> {
-    let chosen = server.dispatch(at(nanoseconds))?;
-    Some((chosen.ticket.export(), chosen.ticket.number(), chosen.phase))
+/// Whether a server answers each line of a script as it says.
+fn serves<E: Eligibility<Alloc = Global>>(alloc: Global, script: &Script) -> Result<bool, Fail> {
+    let config = config_of(alloc, script.1, script.2).ok_or("configured")?;
+    let mut server: Tried<E> = Server::new(alloc, &config)?;
+    for turn in script.3.split("; ") {
+        let (line, expected) = turn.split_once(": ").ok_or("an answer")?;
+        if told_by(alloc, &mut server, line)?.as_str() != expected {
+            return Ok(false);
+        }
+    }
+    Ok(true)
 }
 
-// By weight the second export, with twice the weight, is served twice as often; equal tags go to the first.
-fn by_weight<E: Eligibility<Alloc = Global>>(
-    alloc: Global,
-) -> Option<[Option<(u32, u64, Phase)>; 4]> {
-    let mut server: Tried<E> = server_of(alloc, &rates(0, 0, 1), &rates(0, 0, 2), 32)?;
-    for export in [0u32, 0, 1, 1] {
-        sent(&mut server, export, 0)?;
+/// Whether `run` answers the events of a script as it says.
+fn runs<E: Eligibility<Alloc = Global>>(alloc: Global, script: &Script) -> Result<bool, Fail> {
+    let config = config_of(alloc, script.1, script.2).ok_or("configured")?;
+    let mut events = Vec::new(alloc);
+    for turn in script.3.split("; ") {
+        let (line, _) = turn.split_once(": ").ok_or("an answer")?;
+        if !line.starts_with("tags ") {
+            events.push(event_of(alloc, line).ok_or("an event")?)?;
+        }
     }
-    Some([
-        chosen(&mut server, 0),
-        chosen(&mut server, 0),
-        chosen(&mut server, 0),
-        chosen(&mut server, 0),
-    ])
+    let answers = run::<Paged<Global>, E>(alloc, &config, events)?;
+    let mut told = answers.iter();
+    for turn in script.3.split("; ") {
+        let (line, expected) = turn.split_once(": ").ok_or("an answer")?;
+        if !line.starts_with("tags ") {
+            let answer = told.next().ok_or("told")?;
+            if text_of(alloc, answer)?.as_str() != expected {
+                return Ok(false);
+            }
+        }
+    }
+    Ok(told.next().is_none())
 }
 
 #[test]
-fn weights_share(rt: HostRuntime) -> Result<(), Fail> {
-    let expected = Some([
-        Some((0, 0, Phase::Weight)),
-        Some((1, 0, Phase::Weight)),
-        Some((1, 1, Phase::Weight)),
-        Some((0, 1, Phase::Weight)),
-    ]);
-    assert_eq!(rt; by_weight::<Listed<Global>>(rt.alloc()), expected);
-    assert_eq!(rt; by_weight::<Heaped<Global>>(rt.alloc()), expected);
+fn scripts_go_as_they_say(rt: HostRuntime) -> Result<(), Fail> {
+    let alloc = rt.alloc();
+    for script in &SCRIPTS {
+        let listed = serves::<Listed<Global>>(alloc, script)?;
+        let heaped = serves::<Heaped<Global>>(alloc, script)?;
+        assert!(rt; listed && heaped, "{}", script.0);
+        let listed = runs::<Listed<Global>>(alloc, script)?;
+        let heaped = runs::<Heaped<Global>>(alloc, script)?;
+        assert!(rt; listed && heaped, "{}, by run", script.0);
+    }
     Ok(())
 }
 
-// A limit of 10 a second holds back what is served by weight, and its tags don't follow the dispatches.
-fn by_limit<E: Eligibility<Alloc = Global>>(
-    alloc: Global,
-) -> Option<([Option<(u64, i128)>; 2], [Option<(u32, u64, Phase)>; 5])> {
-    let mut server: Tried<E> = server_of(alloc, &rates(0, 10, 1), &rates(0, 0, 1), 32)?;
-    let nothing = chosen(&mut server, 50_000_000);
-    let accepted = [sent(&mut server, 0, 0), sent(&mut server, 0, 0)];
-    Some((
-        accepted,
-        [
-            nothing,
-            chosen(&mut server, 0),
-            chosen(&mut server, 99_999_999),
-            chosen(&mut server, 100_000_000),
-            chosen(&mut server, 5),
-        ],
-    ))
-}
-
+// A ticket is found while its request is in service, and is good once. A request that is refused comes back.
 #[test]
-fn limits_hold_back(rt: HostRuntime) -> Result<(), Fail> {
-    let expected = Some((
-        [Some((0, 0)), Some((1, 100_000_000))],
-        [
-            None,
-            Some((0, 0, Phase::Weight)),
-            None,
-            Some((0, 1, Phase::Weight)),
-            None,
-        ],
-    ));
-    assert_eq!(rt; by_limit::<Listed<Global>>(rt.alloc()), expected);
-    assert_eq!(rt; by_limit::<Heaped<Global>>(rt.alloc()), expected);
-    Ok(())
-}
-
-// A reservation that is due goes before any weight; a choice by weight is credited, so that the third is due at 250 ms.
-fn by_reservation<E: Eligibility<Alloc = Global>>(
-    alloc: Global,
-) -> Option<[Option<(u32, u64, Phase)>; 5]> {
-    let mut server: Tried<E> = server_of(alloc, &rates(0, 0, 1_000_000), &rates(4, 0, 1), 32)?;
-    sent(&mut server, 0, 0)?;
-    sent(&mut server, 1, 0)?;
-    sent(&mut server, 1, 0)?;
-    let first = chosen(&mut server, 0);
-    let second = chosen(&mut server, 0);
-    let third = chosen(&mut server, 0);
-    sent(&mut server, 0, 0)?;
-    sent(&mut server, 1, 0)?;
-    Some([
-        first,
-        second,
-        third,
-        chosen(&mut server, 249_999_999),
-        chosen(&mut server, 250_000_000),
-    ])
-}
-
-#[test]
-fn reservations_go_first(rt: HostRuntime) -> Result<(), Fail> {
-    let expected = Some([
-        Some((1, 0, Phase::Reservation)),
-        Some((0, 0, Phase::Weight)),
-        Some((1, 1, Phase::Weight)),
-        Some((0, 1, Phase::Weight)),
-        Some((1, 2, Phase::Reservation)),
-    ]);
-    assert_eq!(rt; by_reservation::<Listed<Global>>(rt.alloc()), expected);
-    assert_eq!(rt; by_reservation::<Heaped<Global>>(rt.alloc()), expected);
-    Ok(())
-}
-
-// An arrival to an idle export makes the others' P tags fall, so that it doesn't go before all of them.
-fn by_shift<E: Eligibility<Alloc = Global>>(
-    alloc: Global,
-) -> Option<[Option<(u32, u64, Phase)>; 3]> {
-    let mut server: Tried<E> = server_of(alloc, &rates(0, 0, 1), &rates(0, 0, 1), 32)?;
-    for _ in 0..3u64 {
-        sent(&mut server, 0, 0)?;
+fn tickets_are_good_once(rt: HostRuntime) -> Result<(), Fail> {
+    let alloc = rt.alloc();
+    let config = config_of(alloc, &[[0, 0, 1, 8, 1]], 1).ok_or("configured")?;
+    let mut server: Tried<Heaped<Global>> = Server::new(alloc, &config)?;
+    let session = server.attach(0).ok().ok_or("a session")?;
+    assert_eq!(rt; (session.export, session.number), (0, 0));
+    let request = request_of(alloc, "read", 1).ok_or("a request")?;
+    assert!(rt; server.arrive(session, at(0), request).is_ok());
+    let request = request_of(alloc, "read", 2).ok_or("a request")?;
+    let back = server.arrive(session, at(0), request).err().ok_or("held")?;
+    assert!(rt; back.refusal == ArriveRefusal::Hold && back.request.head().cookie == 2);
+    assert_eq!(rt; server.waiting(), 1);
+    let chosen = server.dispatch(at(0)).ok_or("chosen")?;
+    let ticket = chosen.ticket;
+    assert_eq!(rt; (ticket.export(), ticket.number()), (0, 0));
+    assert!(rt; server.find(0, 0) == Some(ticket) && server.find(7, 0).is_none());
+    assert!(rt; server.perform(ticket) == Some(true));
+    assert!(rt; server.perform(ticket).is_none() && server.find(0, 0).is_none());
+    for _ in 1..64u64 {
+        assert!(rt; server.attach(0).is_ok());
     }
-    let first = chosen(&mut server, 0);
-    chosen(&mut server, 0)?;
-    sent(&mut server, 1, 5)?;
-    Some([first, chosen(&mut server, 5), chosen(&mut server, 5)])
-}
-
-#[test]
-fn tags_fall_for_an_idle_export(rt: HostRuntime) -> Result<(), Fail> {
-    let expected = Some([
-        Some((0, 0, Phase::Weight)),
-        Some((0, 2, Phase::Weight)),
-        Some((1, 0, Phase::Weight)),
-    ]);
-    assert_eq!(rt; by_shift::<Listed<Global>>(rt.alloc()), expected);
-    assert_eq!(rt; by_shift::<Heaped<Global>>(rt.alloc()), expected);
-    Ok(())
-}
-
-// One may be in service of all exports together; its ticket is found until it is performed, and then no more.
-fn one_at_a_time<E: Eligibility<Alloc = Global>>(alloc: Global) -> Option<[bool; 7]> {
-    let mut server: Tried<E> = server_of(alloc, &rates(0, 0, 1), &rates(0, 0, 1), 1)?;
-    sent(&mut server, 0, 0)?;
-    sent(&mut server, 1, 0)?;
-    let both = server.waiting() == 2;
-    let first = server.dispatch(at(0))?;
-    let waits = server.dispatch(at(0)).is_none();
-    let found = server.find(0, 0) == Some(first.ticket);
-    let performed = server.perform(first.ticket) == Some(true);
-    let again = server.perform(first.ticket).is_none();
-    let gone = server.find(0, 0).is_none() && server.find(7, 0).is_none();
-    Some([
-        both && server.waiting() == 1,
-        waits,
-        found,
-        performed,
-        again,
-        gone,
-        chosen(&mut server, 0) == Some((1, 0, Phase::Weight)) && server.steps() == 7,
-    ])
-}
-
-#[test]
-fn inflight_counts_all_exports(rt: HostRuntime) -> Result<(), Fail> {
-    assert_eq!(rt;
-        one_at_a_time::<Listed<Global>>(rt.alloc()),
-        Some([true; 7])
-    );
-    assert_eq!(rt;
-        one_at_a_time::<Heaped<Global>>(rt.alloc()),
-        Some([true; 7])
-    );
-    Ok(())
-}
-
-fn is_refused(said: Result<Arrived, NotArrived<Global>>, refusal: ArriveRefusal) -> bool {
-    match said {
-        Ok(_) => false,
-        Err(back) => back.refusal == refusal,
-    }
-}
-
-// A queue of two, a window of three: each refusal, and what the session is told.
-fn refusals<E: Eligibility<Alloc = Global>>(alloc: Global) -> Option<[bool; 9]> {
-    let mut small = rates(0, 0, 1);
-    small.depth = 2;
-    small.window = 3;
-    let mut server: Tried<E> = server_of(alloc, &small, &rates(0, 0, 1), 32)?;
-    let session = SessionId {
-        export: 0,
-        number: 0,
-    };
-    sent(&mut server, 0, 0)?;
-    sent(&mut server, 0, 0)?;
-    for _ in 0..10u64 {
-        sent(&mut server, 1, 0)?;
-    }
-    let full = server.arrive(session, at(0), read_of(3)).ok() == Some(Arrived::Answered(5));
-    let hold = is_refused(
-        server.arrive(session, at(0), read_of(4)),
-        ArriveRefusal::Hold,
-    );
-    let told = match server.take_reply(session) {
-        Ok(Taken::Reply(reply)) => reply.error() == 5 && reply.cookie() == 3,
-        _ => false,
-    };
-    let nobody = SessionId {
-        export: 0,
-        number: 1,
-    };
-    let nowhere = SessionId {
-        export: 9,
-        number: 0,
-    };
-    let unknown = is_refused(
-        server.arrive(nobody, at(0), read_of(4)),
-        ArriveRefusal::NotOpen,
-    );
-    let absent = is_refused(
-        server.arrive(nowhere, at(0), read_of(4)),
-        ArriveRefusal::NoExport,
-    );
-    let left = server.leave(session).is_ok()
-        && server.leave(session) == Err(SessionRefusal::NotOpen);
-    let gone = server.gone(session).is_ok()
-        && server.gone(nowhere) == Err(SessionRefusal::NoExport);
-    for _ in 0..64u64 {
-        server.attach(0).ok()?;
-    }
-    Some([
-        full,
-        hold,
-        told,
-        unknown,
-        absent,
-        left,
-        gone,
-        server.attach(0) == Err(NotAttached::Full),
-        server.attach(9) == Err(NotAttached::NoExport),
-    ])
-}
-
-#[test]
-fn refusals_in_their_order(rt: HostRuntime) -> Result<(), Fail> {
-    assert_eq!(rt; refusals::<Listed<Global>>(rt.alloc()), Some([true; 9]));
-    assert_eq!(rt; refusals::<Heaped<Global>>(rt.alloc()), Some([true; 9]));
-    Ok(())
-}
-
-fn write_of(alloc: Global, cookie: u64) -> Result<Request<Global>, Fail> {
-    let head = RequestHead {
-        flags: 0,
-        kind: WRITE,
-        cookie,
-        offset: 0,
-        length: 4,
-    };
-    let payload = Bytes::copy_from_slice(alloc, [0xde, 0xad, 0xbe, 0xef].as_slice())?;
-    Ok(Request::new(head, payload))
-}
-
-// The write of a session that is gone is still done, and another session reads it.
-#[test]
-fn gone_is_still_served(rt: HostRuntime) -> Result<(), Fail> {
-    let mut list = ExportList::new(rt.alloc());
-    assert!(rt; list.add(&rates(0, 0, 1)).is_ok());
-    let config = Config::new(list, 32).ok().ok_or("configured")?;
-    let moment = Moment::zero();
-    let export = 0;
-    let mut events = Vec::new(rt.alloc());
-    events.push(Event::Attach { export })?;
-    events.push(Event::Attach { export })?;
-    let request = write_of(rt.alloc(), 1)?;
-    events.push(Event::Arrive {
-        export,
-        session: 0,
-        moment,
-        request,
-    })?;
-    events.push(Event::Dispatch { moment })?;
-    events.push(Event::Gone { export, session: 0 })?;
-    events.push(Event::Perform { export, number: 0 })?;
-    events.push(Event::Perform { export, number: 0 })?;
-    let request = read_of(2);
-    events.push(Event::Arrive {
-        export,
-        session: 1,
-        moment,
-        request,
-    })?;
-    events.push(Event::Dispatch { moment })?;
-    events.push(Event::Perform { export, number: 1 })?;
-    events.push(Event::Take { export, session: 1 })?;
-    events.push(Event::Take { export, session: 0 })?;
-    let answers = run::<Flat<Global>, Listed<Global>>(rt.alloc(), &config, events)?;
-    assert_eq!(rt; answers.len(), 12);
-    let is_not_out = match answers.get(6) {
-        Some(Answer::NotOut) => true,
-        _ => false,
-    };
-    assert!(rt; is_not_out);
-    let content = match answers.get(10) {
-        Some(Answer::Reply(reply)) => reply.content().as_slice()
-            == [0xde, 0xad, 0xbe, 0xef].as_slice(),
-        _ => false,
-    };
-    assert!(rt; content);
-    let is_not_open = match answers.get(11) {
-        Some(Answer::NotOpen) => true,
-        _ => false,
-    };
-    assert!(rt; is_not_open);
+    assert!(rt; server.attach(0) == Err(NotAttached::Full));
+    assert_eq!(rt; (server.waiting(), server.steps()), (0, 67));
     Ok(())
 }
 
@@ -388,7 +333,7 @@ type Memory<'a> = &'a Refusing<Global>;
 
 fn config_in<'a>(memory: Memory<'a>) -> Option<Config<Memory<'a>>> {
     let mut list = ExportList::new(memory);
-    list.add(&rates(0, 0, 1)).ok()?;
+    list.add(&settings(b"a", &[0, 0, 1, 8, 8])).ok()?;
     Config::new(list, 4).ok()
 }
 
@@ -408,7 +353,7 @@ fn is_made<'a, E: Eligibility<Alloc = Memory<'a>>>(
     memory: Memory<'a>,
     config: &Config<Memory<'a>>,
 ) -> bool {
-    let made: Result<Server<Flat<Memory<'a>>, E>, _> = Server::new(memory, config);
+    let made: Result<Server<Paged<Memory<'a>>, E>, _> = Server::new(memory, config);
     made.is_ok()
 }
 
@@ -435,13 +380,16 @@ fn new_wants_memory(rt: HostRuntime) -> Result<(), Fail> {
 fn sessions_want_memory(rt: HostRuntime) -> Result<(), Fail> {
     let memory = Refusing::new(rt.alloc(), 0);
     let config = config_in(&memory).ok_or("configured")?;
-    let mut server: Server<Flat<Memory>, Listed<Memory>> = Server::new(&memory, &config)?;
+    let mut server: Server<Paged<Memory>, Listed<Memory>> = Server::new(&memory, &config)?;
     memory.arm(1);
     assert!(rt; server.attach(0) == Err(NotAttached::NoMemory));
     let session = server.attach(0).ok().ok_or("a session")?;
     assert_eq!(rt; session.number, 0);
     memory.arm(1);
     assert!(rt; server.arrive(session, at(0), flush_in()).is_ok());
+    assert!(rt; matches!(server.tags(&memory, 0), Err(NoTags::NoMemory)));
+    assert!(rt; server.tags(&memory, 0).is_ok());
+    memory.arm(1);
     let chosen = server.dispatch(at(0)).ok_or("chosen")?;
     assert!(rt; server.perform(chosen.ticket) == Some(true));
     assert!(rt; server.take_reply(session).is_ok());

@@ -18,15 +18,17 @@ use Rattle.server_table.proofs.Rows.{side_at, sides_at, filter_only, filter_entr
 use Rattle.server_table.proofs.Heads.{least_candidates, p_order, told}
 use Rattle.server_table.proofs.Ordered.{ordered_rows, least_waiting_p}
 
--- ---- how many wait
-pub waiting_at : (ps : List Part) (e k i : ℕ) (p : Part) → e ≡ k + i → i < length ps → p ≡ get_or ps i p → length (filter (waits_in e) (rows_from k ps)) ≡ length p.waiting
-waiting_at ps e k i p is lt at =
-    ap length (filter_only e (waits_in e) (λ row ne. grind (arith, nat_tests)) k i ps p is lt at
+-- ---- what waits
+pub waiting_rows : (ps : List Part) (e k i : ℕ) (p : Part) → e ≡ k + i → i < length ps → p ≡ get_or ps i p → filter (waits_in e) (rows_from k ps) ≡ map (row_of e false) p.waiting
+waiting_rows ps e k i p is lt at =
+    filter_only e (waits_in e) (λ row ne. grind (arith, nat_tests)) k i ps p is lt at
     ∙ filter-append (waits_in e) (map (row_of e true) p.out) (map (row_of e false) p.waiting)
     ∙ ap (λ l. l ++ filter (waits_in e) (map (row_of e false) p.waiting)) (filter_entries (waits_in e) e true (λ entry. false) (λ entry. grind (arith, nat_tests)) p.out ∙ ap (map (row_of e true)) (filter_no (λ (entry : Entry). false) (λ entry. refl) p.out))
     ∙ filter_entries (waits_in e) e false (λ entry. true) (λ entry. grind (arith, nat_tests)) p.waiting
-    ∙ ap (map (row_of e false)) (filter_all (λ (entry : Entry). true) (λ entry. refl) p.waiting))
-    ∙ length-map p.waiting (row_of e false)
+    ∙ ap (map (row_of e false)) (filter_all (λ (entry : Entry). true) (λ entry. refl) p.waiting)
+
+pub waiting_at : (ps : List Part) (e k i : ℕ) (p : Part) → e ≡ k + i → i < length ps → p ≡ get_or ps i p → length (filter (waits_in e) (rows_from k ps)) ≡ length p.waiting
+waiting_at ps e k i p is lt at = ap length (waiting_rows ps e k i p is lt at) ∙ length-map p.waiting (row_of e false)
 
 -- ---- the P tags fall
 outs_stay : (d : ℤ) (k : ℕ) (entries : List Entry) → map (lower_p d) (map (row_of k true) entries) ≡ map (row_of k true) entries

@@ -1,56 +1,64 @@
-use Rattle.std.proofs.Common.{◌≡◌, ◌∷◌, [], map, length, take, refl, sym, ◌∙◌, ap, subst, List, rules}
-use Rattle.server_table.specs.Table.{opening_table}
-use Rattle.server_table.specs.Steps.{answers_of, last_table}
-use Rattle.server_table.specs.Shares.{marks_of}
-use Rattle.server_core.specs.Run.{run_of}
-use Rattle.server_core.specs.Served.{Served, setup_for, opening_served}
-use Rattle.server_core.proofs.Goings.{Going, one_more}
-use Rattle.std.proofs.lemmas.Iterator.Adapters.{YieldsList-from_vec}
-use Rattle.std.proofs.lemmas.Iterator.Consumers.{YieldsList-end}
+use Rattle.std.proofs.Common.{List, sym, subst}
 use Rattle.server_table.specs.declared.event.Event.{Event}
+use Rattle.server_table.specs.declared.event.Answer.{Answer}
+use Rattle.server_table.specs.Table.{Setup}
+use Rattle.server_table.specs.Steps.{last_table}
+use Rattle.server_table.specs.Shares.{marks_of}
+use Rattle.core_laws.specs.Runs.{Run}
+use Rattle.core_laws.specs.Statements.{IsToldAsAlone, EndsAsAlone, QueuesCountTheirOwn, WeightsWait, HasUnrolledTags, ChoosesNoneBefore, ChoosesByLimit, ChoosesByReservation}
+use Rattle.server_core.specs.Served.{setup_for}
 use Rattle.server_core.proofs.runs.run.Goals as goal
 
-map_same : {X : Type 0} (xs : List X) → map (λ x. x) xs ≡ xs
-map_same [] = refl
-map_same (x ∷ xs) = ap (λ l. x ∷ l) (map_same xs)
-
-pub loop-event-init : goal.loop-event-init
-loop-event-init g c = record {
-  told = c.new-answers.ensures.items;
-  table = ap (λ (v : Served). v.table) c.in_ok-server.ensures;
-  setup = ap (λ (v : Served). v.setup) c.in_ok-server.ensures;
-  long = ap (λ l. length (marks_of l)) c.new-answers.ensures.items;
-}
-
-pub loop-event-preserved : goal.loop-event-preserved
-loop-event-preserved g c =
-    let A = g.row.I-Alloc.Denot in
-    let first : Served = opening_served (setup_for c.args.config.now) in
-    let i = c.loop-event.invariant in
-    let had : Going A first c.loop-event.yielded c.loop-event.answers.items c.loop-event.server = record { told = i.told; table = i.table; setup = i.setup; long = i.long } in
-    let has = one_more A first c.loop-event.server c.event-answer.new.self c.loop-event.yielded c.loop-event.answers.items c.push.new.self.items c.in-Some.event c.event-answer.result had c.event-answer.ensures c.in_ok-push.ensures.items in
-    record { told = has.told; table = has.table; setup = has.setup; long = has.long }
-
-pub returns-clause-answers : goal.returns-clause-answers
-returns-clause-answers g c =
-    let A = g.row.I-Alloc.Denot in
-    let gives = c.into_iter-event-iterator.ensures.into_iter_gives in
-    let each = YieldsList-from_vec {s = c.into_iter-event-iterator.result} c.args.events.items gives.0 (search rules) in
-    let ends = YieldsList-end each c.loop-event.yielded c.loop-event.event-iterator c.loop-event.yielded_by c.next.result c.next.new.self c.in-None.is c.next.ensures.steps in
-    let all : c.loop-event.yielded ≡ c.args.events.items = sym (map_same c.loop-event.yielded) ∙ ends.0 in
-    subst (λ (l : List (Event A)). c.loop-event.answers.items ≡ answers_of (setup_for c.args.config.now) (opening_table (setup_for c.args.config.now)) l (marks_of c.loop-event.answers.items)) all c.loop-event.invariant.told
+-- the run of these events, with memory there as the answers tell
+abbrev run_of : {A : Type 0} → Setup → List (Event A) → List (Answer A) → Run A
+run_of setup events answers = record { setup = setup; events = events; marks = marks_of answers }
 
 pub returns-clause-alone : goal.returns-clause-alone
-returns-clause-alone g c = (c.projection.ensures.told (run_of (setup_for c.args.config.now) c.args.events.items c.loop-event.answers.items), c.projection.ensures.last (run_of (setup_for c.args.config.now) c.args.events.items c.loop-event.answers.items))
+returns-clause-alone g c =
+    let A = g.row.I-Alloc.Denot in
+    let setup = setup_for c.args.config.now in
+    let events = c.args.events.items in
+    let answers = c.in_ok-answers.answers.items in
+    let told = c.projection.ensures.told (run_of setup events answers) in
+    let last = c.projection.ensures.last (run_of setup events answers) in
+    let answered = sym c.in_ok-answers.ensures in (
+      subst (λ (l : List (Answer A)). IsToldAsAlone setup events l) answered told,
+      subst (λ (l : List (Answer A)). EndsAsAlone setup events l (last_table setup events (marks_of answers))) answered last,
+    )
 
 pub returns-clause-queue : goal.returns-clause-queue
-returns-clause-queue g c = λ k. c.queue_refusal.ensures (setup_for c.args.config.now) (last_table (setup_for c.args.config.now) (take k c.args.events.items) (marks_of c.loop-event.answers.items))
+returns-clause-queue g c =
+    let A = g.row.I-Alloc.Denot in
+    let setup = setup_for c.args.config.now in
+    let events = c.args.events.items in
+    let answers = c.in_ok-answers.answers.items in
+    subst (λ (l : List (Answer A)). QueuesCountTheirOwn setup events l (marks_of answers)) (sym c.in_ok-answers.ensures) (c.queue_refusal.ensures.run (run_of setup events answers))
 
 pub returns-clause-weight : goal.returns-clause-weight
-returns-clause-weight g c = λ k. c.weight_waits_for_its_limit.ensures (setup_for c.args.config.now) (last_table (setup_for c.args.config.now) (take k c.args.events.items) (marks_of c.loop-event.answers.items))
+returns-clause-weight g c =
+    let A = g.row.I-Alloc.Denot in
+    let setup = setup_for c.args.config.now in
+    let events = c.args.events.items in
+    let answers = c.in_ok-answers.answers.items in
+    subst (λ (l : List (Answer A)). WeightsWait setup events l (marks_of answers)) (sym c.in_ok-answers.ensures) (c.weight_waits_for_its_limit.ensures.run (run_of setup events answers))
 
 pub returns-clause-tags : goal.returns-clause-tags
-returns-clause-tags g c = c.limit_tags_unrolled.ensures.run (run_of (setup_for c.args.config.now) c.args.events.items c.loop-event.answers.items)
+returns-clause-tags g c =
+    let A = g.row.I-Alloc.Denot in
+    let setup = setup_for c.args.config.now in
+    let events = c.args.events.items in
+    let answers = c.in_ok-answers.answers.items in
+    subst (λ (l : List (Answer A)). HasUnrolledTags setup events l) (sym c.in_ok-answers.ensures) (c.limit_tags_unrolled.ensures.run (run_of setup events answers))
 
 pub returns-clause-counts : goal.returns-clause-counts
-returns-clause-counts g c = (c.choice_count.ensures.none (run_of (setup_for c.args.config.now) c.args.events.items c.loop-event.answers.items), c.choice_count.ensures.limit (run_of (setup_for c.args.config.now) c.args.events.items c.loop-event.answers.items), c.choice_count.ensures.reservation (run_of (setup_for c.args.config.now) c.args.events.items c.loop-event.answers.items))
+returns-clause-counts g c =
+    let A = g.row.I-Alloc.Denot in
+    let setup = setup_for c.args.config.now in
+    let events = c.args.events.items in
+    let answers = c.in_ok-answers.answers.items in
+    let run = run_of setup events answers in
+    let answered = sym c.in_ok-answers.ensures in (
+      subst (λ (l : List (Answer A)). ChoosesNoneBefore setup events l) answered (c.choice_count.ensures.none run),
+      subst (λ (l : List (Answer A)). ChoosesByLimit setup events l) answered (c.choice_count.ensures.limit run),
+      subst (λ (l : List (Answer A)). ChoosesByReservation setup events l) answered (c.choice_count.ensures.reservation run),
+    )

@@ -13,6 +13,7 @@ use Rattle.server_core.specs.Way.{way_of}
 use Rattle.server_core.proofs.Changed.{before_way}
 use Rattle.server_core.proofs.Performed.{all_seats}
 use Rattle.server_core.proofs.Accepting.{absent_arrive, same_read, few_members, part_range, terms_short, stepped_refused, kept_refused, seats_refused, back_told, falls, way_range, found_same, length_way, slot_was, same_first, first_in_range, kept_accepted, stepped_accepted, seats_accepted}
+use Rattle.server_core.proofs.Counted.{counted}
 use Rattle.server_core.proofs.server.Server.arrive.Goals as goal
 
 pub returns-then-session-len-clause-step : goal.returns-then-session-len-clause-step
@@ -433,3 +434,13 @@ returns-clause-back g c =
     let t = c.args.moment in
     let q = c.args.request in
     back_told A c.arrive-said.result c.arrived-2.result q c.arrive-said.ensures.back c.arrived-2.ensures
+
+pub returns-then-not-admits-clause-counted : goal.returns-then-not-admits-clause-counted
+returns-then-not-admits-clause-counted g c =
+    let i = c.self.inside in
+    counted {A = g.row.I-Alloc.Denot} i.members.items i.latest i.inflight c.args.self.now _ _ _ c.self.view_is (returns-then-not-admits-clause-step g c)
+
+pub returns-clause-counted : goal.returns-clause-counted
+returns-clause-counted g c =
+    let i = c.self.inside in
+    counted {A = g.row.I-Alloc.Denot} i.members.items i.latest i.inflight c.args.self.now _ _ _ c.self.view_is (returns-clause-step g c)

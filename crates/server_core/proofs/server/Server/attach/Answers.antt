@@ -5,6 +5,7 @@ use Rattle.server_table.specs.declared.event.Event.TheVariants.{Attach}
 use Rattle.server_table.specs.declared.event.Answer.TheVariants.{NoExport}
 use Rattle.server_core.specs.Served.{Served, served_of, Stepped, attach_says}
 use Rattle.server_core.proofs.Served.{kept_or, seats_or, stepped_attach, absent_attach}
+use Rattle.server_core.proofs.Counted.{counted}
 use Rattle.server_core.proofs.server.Server.attach.Goals as goal
 
 pub returns-then-export-len-clause-step : goal.returns-then-export-len-clause-step
@@ -35,3 +36,8 @@ pub returns-clause-seats : goal.returns-clause-seats
 returns-clause-seats g c =
     seats_or c.self.inside.members.items c.args.export c.index_mut-member.result.now c.attach.new.self own.Attach (attach_said c.attach.result) c.index_mut-member.ensures.value c.attach.ensures.step
     ∙ ap (λ (v : Served). v.seats) c.self.view_is
+
+pub returns-clause-counted : goal.returns-clause-counted
+returns-clause-counted g c =
+    let i = c.self.inside in
+    counted {A = g.row.I-Alloc.Denot} i.members.items i.latest i.inflight c.args.self.now _ _ _ c.self.view_is (returns-clause-step g c)

@@ -8,6 +8,7 @@ use Rattle.server_table.specs.declared.event.Answer.TheVariants.{Picked, Nothing
 use Rattle.server_core.specs.Members.{Seat}
 use Rattle.server_core.specs.Served.{Served, served_of, Stepped, IsServed}
 use Rattle.server_core.proofs.Dispatched.{chosen, chosen_within, stepped_full, stepped_none, stepped_picked, pick_waiting, pick_room, pick_numbered, pick_range, active, first_range, kept_chosen, seats_picked, held_picked}
+use Rattle.server_core.proofs.Counted.{counted}
 use Rattle.server_core.proofs.server.Server.dispatch.Goals as goal
 
 pub returns-then-self-clause-step : goal.returns-then-self-clause-step
@@ -231,3 +232,18 @@ returns-clause-seats g c =
     let seat : Seat = record { number = c.in-Some-pick.picked.number; slot = c.in-Some-pick.picked.slot } in
     let picks = c.in-Some-pick.ensures.picked in
     seats_picked ms e phase m m' seat at picks ∙ ap (λ (v : Served). change_at (λ (these : List Seat). these ++ seat ∷ []) e v.seats) c.self.view_is
+
+pub returns-then-self-clause-counted : goal.returns-then-self-clause-counted
+returns-then-self-clause-counted g c =
+    let i = c.self.inside in
+    counted {A = g.row.I-Alloc.Denot} i.members.items i.latest i.inflight c.args.self.now _ _ _ c.self.view_is (returns-then-self-clause-step g c)
+
+pub returns-in_default-clause-counted : goal.returns-in_default-clause-counted
+returns-in_default-clause-counted g c =
+    let i = c.self.inside in
+    counted {A = g.row.I-Alloc.Denot} i.members.items i.latest i.inflight c.args.self.now _ _ _ c.self.view_is (returns-in_default-clause-step g c)
+
+pub returns-clause-counted : goal.returns-clause-counted
+returns-clause-counted g c =
+    let i = c.self.inside in
+    counted {A = g.row.I-Alloc.Denot} i.members.items i.latest i.inflight c.args.self.now _ _ _ c.self.view_is (returns-clause-step g c)

@@ -5,6 +5,7 @@ use Rattle.server_table.specs.declared.event.Event.TheVariants.{Leave}
 use Rattle.server_table.specs.declared.event.Answer.TheVariants.{NoExport}
 use Rattle.server_core.specs.Served.{Served, served_of, Stepped, leave_says}
 use Rattle.server_core.proofs.Served.{kept_own, seats_own, stepped_leave, absent_leave}
+use Rattle.server_core.proofs.Counted.{counted}
 use Rattle.server_core.proofs.server.Server.leave.Goals as goal
 
 pub returns-then-session-len-clause-step : goal.returns-then-session-len-clause-step
@@ -37,3 +38,8 @@ pub returns-clause-seats : goal.returns-clause-seats
 returns-clause-seats g c =
     seats_own c.self.inside.members.items c.args.session.export c.index_mut-member.result.now c.leave.new.self (own.Leave c.args.session.number) (leave_said c.leave.result) c.index_mut-member.ensures.value c.leave.ensures
     ∙ ap (λ (v : Served). v.seats) c.self.view_is
+
+pub returns-clause-counted : goal.returns-clause-counted
+returns-clause-counted g c =
+    let i = c.self.inside in
+    counted {A = g.row.I-Alloc.Denot} i.members.items i.latest i.inflight c.args.self.now _ _ _ c.self.view_is (returns-clause-step g c)

@@ -7,6 +7,8 @@ use Rattle.server_core.specs.Tickets.{Place}
 use Rattle.server_core.specs.Served.{Served, served_of, Holds, Stepped, IsServed}
 use Rattle.server_core.proofs.Served.{set_back}
 use Rattle.server_core.proofs.Performed.{all_seats, seats_there, seats_beyond, some_is_served, kept_performs, stepped_performs, seats_performs}
+use Rattle.server_core.specs.Counted.{counted_steps}
+use Rattle.server_core.proofs.Counted.{counted}
 use Rattle.server_core.proofs.server.Server.perform.Goals as goal
 
 pub returns-then-ticket-len-clause-none : goal.returns-then-ticket-len-clause-none
@@ -73,3 +75,13 @@ returns-clause-seats g c =
     seats_performs g.row.I-Alloc.Denot i.members.items t.export t.number c.index_mut-member.result.now c.perform.new.self c.in-Some.memory c.index_mut-member.ensures.value c.in-Some.ensures.some.1
     ∙ ap (λ (p : Place). change_at (seats_without p.number) p.export (all_seats i.members.items)) c.ticket.view_is
     ∙ ap (λ (v : Served). change_at (seats_without c.args.ticket.number) c.args.ticket.export v.seats) c.self.view_is
+
+pub returns-clause-counted : goal.returns-clause-counted
+returns-clause-counted g c =
+    let i = c.self.inside in
+    counted {A = g.row.I-Alloc.Denot} i.members.items i.latest i.inflight c.args.self.now _ _ _ c.self.view_is ((returns-clause-some g c).1)
+
+pub returns-in_default-clause-counted : goal.returns-in_default-clause-counted
+returns-in_default-clause-counted g c =
+    let same = ap counted_steps (returns-in_default-clause-none g c).1 in
+    same ∙ sym (omega arith)

@@ -1,0 +1,42 @@
+-- How many steps were counted, and what is true of every server.
+use Rattle.std.specs.Prelude.{◌≡◌, ◌≤◌, ◌<◌, ℕ, Bool, true, false, length, filter, if◌then◌else◌}
+use Rattle.std.specs.List.{AllByRecursion, sum_by}
+use Rattle.server_table.specs.declared.event.Answer.{Answer}
+use Rattle.server_table.specs.declared.event.Answer.TheVariants.{Session, Accepted, Answered, Picked, Nothing, Performed, Reply, Empty, End, Left, Dropped, NoExport, NotOpen, Worn, Full, Hold, NotOut, NoMemory}
+use Rattle.server_core.specs.Served.{Served}
+
+-- the counted steps of all exports together
+abbrev pub counted_steps : Served → ℕ
+counted_steps served = sum_by (λ side. side.count) served.table.sides
+
+module _ {A : Type 0} where
+  -- whether an answer tells that something changed
+  abbrev pub is_counted : Answer A → Bool
+  is_counted (Session n) = true
+  is_counted (Accepted n tag) = true
+  is_counted (Answered error) = true
+  is_counted (Picked e n phase) = true
+  is_counted Nothing = false
+  is_counted (Performed memory) = true
+  is_counted (Reply reply) = true
+  is_counted Empty = false
+  is_counted End = false
+  is_counted Left = true
+  is_counted Dropped = true
+  is_counted NoExport = false
+  is_counted NotOpen = false
+  is_counted Worn = false
+  is_counted Full = false
+  is_counted Hold = false
+  is_counted NotOut = false
+  is_counted NoMemory = false
+
+  -- by how many the counted steps rise
+  abbrev pub rise : Answer A → ℕ
+  rise said = if is_counted said then 1 else 0
+
+-- no more requests are out than may be; each export of the setup has its side, and each row is of an export that is there
+pub record IsSound (served : Served) : Type 0 where
+  pub within : length (filter (λ row. row.out) served.table.rows) ≤ served.setup.inflight
+  pub sides : length served.table.sides ≡ length served.setup.exports
+  pub rows : AllByRecursion (λ row. row.export < length served.setup.exports) served.table.rows
