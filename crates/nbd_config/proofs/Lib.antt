@@ -1,0 +1,3 @@
+pub mod EntryLemmas
+pub mod ExportLemmas
+pub mod WholeLemmas
