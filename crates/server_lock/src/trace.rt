@@ -1,0 +1,209 @@
+//! What a pass remembers of its latest turn.
+ghost use Rattle.std.specs.Prelude.{◌≡◌};
+ghost use Rattle.server_core.specs.Counted.{rise};
+ghost use Rattle.server_core.specs.Served.{attach_says, arrive_says, dispatch_says, perform_says, take_says, leave_says, gone_says};
+ghost use Rattle.server_lock.specs.Traces.{short_answer, is_counted_trace, rise_of_trace};
+
+use lone_export::Arrived;
+use nbd_wire::RequestHead;
+use reply_box::Taken;
+use server_core::{ArriveRefusal, Chosen, NotArrived, NotAttached, SessionId, SessionRefusal};
+use std::alloc::Allocator;
+use tag_clock::{Moment, Phase};
+
+/// An event of the server, a request told by its head.
+#[derive(Clone, Copy, Debug, PartialEq, Eq)]
+pub enum EventTrace {
+    Attach {
+        export: u32,
+    },
+    Arrive {
+        export: u32,
+        session: u64,
+        moment: Moment,
+        head: RequestHead,
+    },
+    Dispatch {
+        moment: Moment,
+    },
+    Perform {
+        export: u32,
+        number: u64,
+    },
+    Take {
+        export: u32,
+        session: u64,
+    },
+    Leave {
+        export: u32,
+        session: u64,
+    },
+    Gone {
+        export: u32,
+        session: u64,
+    },
+}
+
+/// What an event answered, a reply told by its error and cookie.
+#[derive(Clone, Copy, Debug, PartialEq, Eq)]
+pub enum AnswerTrace {
+    Session(u64),
+    Accepted {
+        number: u64,
+        limit_tag: i128,
+    },
+    Answered(u32),
+    Picked {
+        export: u32,
+        number: u64,
+        phase: Phase,
+    },
+    Nothing,
+    Performed {
+        memory: bool,
+    },
+    Reply {
+        error: u32,
+        cookie: u64,
+    },
+    Empty,
+    End,
+    Left,
+    Dropped,
+    NoExport,
+    NotOpen,
+    Worn,
+    Full,
+    Hold,
+    NotOut,
+    NoMemory,
+}
+
+/// One turn: its event, and what it answered.
+#[derive(Clone, Copy, Debug, PartialEq, Eq)]
+pub struct Trace {
+    pub event: EventTrace,
+    pub answer: AnswerTrace,
+}
+
+impl AnswerTrace {
+    /// Whether a step with this answer changed something of its export, and so is counted.
+    pub fn is_counted(self) -> bool
+        ensures { result ≡ is_counted_trace self }
+    {
+        match self {
+            AnswerTrace::Session(_)
+            | AnswerTrace::Accepted { .. }
+            | AnswerTrace::Answered(_)
+            | AnswerTrace::Picked { .. }
+            | AnswerTrace::Performed { .. }
+            | AnswerTrace::Reply { .. }
+            | AnswerTrace::Left
+            | AnswerTrace::Dropped => true,
+            AnswerTrace::Nothing
+            | AnswerTrace::Empty
+            | AnswerTrace::End
+            | AnswerTrace::NoExport
+            | AnswerTrace::NotOpen
+            | AnswerTrace::Worn
+            | AnswerTrace::Full
+            | AnswerTrace::Hold
+            | AnswerTrace::NotOut
+            | AnswerTrace::NoMemory => false,
+        }
+    }
+}
+
+pub(crate) fn told_attach<A: Allocator>(answer: &Result<SessionId, NotAttached>) -> AnswerTrace
+    ensures trace { result ≡ short_answer {A = A} (attach_says answer.now) }
+    ensures rise { rise_of_trace result ≡ rise {A = A} (attach_says answer.now) }
+{
+    match answer {
+        Ok(session) => AnswerTrace::Session(session.number),
+        Err(NotAttached::NoExport) => AnswerTrace::NoExport,
+        Err(NotAttached::Worn) => AnswerTrace::Worn,
+        Err(NotAttached::Full) => AnswerTrace::Full,
+        Err(NotAttached::NoMemory) => AnswerTrace::NoMemory,
+    }
+}
+
+pub(crate) fn told_arrive<A: Allocator>(answer: &Result<Arrived, NotArrived<A>>) -> AnswerTrace
+    ensures trace { result ≡ short_answer (arrive_says answer.now) }
+    ensures rise { rise_of_trace result ≡ rise (arrive_says answer.now) }
+{
+    match answer {
+        Ok(Arrived::Accepted { number, limit_tag }) => AnswerTrace::Accepted {
+            number: *number,
+            limit_tag: *limit_tag,
+        },
+        Ok(Arrived::Answered(error)) => AnswerTrace::Answered(*error),
+        Err(refused) => match refused.refusal {
+            ArriveRefusal::NoExport => AnswerTrace::NoExport,
+            ArriveRefusal::NotOpen => AnswerTrace::NotOpen,
+            ArriveRefusal::Worn => AnswerTrace::Worn,
+            ArriveRefusal::Hold => AnswerTrace::Hold,
+        },
+    }
+}
+
+pub(crate) fn told_dispatch<A: Allocator>(answer: &Option<Chosen>) -> AnswerTrace
+    ensures trace { result ≡ short_answer {A = A} (dispatch_says answer.now) }
+    ensures rise { rise_of_trace result ≡ rise {A = A} (dispatch_says answer.now) }
+{
+    match answer {
+        Some(chosen) => AnswerTrace::Picked {
+            export: chosen.ticket.export(),
+            number: chosen.ticket.number(),
+            phase: chosen.phase,
+        },
+        None => AnswerTrace::Nothing,
+    }
+}
+
+pub(crate) fn told_perform<A: Allocator>(answer: Option<bool>) -> AnswerTrace
+    ensures trace { result ≡ short_answer {A = A} (perform_says answer) }
+    ensures rise { rise_of_trace result ≡ rise {A = A} (perform_says answer) }
+{
+    match answer {
+        Some(memory) => AnswerTrace::Performed { memory },
+        None => AnswerTrace::NotOut,
+    }
+}
+
+pub(crate) fn told_take<A: Allocator>(answer: &Result<Taken<A>, SessionRefusal>) -> AnswerTrace
+    ensures trace { result ≡ short_answer (take_says answer.now) }
+    ensures rise { rise_of_trace result ≡ rise (take_says answer.now) }
+{
+    match answer {
+        Ok(Taken::Reply(reply)) => AnswerTrace::Reply {
+            error: reply.error(),
+            cookie: reply.cookie(),
+        },
+        Ok(Taken::Empty) => AnswerTrace::Empty,
+        Ok(Taken::End) => AnswerTrace::End,
+        Err(SessionRefusal::NoExport) => AnswerTrace::NoExport,
+        Err(SessionRefusal::NotOpen) => AnswerTrace::NotOpen,
+    }
+}
+
+pub(crate) fn told_leave<A: Allocator>(answer: &Result<(), SessionRefusal>) -> AnswerTrace
+    ensures trace { result ≡ short_answer {A = A} (leave_says answer.now) }
+    ensures rise { rise_of_trace result ≡ rise {A = A} (leave_says answer.now) }
+{
+    match answer {
+        Ok(()) => AnswerTrace::Left,
+        Err(SessionRefusal::NoExport) => AnswerTrace::NoExport,
+        Err(SessionRefusal::NotOpen) => AnswerTrace::NotOpen,
+    }
+}
+
+pub(crate) fn told_gone<A: Allocator>(answer: &Result<(), SessionRefusal>) -> AnswerTrace
+    ensures trace { result ≡ short_answer {A = A} (gone_says answer.now) }
+    ensures rise { rise_of_trace result ≡ rise {A = A} (gone_says answer.now) }
+{
+    match answer {
+        Ok(()) => AnswerTrace::Dropped,
+        Err(SessionRefusal::NoExport) => AnswerTrace::NoExport,
+        Err(SessionRefusal::NotOpen) => AnswerTrace::NotOpen,
+    }
+}
