@@ -1,0 +1,13 @@
+//! Workers, which choose requests and perform them, and the gates that they pass in between.
+#![tactic(auto)]
+
+mod bell;
+mod sleeper;
+mod worker;
+
+pub use bell::Bell;
+pub use sleeper::Sleeper;
+pub use worker::{Gate, work};
+
+#[cfg(test)]
+mod tests;
