@@ -1,5 +1,5 @@
 -- Why a head that has its spelling is refused.
-use Rattle.std.proofs.Common.{◌≡◌, ℕ, ◌^◌, ◌<◌, ◌≤◌, ◌+◌, true, false, Option, Some, None, if◌then◌else◌, nat_le, nat_lt, List, refl, ap, ◌∙◌}
+use Rattle.std.proofs.Common.{◌≡◌, ℕ, ◌^◌, ◌<◌, ◌≤◌, Option, Some, None, if◌then◌else◌, nat_le, nat_lt, List, refl, ap, ◌∙◌}
 use Rattle.std.proofs.lemmas.Bool.{le-leb, lt-leb, lt-ltb, le-ltb}
 use Rattle.nbd_wire.specs.Grammar.{option_head_text}
 use Rattle.nbd_wire.proofs.FieldLemmas.{wide32}

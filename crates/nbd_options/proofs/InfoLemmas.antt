@@ -1,9 +1,9 @@
 -- What is replied to INFO and GO of an export that is there.
-use Rattle.std.proofs.Common.{◌≡◌, ℕ, ◌+◌, ◌-◌, ◌<◌, true, List, length, take, drop, get_or, Option, Some, None, slice_get, refl, sym, ap, ◌∙◌, arith}
+use Rattle.std.proofs.Common.{◌≡◌, ℕ, ◌+◌, ◌-◌, ◌<◌, true, List, length, take, drop, get_or, Option, Some, slice_get, refl, sym, ap, ◌∙◌, arith}
 use Rattle.std.proofs.lemmas.List.{take_rest}
 use Rattle.std.proofs.lemmas.Option.{slice_get_read}
 use Rattle.nbd_options.specs.Exports.{ExportFacts, export_named}
-use Rattle.nbd_options.specs.Replies.{ClientOption, ReplyMessage, is_shaped, name_length, name_in, types_in, numbers_of, told_of, told_at, export_at, informed}
+use Rattle.nbd_options.specs.Replies.{ClientOption, is_shaped, name_length, name_in, types_in, numbers_of, told_of, told_at, export_at, informed}
 
 shaped_told : (table : List ExportFacts) (o : ClientOption) (at : Option ℕ) → is_shaped o.content ≡ true → export_named table (name_in o.content) ≡ at
     → told_at o.number (types_in o.content) (export_at table at) ≡ informed table o

@@ -2,33 +2,14 @@ ghost use Rattle.std.specs.Prelude.{◌≡◌, ◌+◌, ◌≤◌, ◌<◌, ◌^
 ghost use Rattle.std.specs.Int.{w16, w64, to_be_bytes};
 ghost use Rattle.nbd_options.specs.Replies.{numbers_of, reply, listing, where_asked, description_information, told_of, informed, replies_to, next_after, IsWithin};
 
+use crate::protocol::{
+    ABORT, ACK, EXPORT_NAME, GO, INFO, INFORMATION, INVALID, LIST, SERVER, UNKNOWN, UNSUP,
+};
 use crate::shape::{export_named, is_asked, is_shaped, name_length};
 use crate::table::Export;
 use nbd_base::NoMemory;
 use std::alloc::Allocator;
 use std::marker::Model;
-
-const EXPORT_NAME: u32 = 1;
-
-const ABORT: u32 = 2;
-
-const LIST: u32 = 3;
-
-const INFO: u32 = 6;
-
-const GO: u32 = 7;
-
-const ACK: u32 = 1;
-
-const SERVER: u32 = 2;
-
-const INFORMATION: u32 = 3;
-
-const UNSUP: u32 = 0x8000_0001;
-
-const INVALID: u32 = 0x8000_0003;
-
-const UNKNOWN: u32 = 0x8000_0006;
 
 const BLOCK_SIZE: [u8; 14] = [0, 3, 0, 0, 0, 1, 0, 0, 0x10, 0, 2, 0, 0, 0];
 

@@ -6,6 +6,7 @@ mod answers;
 mod attach;
 mod haggle;
 mod laws;
+mod protocol;
 mod saying;
 mod shape;
 mod table;

@@ -6,14 +6,11 @@ ghost use Rattle.nbd_options.specs.Haggled.{greeting_text, wants_no_zeroes, entr
 use crate::answers::{Next, OptionReply};
 use crate::attach::Attached;
 use crate::haggle::HeadFault;
+use crate::protocol::{GO, POLICY};
 use crate::table::ExportTable;
 use nbd_base::NoMemory;
 use nbd_wire::write_option_reply;
 use std::alloc::Allocator;
-
-const GO: u32 = 7;
-
-const POLICY: u32 = 0x8000_0002;
 
 const ZEROS: [u8; 124] = [0; 124];
 

@@ -1,3 +1,4 @@
+use crate::protocol::{ABORT, EXPORT_NAME, GO, INFO, LIST};
 use crate::{
     Always, Attach, Attached, ExportTable, Haggle, HaggleEnd, HeadFault, greeting, name_reply,
     no_zeroes, said,
@@ -6,17 +7,8 @@ use nbd_base::NoMemory;
 use refusing::Refusing;
 use std::alloc::{Allocator, Global};
 
-const EXPORT_NAME: u32 = 1;
-
-const ABORT: u32 = 2;
-
-const LIST: u32 = 3;
-
+// An option that isn't served.
 const STARTTLS: u32 = 5;
-
-const INFO: u32 = 6;
-
-const GO: u32 = 7;
 
 // Export a of 4,096 bytes, and export bb of 8,192 that is read-only and has a description. A push that found no memory
 // is made again.

@@ -2,13 +2,13 @@
 use Rattle.std.proofs.Common.{◌≡◌, ℕ, zero, suc, ◌<◌, ◌⊎◌, true, false, List, [], ◌∷◌, ◌++◌, Option, Some, None, Result, Ok, Err, reverse, length, refl, sym, ap, subst, ◌∙◌, inl, inr, arith, append_assoc}
 use Rattle.std.specs.Prelude.{is_err}
 use Rattle.std.specs.List.{AllByRecursion}
-use Rattle.std.proofs.lemmas.List.{reverse-reverse, reverse-append, length-append, append-nil}
+use Rattle.std.proofs.lemmas.List.{reverse-reverse, reverse-append, length-append, length-reverse, append-nil}
 use Rattle.std.proofs.lemmas.Bool.{cases_lt}
 use Rattle.std.specs.Io.KnownBytes.{Consumes, Keeps}
 use Rattle.nbd_wire.proofs.HeadLemmas.{length-head_text}
 use Rattle.nbd_wire.specs.declared.fault.FeedFault.{FeedFault}
 use Rattle.nbd_wire.specs.declared.fault.FeedFault.TheVariants as faults
-use Rattle.nbd_wire.specs.Grammar.{head_text, request_text, RequestMessage, IsRequest, IsUnfinished}
+use Rattle.nbd_wire.specs.Grammar.{head_text, request_text, RequestMessage, IsRequest, IsUnfinished, BeginsWhole}
 use Rattle.nbd_wire.specs.Pieces.{texts, Takes, Gathers, Feeds, Decoding}
 use Rattle.nbd_session.specs.declared.ending.Ending.{Ending}
 use Rattle.nbd_session.specs.declared.ending.Ending.TheVariants as ends
@@ -237,3 +237,11 @@ longer_by left later before now held ready d None nothing empty f = record {
     by (inl e) = e
     by (inr (none, lost)) = absurd (cc)
 longer_by left later before now held ready d (Some x) nothing empty f = absurd (cc)
+
+-- the first request that is ready stands first in the bytes that are kept
+ready_behind : (requests : List RequestMessage) (held : List ℕ) → AllByRecursion IsRequest requests → 0 < length requests → BeginsWhole (texts requests ++ held)
+ready_behind [] held each some = absurd (omega arith)
+ready_behind (m ∷ ms) held each some = (m, texts ms ++ held, append_assoc (request_text m) (texts ms) held, each.0)
+
+pub begins_ready : (ready : List RequestMessage) (held : List ℕ) → AllByRecursion IsRequest (reverse ready) → 0 < length ready → BeginsWhole (kept_of ready held)
+begins_ready ready held each some = ready_behind (reverse ready) held each (omega (arith, length-reverse ready))

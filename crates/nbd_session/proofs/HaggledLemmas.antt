@@ -1,24 +1,17 @@
 -- A handshake is haggling over the options that its bytes spell.
-use Rattle.std.proofs.Common.{◌≡◌, ◌≢◌, ℕ, ◌+◌, ◌<◌, ◌≤◌, ◌^◌, ◌⊎◌, Bool, true, false, List, [], ◌∷◌, ◌++◌, Option, Some, None, length, take, refl, sym, ap, subst, ◌∙◌, inl, inr, arith, nat_le, nat_lt}
-use Rattle.std.specs.Prelude.{if◌then◌else◌, not}
-use Rattle.std.specs.Str.{bytes_eq}
+use Rattle.std.proofs.Common.{◌≡◌, ℕ, ◌+◌, ◌<◌, ◌≤◌, ◌^◌, ◌⊎◌, Bool, List, [], ◌∷◌, ◌++◌, Option, Some, None, length, take, refl, sym, ap, subst, ◌∙◌, inl, inr, arith}
 use Rattle.std.specs.List.{AllByRecursion, flat_map}
-use Rattle.std.proofs.lemmas.Bool.{lt-ltb, le-ltb, false_from_ne_true}
 use Rattle.std.specs.Int.{w32, to_be_bytes}
 use Rattle.std.proofs.lemmas.Grind.{flat_map-append}
-use Rattle.std.proofs.lemmas.List.{append-nil, append_assoc, length-append, take_at, take-take}
-use Rattle.std.proofs.lemmas.Slice.Eq.{bytes_eq-Decides}
+use Rattle.std.proofs.lemmas.List.{append-nil, append_assoc, length-append}
 use Rattle.nbd_base.specs.Words.{when_some}
-use Rattle.nbd_wire.specs.Grammar.{option_head_text, option_magic}
-use Rattle.nbd_wire.proofs.HeadLemmas.{length-option_head_text}
-use Rattle.nbd_wire.proofs.OptionPlaces.{count_at-text, option_magic_at}
 use Rattle.nbd_options.specs.declared.attach.Attached.{Attached}
 use Rattle.nbd_options.specs.declared.haggle.HeadFault.{HeadFault}
 use Rattle.nbd_options.specs.declared.haggle.HeadFault.TheVariants as head_faults
 use Rattle.nbd_options.specs.declared.saying.HaggleEnd.{HaggleEnd}
 use Rattle.nbd_options.specs.declared.saying.HaggleEnd.TheVariants as haggle_ends
 use Rattle.nbd_options.specs.Exports.{ExportFacts}
-use Rattle.nbd_options.specs.Haggled.{Asked, Said, LeavesOpen, said_to, said_to_head, texts_to, and_then, said_from, ends_by, head_fault, told_length, wants_no_zeroes, haggled}
+use Rattle.nbd_options.specs.Haggled.{Asked, Said, LeavesOpen, said_to_head, texts_to, and_then, said_from, ends_by, head_fault, wants_no_zeroes, haggled}
 use Rattle.nbd_options.proofs.TurnLemmas.{options_in_turn}
 use Rattle.nbd_session.specs.declared.talking.End.{End}
 use Rattle.nbd_session.specs.declared.talking.End.TheVariants as ends
@@ -26,34 +19,9 @@ use Rattle.nbd_session.specs.declared.talking.Entry.{Entry}
 use Rattle.nbd_session.specs.declared.talking.Entry.TheVariants as entries
 use Rattle.nbd_session.specs.Options.{asked_text, text_to, IsAsked, GoesOn, OptionStops, StopsAt, Leaves, Haggles, entry_after}
 use Rattle.nbd_session.specs.Conversation.{FlagsStop, Greeted}
-use Rattle.nbd_session.specs.Haggled.{EndsAs, IsSent, IsHaggled, HandshakeIsHaggled}
+use Rattle.nbd_session.specs.Haggled.{EndsAs, IsHaggled, HandshakeIsHaggled}
 
 -- ---- a refused head
-
-faulty : (seen : ℕ) (bytes : List ℕ) (magic many long : Bool) → bytes_eq (take 8 bytes) option_magic ≡ magic → nat_le 1000 seen ≡ many → nat_lt 65536 (told_length bytes) ≡ long
-    → head_fault seen bytes ≡ (if not magic then Some head_faults.BadMagic else if many then Some head_faults.TooMany else if long then Some head_faults.TooLong else None)
-faulty seen bytes magic many long a b c = rw (a, b, c) refl
-
-other_fault : (seen : ℕ) (behind : List ℕ) → take 8 behind ≢ option_magic → head_fault seen (take 16 behind) ≡ Some head_faults.BadMagic
-other_fault seen behind ne =
-    let other : bytes_eq (take 8 (take 16 behind)) option_magic ≡ false = false_from_ne_true _ (λ t. ne (sym (take-take 8 16 behind (omega arith)) ∙ (bytes_eq-Decides _ _).0 t)) in
-    faulty seen (take 16 behind) false (nat_le 1000 seen) (nat_lt 65536 (told_length (take 16 behind))) other refl refl
-
-whole_head : (number count : ℕ) (more : List ℕ) → take 16 (option_head_text number count ++ more) ≡ option_head_text number count
-whole_head number count more = take_at (option_head_text number count) more 16 (length-option_head_text number count)
-
-magic_of : (number count : ℕ) → bytes_eq (take 8 (option_head_text number count)) option_magic ≡ true
-magic_of number count = (bytes_eq-Decides _ _).1 (ap (λ (t : List ℕ). take 8 t) (sym (append-nil (option_head_text number count))) ∙ option_magic_at number count [])
-
-length_told : (number count : ℕ) → count < 2 ^ 32 → told_length (option_head_text number count) ≡ count
-length_told number count small = ap told_length (sym (append-nil (option_head_text number count))) ∙ count_at-text number count [] small
-
-many_fault : (seen number count : ℕ) → 1000 ≤ seen → head_fault seen (option_head_text number count) ≡ Some head_faults.TooMany
-many_fault seen number count le = faulty seen (option_head_text number count) true true (nat_lt 65536 (told_length (option_head_text number count))) (magic_of number count) (lt-ltb _ _ (omega arith)) refl
-
-long_fault : (seen number count : ℕ) → count < 2 ^ 32 → seen < 1000 → 65536 < count → head_fault seen (option_head_text number count) ≡ Some head_faults.TooLong
-long_fault seen number count small few long =
-    faulty seen (option_head_text number count) true false true (magic_of number count) (le-ltb _ _ (omega arith)) (ap (nat_lt 65536) (length_told number count small) ∙ lt-ltb _ _ long)
 
 -- the head, if one is looked at, stands first behind the options
 abbrev StandsFirst : List ℕ → Option (List ℕ) → Type 0
@@ -76,15 +44,12 @@ record Stopped (seen : ℕ) (behind : List ℕ) (end : End) : Type 0 where
 by_head : (seen : ℕ) (bytes behind : List ℕ) (fault : HeadFault) (end : End) → bytes ≡ take 16 behind → head_fault seen bytes ≡ Some fault → entries.Out end ≡ entry_after (haggle_ends.BadHead fault) → Stopped seen behind end
 by_head seen bytes behind fault end first is as_end = record { head = Some bytes; by = Some (haggle_ends.BadHead fault); headed = first_head bytes behind first; said = rw is refl; ends = as_end }
 
-spelled_first : (number count : ℕ) (more behind : List ℕ) → behind ≡ option_head_text number count ++ more → option_head_text number count ≡ take 16 behind
-spelled_first number count more behind is = sym (ap (λ (t : List ℕ). take 16 t) is ∙ whole_head number count more)
-
 stopped : (seen : ℕ) (behind : List ℕ) (end : End) → OptionStops seen behind end → Stopped seen behind end
 stopped seen behind ends.Over h = record { head = None; by = None; headed = no_head behind; said = refl; ends = inl refl }
 stopped seen behind ends.Cut h = record { head = None; by = None; headed = no_head behind; said = refl; ends = inr refl }
-stopped seen behind ends.BadMagic h = by_head seen (take 16 behind) behind head_faults.BadMagic ends.BadMagic refl (other_fault seen behind h.1) refl
-stopped seen behind ends.TooMany (number, count, more, is, fits, small, many) = by_head seen (option_head_text number count) behind head_faults.TooMany ends.TooMany (spelled_first number count more behind is) (many_fault seen number count many) refl
-stopped seen behind ends.TooLong (number, count, more, is, fits, small, few, long) = by_head seen (option_head_text number count) behind head_faults.TooLong ends.TooLong (spelled_first number count more behind is) (long_fault seen number count small few long) refl
+stopped seen behind ends.BadMagic h = by_head seen (take 16 behind) behind head_faults.BadMagic ends.BadMagic refl h.1 refl
+stopped seen behind ends.TooMany h = by_head seen (take 16 behind) behind head_faults.TooMany ends.TooMany refl h.1 refl
+stopped seen behind ends.TooLong h = by_head seen (take 16 behind) behind head_faults.TooLong ends.TooLong refl h.1 refl
 stopped seen behind ends.Disc h = absurd h
 stopped seen behind ends.Abort h = absurd h
 stopped seen behind ends.NoExport h = absurd h

@@ -16,7 +16,7 @@ use Rattle.nbd_session.specs.declared.ending.Ending.TheVariants as ending
 use Rattle.nbd_session.specs.declared.ending.Frame.{Frame}
 use Rattle.nbd_session.specs.declared.ending.Frame.TheVariants as frames
 use Rattle.nbd_session.specs.Conversation.{AreBytes}
-use Rattle.nbd_session.specs.Frames.{Reading, Nexts, IsNext, IsEnded, EndsReader, Stops, Gives}
+use Rattle.nbd_session.specs.Frames.{Reading, Nexts, IsNext, IsEnded, EndsReader, Stops, Gives, end_by}
 use Rattle.nbd_session.specs.Requests.{after, reply_to, FindsWorn, Serves, StopsBy, IsAnswered}
 use Rattle.nbd_session.specs.Outcomes.{IsTold, Claims, Converses, IsBeginning}
 use Rattle.nbd_session.specs.Streams.{Rises, WritesPart}
@@ -71,37 +71,38 @@ module _ (terms : Terms) (first s : Alone) (kept : List ℕ) (i0 i1 o0 o1 : Opti
 
     -- ---- where the reading ended
 
-    stopped : (e : Ending) (f : Frame A) → frame ≡ f → (IsNext (old.kept ++ n.bytes) new i2 before now f → Stops e (old.kept ++ n.bytes) new i2 before now) → IsEnded e all × EndsReader e i2 before now
-    stopped e f is by =
-        let h = by (subst (λ (x : Frame A). IsNext (old.kept ++ n.bytes) new i2 before now x) is n.next) in
+    stopped : (e : Ending) → frame ≡ frames.Ended e → IsEnded e all × EndsReader e i2 before now
+    stopped e is =
+        let h : Stops e (old.kept ++ n.bytes) new i2 before now = subst (λ (x : Frame A). IsNext (old.kept ++ n.bytes) new i2 before now x) is n.next in
         (subst (λ (x : List ℕ). IsEnded e (x ++ n.bytes)) same h.stands, h.reader)
 
     ends_here : (answer : Result End TalkFault) → Claims IsTold (Serves terms s) i2 all [] answer → Converses IsTold (Serves terms first) i0 i2 o0 o1 answer
     ends_here answer claim = kept_ends i2 n.bytes answer n.took claim
 
-    pub is_over : frame ≡ frames.Over → Converses IsTold (Serves terms first) i0 i2 o0 o1 (Ok ends.Over)
-    is_over is = let h = stopped ending.Over frames.Over is (λ x. x) in ends_here (Ok ends.Over) (stops terms s all ends.Over h.0, h.1)
-
-    pub is_cut : frame ≡ frames.Cut → Converses IsTold (Serves terms first) i0 i2 o0 o1 (Ok ends.Cut)
-    is_cut is = let h = stopped ending.Cut frames.Cut is (λ x. x) in ends_here (Ok ends.Cut) (stops terms s all ends.Cut h.0, h.1)
-
-    pub is_bad_magic : frame ≡ frames.BadMagic → Converses IsTold (Serves terms first) i0 i2 o0 o1 (Ok ends.BadMagic)
-    is_bad_magic is = let h = stopped ending.BadMagic frames.BadMagic is (λ x. x) in ends_here (Ok ends.BadMagic) (stops terms s all ends.BadMagic h.0, tt)
-
-    pub is_too_long : frame ≡ frames.TooLong → Converses IsTold (Serves terms first) i0 i2 o0 o1 (Ok ends.TooLong)
-    is_too_long is = let h = stopped ending.TooLong frames.TooLong is (λ x. x) in ends_here (Ok ends.TooLong) (stops terms s all ends.TooLong h.0, tt)
-
-    pub is_read_failed : frame ≡ frames.ReadFailed → Converses IsTold (Serves terms first) i0 i2 o0 o1 (Err faults.ReadFailed)
-    is_read_failed is =
-        let h = stopped ending.ReadFailed frames.ReadFailed is (λ x. x) in
-        let u = unfinished_end all h.0 in
-        ends_here (Err faults.ReadFailed) (u.0, stops terms s all u.0 u.1)
-
-    pub read_rises : frame ≡ frames.ReadFailed → Rises before now
-    read_rises is = (stopped ending.ReadFailed frames.ReadFailed is (λ x. x)).1
-
     pub is_without_memory : Converses IsTold (Serves terms first) i0 i2 o0 o1 (Err faults.NoMemory)
     is_without_memory = ends_here (Err faults.NoMemory) (some_text n.bytes n.are_bytes)
+
+    pub is_ended : (e : Ending) → frame ≡ frames.Ended e → Converses IsTold (Serves terms first) i0 i2 o0 o1 (end_by e)
+    is_ended e is = by e (stopped e is)
+      where
+        by : (e : Ending) → IsEnded e all × EndsReader e i2 before now → Converses IsTold (Serves terms first) i0 i2 o0 o1 (end_by e)
+        by ending.Over h = ends_here (Ok ends.Over) (stops terms s all ends.Over h.0, h.1)
+        by ending.Cut h = ends_here (Ok ends.Cut) (stops terms s all ends.Cut h.0, h.1)
+        by ending.BadMagic h = ends_here (Ok ends.BadMagic) (stops terms s all ends.BadMagic h.0, tt)
+        by ending.TooLong h = ends_here (Ok ends.TooLong) (stops terms s all ends.TooLong h.0, tt)
+        by ending.ReadFailed h = let u = unfinished_end all h.0 in ends_here (Err faults.ReadFailed) (u.0, stops terms s all u.0 u.1)
+        by ending.NoMemory h = is_without_memory
+
+    pub read_rises : (e : Ending) (answer : Result End TalkFault) → frame ≡ frames.Ended e → answer ≡ end_by e → answer ≡ Err faults.ReadFailed → Rises before now
+    read_rises e answer is ends fails = by e (sym ends ∙ fails) (stopped e is)
+      where
+        by : (e : Ending) → end_by e ≡ Err faults.ReadFailed → IsEnded e all × EndsReader e i2 before now → Rises before now
+        by ending.Over f h = absurd (cc)
+        by ending.Cut f h = absurd (cc)
+        by ending.BadMagic f h = absurd (cc)
+        by ending.TooLong f h = absurd (cc)
+        by ending.ReadFailed f h = h.1
+        by ending.NoMemory f h = absurd (cc)
 
     -- ---- where a request is given
 

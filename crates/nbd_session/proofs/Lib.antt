@@ -17,3 +17,4 @@ pub mod KeptLemmas
 pub mod TalkLemmas
 pub mod HaggledLemmas
 pub mod Worked
+pub mod SessionTurnLemmas

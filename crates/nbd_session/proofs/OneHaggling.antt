@@ -1,13 +1,11 @@
 -- To the same options, with sessions always given, one text is said, and haggling ends in one way and place.
 use Rattle.std.proofs.Common.{◌≡◌, ℕ, ◌+◌, ◌^◌, ◌<◌, ◌≤◌, ◌⊎◌, Bool, cond, ltb, List, [], ◌∷◌, ◌++◌, Option, Some, None, length, take, drop, refl, sym, ap, subst, ◌∙◌, arith, inl, inr, append_assoc, add-zero}
 use Rattle.std.specs.List.{flat_map, AllByRecursion}
-use Rattle.std.specs.Str.{bytes_eq}
-use Rattle.std.proofs.lemmas.Bool.{cond-true, cond-false, lt-ltb, le-ltb, false_from_ne_true}
+use Rattle.std.proofs.lemmas.Bool.{cond-true, cond-false, lt-ltb, le-ltb}
 use Rattle.std.proofs.lemmas.List.{drop_at, take_at, length-append, append-nil}
-use Rattle.std.proofs.lemmas.Slice.Eq.{bytes_eq-Decides}
-use Rattle.nbd_wire.specs.Grammar.{option_head_text, option_text, option_magic}
+use Rattle.nbd_wire.specs.Grammar.{option_head_text, option_text}
 use Rattle.nbd_wire.proofs.HeadLemmas.{length-option_head_text}
-use Rattle.nbd_wire.proofs.OptionPlaces.{count_at, count_at-text, option_magic_at, one_option_head}
+use Rattle.nbd_wire.proofs.OptionPlaces.{one_option_head}
 use Rattle.nbd_options.specs.declared.answers.Next.{Next}
 use Rattle.nbd_options.specs.declared.answers.Next.TheVariants as nexts
 use Rattle.nbd_options.specs.declared.attach.Attached.{Attached}
@@ -15,59 +13,53 @@ use Rattle.nbd_options.specs.declared.attach.Attached.TheVariants as attached
 use Rattle.nbd_options.specs.declared.saying.HaggleEnd.{HaggleEnd}
 use Rattle.nbd_options.specs.Exports.{ExportFacts}
 use Rattle.nbd_options.specs.Replies.{ClientOption, next_after}
-use Rattle.nbd_options.specs.Haggled.{Asked, Said, said_to, ends_by}
+use Rattle.nbd_options.specs.Haggled.{Asked, Said, said_to, ends_by, head_fault, told_length}
+use Rattle.nbd_options.specs.declared.haggle.HeadFault.{HeadFault}
+use Rattle.nbd_options.specs.declared.haggle.HeadFault.TheVariants as faults
+use Rattle.nbd_options.proofs.HeadLemmas.{taken}
 use Rattle.nbd_session.specs.declared.talking.End.{End}
 use Rattle.nbd_session.specs.declared.talking.End.TheVariants as ends
 use Rattle.nbd_session.specs.declared.talking.Entry.{Entry}
 use Rattle.nbd_session.specs.declared.talking.Entry.TheVariants as entries
-use Rattle.nbd_session.specs.Options.{asked_text, text_to, MayAnswer, IsAsked, GoesOn, OptionStops, StopsAt, Leaves, Haggles, entry_after}
+use Rattle.nbd_session.specs.Options.{asked_text, text_to, MayAnswer, IsAsked, GoesOn, OptionStops, HeadStops, StopsAt, Leaves, Haggles, entry_after, fault_end}
 use Rattle.nbd_session.specs.Conversation.{IsGiven}
 use Rattle.nbd_session.proofs.OneService.{one_end, no_end}
+use Rattle.nbd_session.proofs.OfferLemmas.{long_head, first_head, told_first}
 
 -- ---- the end at an option's place
 
-abbrev by_count : ℕ → ℕ → ℕ → Option End
-by_count seen count n = cond (ltb seen 1000) (cond (ltb 65536 count) (Some ends.TooLong) (cond (ltb n count) (Some ends.Cut) None)) (Some ends.TooMany)
+-- by what is found of a whole head, and whether less data follows than it tells
+abbrev by_fault : Option HeadFault → Bool → Option End
+by_fault (Some fault) short = Some (fault_end fault)
+by_fault None short = cond short (Some ends.Cut) None
+
+abbrev behind_head : ℕ → List ℕ → Option End
+behind_head seen bytes = by_fault (head_fault seen (take 16 bytes)) (ltb (length bytes) (16 + told_length (take 16 bytes)))
 
 abbrev option_stop_of : ℕ → List ℕ → Option End
 option_stop_of seen [] = Some ends.Over
-option_stop_of seen (b ∷ bytes) =
-    cond (ltb (length (b ∷ bytes)) 16) (Some ends.Cut) (cond (bytes_eq (take 8 (b ∷ bytes)) option_magic) (by_count seen (count_at (b ∷ bytes)) (length (drop 16 (b ∷ bytes)))) (Some ends.BadMagic))
+option_stop_of seen (b ∷ bytes) = cond (ltb (length (b ∷ bytes)) 16) (Some ends.Cut) (behind_head seen (b ∷ bytes))
 
-option_stop_behind : (seen : ℕ) (bytes : List ℕ) → 0 < length bytes
-    → option_stop_of seen bytes ≡ cond (ltb (length bytes) 16) (Some ends.Cut) (cond (bytes_eq (take 8 bytes) option_magic) (by_count seen (count_at bytes) (length (drop 16 bytes))) (Some ends.BadMagic))
+option_stop_behind : (seen : ℕ) (bytes : List ℕ) → 0 < length bytes → option_stop_of seen bytes ≡ cond (ltb (length bytes) 16) (Some ends.Cut) (behind_head seen bytes)
 option_stop_behind seen [] lt = absurd (omega (arith, lt))
 option_stop_behind seen (b ∷ bytes) lt = refl
 
-long_option : (number count : ℕ) (more : List ℕ) → 16 ≤ length (option_head_text number count ++ more)
-long_option number count more = omega (arith, length-append (option_head_text number count) more, length-option_head_text number count)
+option_stop_head : (seen : ℕ) (bytes : List ℕ) → 16 ≤ length bytes → option_stop_of seen bytes ≡ behind_head seen bytes
+option_stop_head seen bytes long = option_stop_behind seen bytes (omega (arith, long)) ∙ cond-false (ltb (length bytes) 16) _ _ (le-ltb _ _ long)
 
-option_stop_head : (seen number count : ℕ) (more : List ℕ) → count < 2 ^ 32 → option_stop_of seen (option_head_text number count ++ more) ≡ by_count seen count (length more)
-option_stop_head seen number count more p =
-    let all = option_head_text number count ++ more in
-    option_stop_behind seen all (omega (arith, long_option number count more))
-    ∙ (cond-false (ltb (length all) 16) _ _ (le-ltb _ _ (long_option number count more))
-    ∙ (cond-true (bytes_eq (take 8 all) option_magic) _ _ ((bytes_eq-Decides _ _).1 (option_magic_at number count more))
-    ∙ (ap (λ (c : ℕ). by_count seen c (length (drop 16 all))) (count_at-text number count more p)
-    ∙ ap (λ (t : List ℕ). by_count seen count (length t)) (drop_at (option_head_text number count) more 16 (length-option_head_text number count)))))
+head_stopped : (seen : ℕ) (bytes : List ℕ) (fault : HeadFault) → HeadStops seen bytes fault → option_stop_of seen bytes ≡ Some (fault_end fault)
+head_stopped seen bytes fault h = option_stop_head seen bytes h.0 ∙ ap (λ (o : Option HeadFault). by_fault o (ltb (length bytes) (16 + told_length (take 16 bytes)))) h.1
+
+fine_head : (seen : ℕ) (bytes : List ℕ) → 16 ≤ length bytes → head_fault seen (take 16 bytes) ≡ None → option_stop_of seen bytes ≡ cond (ltb (length bytes) (16 + told_length (take 16 bytes))) (Some ends.Cut) None
+fine_head seen bytes long fine = option_stop_head seen bytes long ∙ ap (λ (o : Option HeadFault). by_fault o (ltb (length bytes) (16 + told_length (take 16 bytes)))) fine
 
 option_stopped : (seen : ℕ) (bytes : List ℕ) (e : End) → OptionStops seen bytes e → option_stop_of seen bytes ≡ Some e
 option_stopped seen bytes ends.Over h = ap (option_stop_of seen) h
 option_stopped seen bytes ends.Cut (lt, inl short) = option_stop_behind seen bytes lt ∙ cond-true (ltb (length bytes) 16) _ _ (lt-ltb _ _ short)
-option_stopped seen bytes ends.Cut (lt, inr (number, count, part, spelled, fits, le, few, less)) =
-    ap (option_stop_of seen) spelled ∙ (option_stop_head seen number count part (omega (arith, le))
-    ∙ (cond-true (ltb seen 1000) _ _ (lt-ltb _ _ few)
-    ∙ (cond-false (ltb 65536 count) _ _ (le-ltb _ _ le)
-    ∙ cond-true (ltb (length part) count) _ _ (lt-ltb _ _ less))))
-option_stopped seen bytes ends.BadMagic h =
-    option_stop_behind seen bytes (omega (arith, h.0))
-    ∙ (cond-false (ltb (length bytes) 16) _ _ (le-ltb _ _ h.0)
-    ∙ cond-false (bytes_eq (take 8 bytes) option_magic) _ _ (false_from_ne_true _ (λ t. h.1 ((bytes_eq-Decides _ _).0 t))))
-option_stopped seen bytes ends.TooMany (number, count, more, spelled, fits, small, many) =
-    ap (option_stop_of seen) spelled ∙ (option_stop_head seen number count more small ∙ cond-false (ltb seen 1000) _ _ (le-ltb _ _ many))
-option_stopped seen bytes ends.TooLong (number, count, more, spelled, fits, small, few, too) =
-    ap (option_stop_of seen) spelled ∙ (option_stop_head seen number count more small
-    ∙ (cond-true (ltb seen 1000) _ _ (lt-ltb _ _ few) ∙ cond-true (ltb 65536 count) _ _ (lt-ltb _ _ too)))
+option_stopped seen bytes ends.Cut (lt, inr (long, fine, part)) = fine_head seen bytes long fine ∙ cond-true (ltb (length bytes) (16 + told_length (take 16 bytes))) _ _ (lt-ltb _ _ part)
+option_stopped seen bytes ends.BadMagic h = head_stopped seen bytes faults.BadMagic h
+option_stopped seen bytes ends.TooMany h = head_stopped seen bytes faults.TooMany h
+option_stopped seen bytes ends.TooLong h = head_stopped seen bytes faults.TooLong h
 option_stopped seen bytes ends.Disc h = absurd h
 option_stopped seen bytes ends.Abort h = absurd h
 option_stopped seen bytes ends.NoExport h = absurd h
@@ -87,11 +79,16 @@ is_option may table a p = record { number = p.number; short = p.short }
 
 option_goes_by : (seen : ℕ) (o : ClientOption) (more : List ℕ) → IsOption o → seen < 1000 → option_stop_of seen (text_of o ++ more) ≡ None
 option_goes_by seen o more p few =
-    ap (option_stop_of seen) (append_assoc (option_head_text o.number (length o.content)) o.content more)
-    ∙ (option_stop_head seen o.number (length o.content) (o.content ++ more) (omega (arith, p.short))
-    ∙ (cond-true (ltb seen 1000) _ _ (lt-ltb _ _ few)
-    ∙ (cond-false (ltb 65536 (length o.content)) _ _ (le-ltb _ _ p.short)
-    ∙ cond-false (ltb (length (o.content ++ more)) (length o.content)) _ _ (le-ltb _ _ (omega (arith, length-append o.content more))))))
+    let number = o.number in
+    let count = length o.content in
+    let behind = o.content ++ more in
+    let long = long_head number count behind in
+    let told : told_length (take 16 (option_head_text number count ++ behind)) ≡ count = told_first number count behind (omega (arith, p.short)) in
+    let fine = taken seen (take 16 (option_head_text number count ++ behind)) number count (first_head number count behind) (omega (arith, p.short)) few p.short in
+    ap (option_stop_of seen) (append_assoc (option_head_text number count) o.content more)
+    ∙ (fine_head seen (option_head_text number count ++ behind) long fine
+    ∙ cond-false (ltb (length (option_head_text number count ++ behind)) (16 + told_length (take 16 (option_head_text number count ++ behind)))) _ _
+    (le-ltb _ _ (omega (arith, told, length-append (option_head_text number count) behind, length-append o.content more, length-option_head_text number count))))
 
 option_not_both : (seen : ℕ) (o : ClientOption) (more : List ℕ) (e : End) → IsOption o → seen < 1000 → OptionStops seen (text_of o ++ more) e → ⊥
 option_not_both seen o more e p few h = no_end (option_stop_of seen (text_of o ++ more)) e (option_goes_by seen o more p few) (option_stopped seen (text_of o ++ more) e h)

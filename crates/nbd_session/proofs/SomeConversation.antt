@@ -4,7 +4,7 @@ use Rattle.std.proofs.lemmas.Option.{slice_get-map}
 use Rattle.std.proofs.Common.{◌≡◌, ℕ, zero, suc, ◌+◌, ◌^◌, ◌<◌, ◌≤◌, Bool, List, [], ◌∷◌, ◌++◌, Option, Some, None, length, take, drop, refl, sym, ap, subst, ◌∙◌, arith, inl, inr, append_assoc}
 use Rattle.std.specs.Str.{bytes_eq}
 use Rattle.std.specs.Int.{w32, from_be_bytes, to_be_bytes}
-use Rattle.std.proofs.lemmas.Bool.{cases_lt, cases_eq, cases_Bool, false≢true}
+use Rattle.std.proofs.lemmas.Bool.{cases_lt, cases_eq, cases_Bool}
 use Rattle.std.proofs.lemmas.Nat.{be_bytes_4}
 use Rattle.std.proofs.lemmas.List.{length-append, length-take, take-append-drop, drop_at}
 use Rattle.std.proofs.lemmas.Slice.Eq.{bytes_eq-Decides}
@@ -35,6 +35,8 @@ use Rattle.nbd_session.proofs.ServeLemmas.{stops, goes_on}
 use Rattle.nbd_session.proofs.HaggleLemmas.{stops_here, leaves_here, same_said}
 use Rattle.nbd_session.proofs.HaggleLemmas as row
 use Rattle.nbd_session.proofs.InTable.{IsIn, inside_of}
+use Rattle.nbd_options.proofs.HeadLemmas.{too_many, too_long}
+use Rattle.nbd_session.proofs.OfferLemmas.{long_head, first_head, other_head, content_gap}
 use Rattle.nbd_session.proofs.OneHaggling.{given_of}
 
 -- a text is said, and an end comes
@@ -177,12 +179,14 @@ module _ (table : List ExportFacts) (bare : Bool) where
 
   option_head : (seen number count : ℕ) (more bytes : List ℕ) → seen ≤ 1000 → number < 2 ^ 32 → count < 2 ^ 32 → bytes ≡ option_head_text number count ++ more → AreBytes bytes → After seen bytes → SomeHaggling table bare seen bytes
   option_head seen number count more bytes le fits small is f after =
+      let first : take 16 bytes ≡ option_head_text number count = ap (λ (t : List ℕ). take 16 t) is ∙ first_head number count more in
+      let long : 16 ≤ length bytes = omega (arith, ap length is, long_head number count more) in
       elim (cases_lt seen 1000) [
-        | inr many ↦ stop seen bytes ends.TooMany le f (number, count, more, is, fits, small, many)
+        | inr many ↦ stop seen bytes ends.TooMany le f (long, too_many seen (take 16 bytes) number count first small many)
         | inl few ↦ elim (cases_lt 65536 count) [
-          | inl big ↦ stop seen bytes ends.TooLong le f (number, count, more, is, fits, small, few, big)
+          | inl big ↦ stop seen bytes ends.TooLong le f (long, too_long seen (take 16 bytes) number count first small few big)
           | inr short ↦ elim (cases_lt (length more) count) [
-            | inl lt ↦ stop seen bytes ends.Cut le f (omega (arith, ap length is, length-append (option_head_text number count) more, length-option_head_text number count), inr (number, count, more, is, fits, short, few, lt))
+            | inl lt ↦ stop seen bytes ends.Cut le f (subst (λ (t : List ℕ). OptionStops seen t ends.Cut) (sym is) (content_gap seen number count more fits short few lt))
             | inr ge ↦ whole_option seen number count more bytes fits short few is f ge after
           ]
         ]
@@ -196,9 +200,9 @@ module _ (table : List ExportFacts) (bare : Bool) where
           | inl t ↦ let s = option_spelled_at bytes f long ((bytes_eq-Decides _ _).0 t) in
               elim (cases_lt seen 1000) [
                 | inl few ↦ option_head seen s.0 s.1 (drop 16 bytes) bytes le s.2 s.3 s.4 f (after few)
-                | inr many ↦ stop seen bytes ends.TooMany le f (s.0, s.1, drop 16 bytes, s.4, s.2, s.3, many)
+                | inr many ↦ stop seen bytes ends.TooMany le f (long, too_many seen (take 16 bytes) s.0 s.1 (ap (λ (t : List ℕ). take 16 t) s.4 ∙ first_head s.0 s.1 (drop 16 bytes)) s.3 many)
               ]
-          | inr t ↦ stop seen bytes ends.BadMagic le f (long, λ e. absurd (false≢true (sym t ∙ (bytes_eq-Decides _ _).1 e)))
+          | inr t ↦ stop seen bytes ends.BadMagic le f (long, other_head seen bytes t)
         ]
       ]
 

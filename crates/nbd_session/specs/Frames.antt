@@ -10,12 +10,18 @@ use Rattle.nbd_session.specs.declared.ending.Ending.{Ending}
 use Rattle.nbd_session.specs.declared.ending.Ending.TheVariants as ends
 use Rattle.nbd_session.specs.declared.ending.Frame.{Frame}
 use Rattle.nbd_session.specs.declared.ending.Frame.TheVariants as frames
+use Rattle.nbd_session.specs.declared.talking.End.{End}
+use Rattle.nbd_session.specs.declared.talking.End.TheVariants as said
+use Rattle.nbd_session.specs.declared.talking.TalkFault.{TalkFault}
+use Rattle.nbd_session.specs.declared.talking.TalkFault.TheVariants as talks
 use Rattle.nbd_session.specs.Streams.{Rises}
 use Rattle.nbd_session.specs.Conversation.{AreBytes}
 
--- the bytes that were read and stand in no request that was given, and how the reading ended, once that was told
+-- the bytes that were read and stand in no request that was given, how many requests of them are ready to be given, and
+-- how the reading ended, once that was told
 pub record Reading : Type 0 where
   pub kept : List ℕ
+  pub ready : ℕ
   pub ended : Option Ending
 
 -- the same, with what the reader has left, where that is known, and its failures
@@ -56,22 +62,14 @@ pub record Gives (q : RequestMessage) (bytes : List ℕ) (new : Reading) (before
   pub none_failed : now ≡ before
 
 module _ {A : Type 0} where
-  abbrev pub frame_of : Ending → Frame A
-  frame_of ends.Over = frames.Over
-  frame_of ends.Cut = frames.Cut
-  frame_of ends.BadMagic = frames.BadMagic
-  frame_of ends.TooLong = frames.TooLong
-  frame_of ends.ReadFailed = frames.ReadFailed
-  frame_of ends.NoMemory = frames.NoMemory
-
   abbrev pub IsNext : List ℕ → Reading → Option (List ℕ) → ℕ → ℕ → Frame A → Type 0
   IsNext bytes new left before now (frames.Whole q) = Gives q bytes new before now
-  IsNext bytes new left before now frames.Over = Stops ends.Over bytes new left before now
-  IsNext bytes new left before now frames.Cut = Stops ends.Cut bytes new left before now
-  IsNext bytes new left before now frames.BadMagic = Stops ends.BadMagic bytes new left before now
-  IsNext bytes new left before now frames.TooLong = Stops ends.TooLong bytes new left before now
-  IsNext bytes new left before now frames.ReadFailed = Stops ends.ReadFailed bytes new left before now
-  IsNext bytes new left before now frames.NoMemory = Stops ends.NoMemory bytes new left before now
+  IsNext bytes new left before now (frames.Ended e) = Stops e bytes new left before now
+
+  -- a request
+  abbrev pub IsWhole : Frame A → Type 0
+  IsWhole (frames.Whole q) = Unit {0}
+  IsWhole (frames.Ended e) = ⊥
 
   -- Some bytes were read, and of those kept and those read then this frame is the first.
   pub record Nexts (old new : Reading) (left later : Option (List ℕ)) (before now : ℕ) (frame : Frame A) : Type 0 where
@@ -87,6 +85,15 @@ ending_of faults.BadMagic = ends.BadMagic
 ending_of faults.TooLong = ends.TooLong
 ending_of faults.NoMemory = ends.NoMemory
 ending_of faults.Failed = ends.NoMemory
+
+-- how a conversation ends where the reading of its requests ended so
+abbrev pub end_by : Ending → Result End TalkFault
+end_by ends.Over = Ok said.Over
+end_by ends.Cut = Ok said.Cut
+end_by ends.BadMagic = Ok said.BadMagic
+end_by ends.TooLong = Ok said.TooLong
+end_by ends.ReadFailed = Err talks.ReadFailed
+end_by ends.NoMemory = Err talks.NoMemory
 
 -- the requests that are ready, the last first, and the bytes behind them
 abbrev pub kept_of : List RequestMessage → List ℕ → List ℕ

@@ -1,7 +1,7 @@
 -- What a server says to the options that bytes spell, up to where haggling ends.
-use Rattle.std.specs.Prelude.{◌≡◌, ◌≢◌, ℕ, ◌+◌, ◌<◌, ◌≤◌, ◌^◌, ◌⊎◌, Bool, None, List, [], ◌++◌, length, take}
+use Rattle.std.specs.Prelude.{◌≡◌, ℕ, ◌+◌, ◌<◌, ◌≤◌, ◌^◌, ◌⊎◌, Bool, Some, None, List, [], ◌++◌, length, take}
 use Rattle.std.specs.List.{flat_map, AllByRecursion}
-use Rattle.nbd_wire.specs.Grammar.{option_head_text, option_text, option_magic}
+use Rattle.nbd_wire.specs.Grammar.{option_text}
 use Rattle.nbd_options.specs.declared.answers.Next.{Next}
 use Rattle.nbd_options.specs.declared.answers.Next.TheVariants as nexts
 use Rattle.nbd_options.specs.declared.attach.Attached.{Attached}
@@ -12,7 +12,7 @@ use Rattle.nbd_options.specs.declared.saying.HaggleEnd.{HaggleEnd}
 use Rattle.nbd_options.specs.declared.saying.HaggleEnd.TheVariants as haggle_ends
 use Rattle.nbd_options.specs.Exports.{ExportFacts}
 use Rattle.nbd_options.specs.Replies.{next_after}
-use Rattle.nbd_options.specs.Haggled.{Asked, said_to, ends_by}
+use Rattle.nbd_options.specs.Haggled.{Asked, said_to, ends_by, head_fault, told_length}
 use Rattle.nbd_session.specs.declared.talking.End.{End}
 use Rattle.nbd_session.specs.declared.talking.End.TheVariants as ends
 use Rattle.nbd_session.specs.declared.talking.Entry.{Entry}
@@ -56,14 +56,21 @@ entry_after haggle_ends.NoExport = entries.Out ends.NoExport
 entry_after haggle_ends.BadFlags = entries.Out ends.BadFlags
 entry_after (haggle_ends.BadHead fault) = entries.Out (fault_end fault)
 
+-- a whole head stands at an option's place, and is refused
+abbrev pub HeadStops : ℕ → List ℕ → HeadFault → Type 0
+HeadStops seen bytes fault = (16 ≤ length bytes) × (head_fault seen (take 16 bytes) ≡ Some fault)
+
+-- a whole head stands there that isn't refused, and less data behind it than it tells
+abbrev pub EndsWithin : ℕ → List ℕ → Type 0
+EndsWithin seen bytes = (16 ≤ length bytes) × (head_fault seen (take 16 bytes) ≡ None) × (length bytes < 16 + told_length (take 16 bytes))
+
 -- the bytes from an option's place on, where no whole option to be answered stands there
 abbrev pub OptionStops : ℕ → List ℕ → End → Type 0
 OptionStops seen bytes ends.Over = bytes ≡ []
-OptionStops seen bytes ends.Cut = (0 < length bytes) × ((length bytes < 16)
-    ⊎ ((number count : ℕ) × (part : List ℕ) × (bytes ≡ option_head_text number count ++ part) × (number < 2 ^ 32) × (count ≤ 65536) × (seen < 1000) × (length part < count)))
-OptionStops seen bytes ends.BadMagic = (16 ≤ length bytes) × (take 8 bytes ≢ option_magic)
-OptionStops seen bytes ends.TooMany = (number count : ℕ) × (more : List ℕ) × (bytes ≡ option_head_text number count ++ more) × (number < 2 ^ 32) × (count < 2 ^ 32) × (1000 ≤ seen)
-OptionStops seen bytes ends.TooLong = (number count : ℕ) × (more : List ℕ) × (bytes ≡ option_head_text number count ++ more) × (number < 2 ^ 32) × (count < 2 ^ 32) × (seen < 1000) × (65536 < count)
+OptionStops seen bytes ends.Cut = (0 < length bytes) × ((length bytes < 16) ⊎ EndsWithin seen bytes)
+OptionStops seen bytes ends.BadMagic = HeadStops seen bytes faults.BadMagic
+OptionStops seen bytes ends.TooMany = HeadStops seen bytes faults.TooMany
+OptionStops seen bytes ends.TooLong = HeadStops seen bytes faults.TooLong
 OptionStops seen bytes end = ⊥
 
 abbrev pub StopsAt : ℕ → List ℕ → Entry → Type 0

@@ -37,8 +37,8 @@ pub fn talk<A: Allocator + Copy, R: Read, W: Write>(
     }
 }
 
-/// What haggling tells of each export.
-fn table_of<A: Allocator + Copy>(
+/// What haggling tells of each export of a configuration.
+pub fn table_of<A: Allocator + Copy>(
     alloc: A,
     exports: &[ExportConfig<A>],
 ) -> Result<ExportTable<A>, NoMemory>

@@ -18,20 +18,10 @@ pub enum Ending {
     NoMemory,
 }
 
-/// What stands next in a client's bytes: a request, or how the reading ended.
+/// What stands next in a client's bytes.
 #[derive(Drop)]
 pub enum Frame<A: Allocator> {
     Whole(Request<A>),
-    /// The input ended between two messages.
-    Over,
-    /// The input ended within a message.
-    Cut,
-    /// A head has another magic than it should.
-    BadMagic,
-    /// A WRITE is longer than allowed.
-    TooLong,
-    /// A read failed.
-    ReadFailed,
-    /// Memory was refused.
-    NoMemory,
+    /// No request: the reading ended so.
+    Ended(Ending),
 }

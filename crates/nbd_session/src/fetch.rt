@@ -1,10 +1,10 @@
 //! Pieces out of a reader, and the requests that they make whole.
-ghost use Rattle.std.specs.Prelude.{◌≡◌, ◌≢◌, ◌<◌, ◌==◌, [], length, false, vec_len, None, IfOk, OnOk, if◌then◌else◌};
-ghost use Rattle.nbd_session.specs.Frames.{IsBehindReady, IsFraming, TakesIn, Fetches, Advances, ending_of, frame_of};
+ghost use Rattle.std.specs.Prelude.{◌≡◌, ◌≢◌, ◌<◌, ◌==◌, [], length, false, vec_len, None, IsOk, IfOk, OnOk, if◌then◌else◌};
+ghost use Rattle.nbd_session.specs.Frames.{IsBehindReady, IsFraming, TakesIn, Fetches, Advances, ending_of};
 ghost use Rattle.nbd_session.specs.declared.ending.Ending.{Ending};
 
 use crate::counted::Counted;
-use crate::ending::{Ending, Frame};
+use crate::ending::Ending;
 use nbd_wire::{Decoder, FeedFault, Request};
 use std::alloc::{AllocError, Allocator};
 use std::io::Read;
@@ -25,6 +25,7 @@ pub fn advance<A: Allocator + Copy, R: Read>(
     requires framing { IsFraming ready.old.items fault.old decoder.old }
     ensures advanced { Advances (R.remaining reader.old.inner) (R.remaining reader.new.inner) reader.old.failures reader.new.failures
         ready.old.items decoder.old.held ready.new.items decoder.new.held result }
+    ensures ready { ready.old.items ≢ [] → IsOk result × (reader.new ≡ reader.old) }
     ensures framing { IsFraming ready.new.items fault.new decoder.new }
 {
     if let Some(request) = ready.pop() {
@@ -55,20 +56,6 @@ fn ending_of(fault: FeedFault) -> Ending
         FeedFault::BadMagic => Ending::BadMagic,
         FeedFault::TooLong => Ending::TooLong,
         FeedFault::NoMemory | FeedFault::Failed => Ending::NoMemory,
-    }
-}
-
-/// An ending as what stands next.
-pub fn frame_of<A: Allocator>(ending: Ending) -> Frame<A>
-    ensures { result ≡ frame_of ending }
-{
-    match ending {
-        Ending::Over => Frame::Over,
-        Ending::Cut => Frame::Cut,
-        Ending::BadMagic => Frame::BadMagic,
-        Ending::TooLong => Frame::TooLong,
-        Ending::ReadFailed => Frame::ReadFailed,
-        Ending::NoMemory => Frame::NoMemory,
     }
 }
 

@@ -2,7 +2,7 @@
 
 use crate::counted::Counted;
 use crate::ending::{Ending, Frame};
-use crate::fetch::{advance, frame_of};
+use crate::fetch::advance;
 use nbd_wire::{Decoder, FeedFault, Request};
 use std::alloc::Allocator;
 use std::io::Read;
@@ -22,23 +22,26 @@ pub struct Frames<A: Allocator + Copy> {
 }
 
 impl<A: Allocator + Copy> Model for Frames<A> {
+    ghost use Rattle.std.specs.Prelude.{length};
     ghost use Rattle.nbd_session.specs.Frames.{Reading, kept_of, IsFraming};
 
     ghost Value = { Reading };
 
-    ghost view = { λ f. record { kept = kept_of f.ready.items f.decoder.held; ended = f.ended } };
+    ghost view = { λ f. record { kept = kept_of f.ready.items f.decoder.held; ready = length f.ready.items; ended = f.ended } };
 
     ghost invariant = { λ f. IsFraming f.ready.items f.fault f.decoder };
 }
 
 impl<A: Allocator + Copy> Frames<A> {
-    ghost use Rattle.std.specs.Prelude.{◌≡◌, [], Some, None};
+    ghost use Rattle.std.specs.Prelude.{◌≡◌, ◌<◌, [], Some, None};
     ghost use Rattle.nbd_session.specs.declared.ending.Ending.{Ending};
-    ghost use Rattle.nbd_session.specs.Frames.{Nexts, frame_of};
+    ghost use Rattle.std.specs.Prelude.{IsTrue};
+    ghost use Rattle.nbd_wire.specs.Grammar.{BeginsWhole};
+    ghost use Rattle.nbd_session.specs.Frames.{Nexts, IsWhole};
 
     /// Nothing was read yet.
     pub fn new(alloc: A) -> Frames<A>
-        ensures { result ≡ record { kept = []; ended = None } }
+        ensures { result ≡ record { kept = []; ready = 0; ended = None } }
     {
         Frames {
             decoder: Decoder::new(alloc),
@@ -51,13 +54,17 @@ impl<A: Allocator + Copy> Frames<A> {
     }
 
     /// The next request, or how the reading ended; then each later call tells the same.
+    ///
+    /// A request that is ready is given without a read, whatever memory there is. So want of memory is told only where none
+    /// is ready: for the next piece, or for a request in what was read.
     pub fn next<R: Read>(&mut self, reader: &mut Counted<R>) -> Frame<A>
         ensures next { self.old.ended ≡ None → Nexts self.old self.new (R.remaining reader.old.inner) (R.remaining reader.new.inner)
             reader.old.failures reader.new.failures result }
-        ensures again { (e : Ending) → self.old.ended ≡ Some e → (result ≡ frame_of e) × (self.new ≡ self.old) × (reader.new ≡ reader.old) }
+        ensures ready { self.old.ended ≡ None → 0 < self.old.ready → IsWhole result × (reader.new ≡ reader.old) }
+        ensures again { (e : Ending) → self.old.ended ≡ Some e → (result ≡ Frame.Ended e) × (self.new ≡ self.old) × (reader.new ≡ reader.old) }
     {
         if let Some(ending) = self.ended {
-            return frame_of(ending);
+            return Frame::Ended(ending);
         }
         match advance(
             self.alloc,
@@ -70,9 +77,16 @@ impl<A: Allocator + Copy> Frames<A> {
             Ok(request) => Frame::Whole(request),
             Err(ending) => {
                 self.ended = Some(ending);
-                frame_of(ending)
+                Frame::Ended(ending)
             }
         }
+    }
+
+    /// Whether the next call gives a request without reading.
+    pub fn is_ready(&self) -> bool
+        ensures { IsTrue result → BeginsWhole self.now.kept }
+    {
+        !self.ready.as_slice().is_empty()
     }
 }
 
@@ -92,13 +106,15 @@ impl<R: Read, A: Allocator + Copy> Model for FrameReader<R, A> {
 }
 
 impl<R: Read, A: Allocator + Copy> FrameReader<R, A> {
-    ghost use Rattle.std.specs.Prelude.{◌≡◌, [], Some, None};
+    ghost use Rattle.std.specs.Prelude.{◌≡◌, ◌<◌, [], Some, None};
     ghost use Rattle.nbd_session.specs.declared.ending.Ending.{Ending};
-    ghost use Rattle.nbd_session.specs.Frames.{Nexts, frame_of};
+    ghost use Rattle.std.specs.Prelude.{IsTrue};
+    ghost use Rattle.nbd_wire.specs.Grammar.{BeginsWhole};
+    ghost use Rattle.nbd_session.specs.Frames.{Nexts, IsWhole};
 
     /// Nothing was read yet.
     pub fn new(alloc: A, reader: Counted<R>) -> FrameReader<R, A>
-        ensures { result ≡ record { left = R.remaining reader.inner; failures = reader.failures; reading = record { kept = []; ended = None } } }
+        ensures { result ≡ record { left = R.remaining reader.inner; failures = reader.failures; reading = record { kept = []; ready = 0; ended = None } } }
     {
         FrameReader {
             reader,
@@ -107,11 +123,23 @@ impl<R: Read, A: Allocator + Copy> FrameReader<R, A> {
     }
 
     /// The next request, or how the reading ended; then each later call tells the same.
+    ///
+    /// A request that is ready is given without a read, whatever memory there is. So want of memory is told only where none
+    /// is ready: for the next piece, or for a request in what was read.
     pub fn next(&mut self) -> Frame<A>
         ensures next { self.old.reading.ended ≡ None → Nexts self.old.reading self.new.reading self.old.left self.new.left
             self.old.failures self.new.failures result }
-        ensures again { (e : Ending) → self.old.reading.ended ≡ Some e → (result ≡ frame_of e) × (self.new ≡ self.old) }
+        ensures ready { self.old.reading.ended ≡ None → 0 < self.old.reading.ready
+            → IsWhole result × (self.new.left ≡ self.old.left) × (self.new.failures ≡ self.old.failures) }
+        ensures again { (e : Ending) → self.old.reading.ended ≡ Some e → (result ≡ Frame.Ended e) × (self.new ≡ self.old) }
     {
         self.frames.next(&mut self.reader)
+    }
+
+    /// Whether the next call gives a request without reading: one stands first in the bytes that were read.
+    pub fn is_ready(&self) -> bool
+        ensures { IsTrue result → BeginsWhole self.now.reading.kept }
+    {
+        self.frames.is_ready()
     }
 }

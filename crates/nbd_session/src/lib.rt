@@ -4,6 +4,7 @@
 
 mod conversing;
 mod counted;
+mod door;
 mod ending;
 mod fetch;
 mod fill;
@@ -12,13 +13,16 @@ mod haggling;
 mod laws;
 mod offers;
 mod serving;
+mod session_turns;
 mod talking;
 mod transmission;
 
-pub use conversing::talk;
+pub use conversing::{table_of, talk};
 pub use counted::Counted;
+pub use door::Door;
 pub use ending::{Ending, Frame};
 pub use frames::FrameReader;
 pub use haggling::haggle;
 pub use laws::{handshake_is_haggled, one_conversation, requests_are_plain, worked_conversations};
+pub use session_turns::{Turn, offer, read_turn, write_turn};
 pub use talking::{End, Entry, TalkFault};

@@ -6,14 +6,15 @@ ghost use Rattle.nbd_session.specs.Streams.{Rises, WritesPart};
 ghost use Rattle.nbd_session.specs.Requests.{Serves, opened};
 ghost use Rattle.nbd_session.specs.Plainly.{IsIdle};
 ghost use Rattle.nbd_session.specs.Outcomes.{Converses, IsTold};
+ghost use Rattle.nbd_session.specs.Frames.{end_by};
 
 use crate::counted::Counted;
-use crate::ending::Frame;
+use crate::ending::{Ending, Frame};
 use crate::fill::put;
 use crate::frames::Frames;
 use crate::serving::{open, serve};
 use crate::talking::{End, TalkFault};
-use export_store::{Flat, Image};
+use export_store::{Image, Paged};
 use lone_export::Lone;
 use nbd_commands::ExportConfig;
 use nbd_wire::protocol::DISC;
@@ -36,7 +37,7 @@ pub fn transmit<A: Allocator + Copy, R: Read, W: Write>(
 {
     // Its depth and its window are 1 at least.
     let _ = export.window();
-    let mut lone: Lone<Flat<A>> = Lone::new(alloc, export, 1)?;
+    let mut lone: Lone<Paged<A>> = Lone::new(alloc, export, 1)?;
     open(&mut lone)?;
     requests(alloc, &mut lone, reader, writer)
 }
@@ -60,12 +61,7 @@ fn requests<I: Image, R: Read, W: Write>(
     loop {
         let request = match frames.next(reader) {
             Frame::Whole(request) => request,
-            Frame::Over => return Ok(End::Over),
-            Frame::Cut => return Ok(End::Cut),
-            Frame::BadMagic => return Ok(End::BadMagic),
-            Frame::TooLong => return Ok(End::TooLong),
-            Frame::ReadFailed => return Err(TalkFault::ReadFailed),
-            Frame::NoMemory => return Err(TalkFault::NoMemory),
+            Frame::Ended(ending) => return end_of(ending),
         };
         if is_disc(request.head()) {
             return Ok(End::Disc);
@@ -77,8 +73,22 @@ fn requests<I: Image, R: Read, W: Write>(
     }
 }
 
+/// How the conversation ends where the reading of its requests ended so.
+fn end_of(ending: Ending) -> Result<End, TalkFault>
+    ensures { result ≡ end_by ending }
+{
+    match ending {
+        Ending::Over => Ok(End::Over),
+        Ending::Cut => Ok(End::Cut),
+        Ending::BadMagic => Ok(End::BadMagic),
+        Ending::TooLong => Ok(End::TooLong),
+        Ending::ReadFailed => Err(TalkFault::ReadFailed),
+        Ending::NoMemory => Err(TalkFault::NoMemory),
+    }
+}
+
 /// Whether a request ends the session. Its other fields are ignored.
-fn is_disc(head: RequestHead) -> bool
+pub(crate) fn is_disc(head: RequestHead) -> bool
     ensures { result ≡ (head.kind == 2) }
 {
     head.kind == DISC

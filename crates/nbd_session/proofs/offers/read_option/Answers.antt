@@ -1,8 +1,11 @@
-use Rattle.std.proofs.Common.{◌++◌, take, ℕ, List, arith, sym, subst}
+use Rattle.std.proofs.Common.{◌≡◌, ◌++◌, Some, take, ℕ, List, arith, sym, subst}
 use Rattle.std.proofs.lemmas.List.{length-take}
 use Rattle.nbd_session.specs.Haggling.{IsOffer}
 use Rattle.nbd_session.proofs.KnownLemmas.{Consumes-then}
-use Rattle.nbd_session.proofs.OfferLemmas.{head_gap}
+use Rattle.nbd_options.specs.declared.haggle.HeadFault.{HeadFault}
+use Rattle.nbd_options.specs.declared.haggle.HeadFault.TheVariants as faults
+use Rattle.nbd_options.specs.Haggled.{head_fault}
+use Rattle.nbd_session.proofs.OfferLemmas.{head_gap, head_stop}
 use Rattle.nbd_session.proofs.offers.read_option.Goals as goal
 
 pub returns-in-Failed-clause-taken : goal.returns-in-Failed-clause-taken
@@ -25,3 +28,27 @@ returns-in-Ok-clause-taken g c =
       offer = subst (λ (t : List ℕ). IsOffer c.args.haggle.now.seen (t ++ behind.bytes) c.read_content.result) (sym c.in-Ok.ensures.ok.0) behind.offer;
       told = behind.told;
     }
+
+pub returns-in-Err-BadMagic-clause-taken : goal.returns-in-Err-BadMagic-clause-taken
+returns-in-Err-BadMagic-clause-taken g c = record {
+  bytes = c.fill.new.buf;
+  took = c.in-Whole.ensures.0;
+  offer = head_stop c.args.haggle.now.seen c.fill.new.buf faults.BadMagic (omega arith) (subst (λ (f : HeadFault). head_fault c.args.haggle.now.seen c.fill.new.buf ≡ Some f) c.in-Err-BadMagic.field-0-is c.in-Err-BadMagic.ensures.err);
+  told = tt;
+}
+
+pub returns-in-Err-TooMany-clause-taken : goal.returns-in-Err-TooMany-clause-taken
+returns-in-Err-TooMany-clause-taken g c = record {
+  bytes = c.fill.new.buf;
+  took = c.in-Whole.ensures.0;
+  offer = head_stop c.args.haggle.now.seen c.fill.new.buf faults.TooMany (omega arith) (subst (λ (f : HeadFault). head_fault c.args.haggle.now.seen c.fill.new.buf ≡ Some f) c.in-Err-TooMany.field-0-is c.in-Err-TooMany.ensures.err);
+  told = tt;
+}
+
+pub returns-in-Err-TooLong-clause-taken : goal.returns-in-Err-TooLong-clause-taken
+returns-in-Err-TooLong-clause-taken g c = record {
+  bytes = c.fill.new.buf;
+  took = c.in-Whole.ensures.0;
+  offer = head_stop c.args.haggle.now.seen c.fill.new.buf faults.TooLong (omega arith) (subst (λ (f : HeadFault). head_fault c.args.haggle.now.seen c.fill.new.buf ≡ Some f) c.in-Err-TooLong.field-0-is c.in-Err-TooLong.ensures.err);
+  told = tt;
+}

@@ -1,9 +1,10 @@
-use Rattle.std.proofs.Common.{arith, refl, ap, ◌∙◌}
+use Rattle.std.proofs.Common.{ℕ, arith, refl, ap, subst, ◌∙◌}
 use Rattle.std.proofs.lemmas.Result.{err_from_is_err_and}
 use Rattle.nbd_session.specs.Frames.{Reading}
+use Rattle.nbd_session.specs.Streams.{Rises}
 use Rattle.nbd_session.specs.Requests.{opened}
 use Rattle.nbd_session.proofs.ServeLemmas.{served_by, still_idle, still_terms, still_few, few_at_first, worn_by_count}
-use Rattle.nbd_session.proofs.KeptLemmas.{keeps_nothing, is_over, is_cut, is_bad_magic, is_too_long, is_read_failed, is_without_memory, is_disc, disc_by, no_disc_by, is_worn, is_part, keeps_on, gives}
+use Rattle.nbd_session.proofs.KeptLemmas.{keeps_nothing, is_ended, is_without_memory, read_rises, is_disc, disc_by, no_disc_by, is_worn, is_part, keeps_on, gives}
 use Rattle.nbd_session.proofs.transmission.requests.Goals as goal
 
 pub loop-request-init : goal.loop-request-init
@@ -21,8 +22,8 @@ loop-request-init g c =
       write_kept = refl;
     }
 
-pub returns-in-Over-clause-conversation : goal.returns-in-Over-clause-conversation
-returns-in-Over-clause-conversation g c =
+pub returns-in-Ended-clause-conversation : goal.returns-in-Ended-clause-conversation
+returns-in-Ended-clause-conversation g c =
     let terms = c.args.lone.now.terms in
     let s = c.loop-request.lone.state in
     let inv = c.loop-request.invariant in
@@ -32,10 +33,10 @@ returns-in-Over-clause-conversation g c =
     let o0 = g.W.Write.contents c.args.writer.now.inner in
     let o1 = g.W.Write.contents c.loop-request.writer.inner in
     let n = c.next.ensures.next inv.not_ended in
-    is_over terms (opened terms) s c.loop-request.frames.kept i0 i1 o0 o1 inv.keeping g.row.I-Alloc.Denot c.loop-request.frames c.next.new.self i2 c.loop-request.reader.failures c.next.new.reader.failures c.next.result refl n c.in-Over.is
+    rw c.end_of.ensures (is_ended terms (opened terms) s c.loop-request.frames.kept i0 i1 o0 o1 inv.keeping g.row.I-Alloc.Denot c.loop-request.frames c.next.new.self i2 c.loop-request.reader.failures c.next.new.reader.failures c.next.result refl n c.in-Ended.ending c.in-Ended.is)
 
-pub returns-in-Cut-clause-conversation : goal.returns-in-Cut-clause-conversation
-returns-in-Cut-clause-conversation g c =
+pub returns-in-Ended-clause-read_failed : goal.returns-in-Ended-clause-read_failed
+returns-in-Ended-clause-read_failed g c =
     let terms = c.args.lone.now.terms in
     let s = c.loop-request.lone.state in
     let inv = c.loop-request.invariant in
@@ -44,60 +45,9 @@ returns-in-Cut-clause-conversation g c =
     let i2 = g.R.Read.remaining c.next.new.reader.inner in
     let o0 = g.W.Write.contents c.args.writer.now.inner in
     let o1 = g.W.Write.contents c.loop-request.writer.inner in
-    let n = c.next.ensures.next inv.not_ended in
-    is_cut terms (opened terms) s c.loop-request.frames.kept i0 i1 o0 o1 inv.keeping g.row.I-Alloc.Denot c.loop-request.frames c.next.new.self i2 c.loop-request.reader.failures c.next.new.reader.failures c.next.result refl n c.in-Cut.is
-
-pub returns-in-BadMagic-clause-conversation : goal.returns-in-BadMagic-clause-conversation
-returns-in-BadMagic-clause-conversation g c =
-    let terms = c.args.lone.now.terms in
-    let s = c.loop-request.lone.state in
-    let inv = c.loop-request.invariant in
-    let i0 = g.R.Read.remaining c.args.reader.now.inner in
-    let i1 = g.R.Read.remaining c.loop-request.reader.inner in
-    let i2 = g.R.Read.remaining c.next.new.reader.inner in
-    let o0 = g.W.Write.contents c.args.writer.now.inner in
-    let o1 = g.W.Write.contents c.loop-request.writer.inner in
-    let n = c.next.ensures.next inv.not_ended in
-    is_bad_magic terms (opened terms) s c.loop-request.frames.kept i0 i1 o0 o1 inv.keeping g.row.I-Alloc.Denot c.loop-request.frames c.next.new.self i2 c.loop-request.reader.failures c.next.new.reader.failures c.next.result refl n c.in-BadMagic.is
-
-pub returns-in-TooLong-clause-conversation : goal.returns-in-TooLong-clause-conversation
-returns-in-TooLong-clause-conversation g c =
-    let terms = c.args.lone.now.terms in
-    let s = c.loop-request.lone.state in
-    let inv = c.loop-request.invariant in
-    let i0 = g.R.Read.remaining c.args.reader.now.inner in
-    let i1 = g.R.Read.remaining c.loop-request.reader.inner in
-    let i2 = g.R.Read.remaining c.next.new.reader.inner in
-    let o0 = g.W.Write.contents c.args.writer.now.inner in
-    let o1 = g.W.Write.contents c.loop-request.writer.inner in
-    let n = c.next.ensures.next inv.not_ended in
-    is_too_long terms (opened terms) s c.loop-request.frames.kept i0 i1 o0 o1 inv.keeping g.row.I-Alloc.Denot c.loop-request.frames c.next.new.self i2 c.loop-request.reader.failures c.next.new.reader.failures c.next.result refl n c.in-TooLong.is
-
-pub returns-in-ReadFailed-clause-conversation : goal.returns-in-ReadFailed-clause-conversation
-returns-in-ReadFailed-clause-conversation g c =
-    let terms = c.args.lone.now.terms in
-    let s = c.loop-request.lone.state in
-    let inv = c.loop-request.invariant in
-    let i0 = g.R.Read.remaining c.args.reader.now.inner in
-    let i1 = g.R.Read.remaining c.loop-request.reader.inner in
-    let i2 = g.R.Read.remaining c.next.new.reader.inner in
-    let o0 = g.W.Write.contents c.args.writer.now.inner in
-    let o1 = g.W.Write.contents c.loop-request.writer.inner in
-    let n = c.next.ensures.next inv.not_ended in
-    is_read_failed terms (opened terms) s c.loop-request.frames.kept i0 i1 o0 o1 inv.keeping g.row.I-Alloc.Denot c.loop-request.frames c.next.new.self i2 c.loop-request.reader.failures c.next.new.reader.failures c.next.result refl n c.in-ReadFailed.is
-
-pub returns-in-NoMemory-clause-conversation : goal.returns-in-NoMemory-clause-conversation
-returns-in-NoMemory-clause-conversation g c =
-    let terms = c.args.lone.now.terms in
-    let s = c.loop-request.lone.state in
-    let inv = c.loop-request.invariant in
-    let i0 = g.R.Read.remaining c.args.reader.now.inner in
-    let i1 = g.R.Read.remaining c.loop-request.reader.inner in
-    let i2 = g.R.Read.remaining c.next.new.reader.inner in
-    let o0 = g.W.Write.contents c.args.writer.now.inner in
-    let o1 = g.W.Write.contents c.loop-request.writer.inner in
-    let n = c.next.ensures.next inv.not_ended in
-    is_without_memory terms (opened terms) s c.loop-request.frames.kept i0 i1 o0 o1 inv.keeping g.row.I-Alloc.Denot c.loop-request.frames c.next.new.self i2 c.loop-request.reader.failures c.next.new.reader.failures c.next.result refl n
+    let n = c.next.ensures.next inv.not_ended in λ fails.
+    subst (λ (m : ℕ). Rises m c.next.new.reader.failures) inv.read_kept
+    (read_rises terms (opened terms) s c.loop-request.frames.kept i0 i1 o0 o1 inv.keeping g.row.I-Alloc.Denot c.loop-request.frames c.next.new.self i2 c.loop-request.reader.failures c.next.new.reader.failures c.next.result refl n c.in-Ended.ending c.end_of.result c.in-Ended.is c.end_of.ensures fails)
 
 pub returns-then-is_disc-clause-conversation : goal.returns-then-is_disc-clause-conversation
 returns-then-is_disc-clause-conversation g c =

@@ -1,4 +1,4 @@
-use Rattle.std.proofs.Common.{◌≡◌, ◌≤◌, ap, sym, ◌∙◌, arith}
+use Rattle.std.proofs.Common.{ap, arith}
 use Rattle.nbd_options.proofs.HeadLemmas.{too_many, too_long, taken}
 use Rattle.nbd_options.proofs.haggle.Haggle.head.Goals as goal
 

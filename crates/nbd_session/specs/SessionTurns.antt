@@ -1,0 +1,127 @@
+-- What a turn of a session does: to its pass, and to its reader or its writer.
+use Rattle.std.specs.Prelude.{◌≡◌, ◌≢◌, ℕ, ◌+◌, ◌⊎◌, List, [], Option, Some, None, ⊤}
+use Rattle.std.specs.Io.KnownBytes.{Appends}
+use Rattle.nbd_wire.specs.declared.requests.RequestHead.{RequestHead}
+use Rattle.nbd_wire.specs.Grammar.{RequestMessage, ReplyMessage, reply_text}
+use Rattle.server_core.specs.declared.session.SessionId.{SessionId}
+use Rattle.server_lock.specs.declared.trace.Trace.{Trace}
+use Rattle.server_lock.specs.declared.trace.EventTrace.{EventTrace}
+use Rattle.server_lock.specs.declared.trace.EventTrace.TheVariants as event
+use Rattle.server_lock.specs.declared.trace.AnswerTrace.{AnswerTrace}
+use Rattle.server_lock.specs.declared.trace.AnswerTrace.TheVariants as answer
+use Rattle.server_lock.specs.Scores.{Score, next_count}
+use Rattle.nbd_session.specs.Streams.{Rises, WritesPart}
+use Rattle.nbd_session.specs.declared.ending.Ending.{Ending}
+use Rattle.nbd_session.specs.declared.ending.Frame.{Frame}
+use Rattle.nbd_session.specs.declared.ending.Frame.TheVariants as frames
+use Rattle.nbd_session.specs.Frames.{Stream, Nexts}
+use Rattle.nbd_session.specs.declared.session_turns.Turn.{Turn}
+use Rattle.nbd_session.specs.declared.session_turns.Turn.TheVariants.{Going, Held, Idle, Ended}
+
+-- ---- one turn
+
+-- the latest turn of a pass was this event, with such an answer
+abbrev pub IsLast : Option Trace → (EventTrace → Type 0) → (AnswerTrace → Type 0) → Type 0
+IsLast None IsEvent IsAnswer = ⊥
+IsLast (Some t) IsEvent IsAnswer = IsEvent t.event × IsAnswer t.answer
+
+-- one turn was made: such an event with such an answer, which counts so many steps
+pub record Turns (p : Score) (IsEvent : EventTrace → Type 0) (IsAnswer : AnswerTrace → Type 0) (steps : ℕ) (q : Score) : Type 0 where
+  pub turns : q.turns ≡ next_count p.turns
+  pub share : q.share ≡ p.share + steps
+  pub last : IsLast q.last IsEvent IsAnswer
+
+-- a request with this head arrived on the session
+abbrev pub IsArrival : SessionId → RequestHead → EventTrace → Type 0
+IsArrival s h (event.Arrive e n t g) = (e ≡ s.export) × (n ≡ s.number) × (g ≡ h)
+IsArrival s h other = ⊥
+
+abbrev pub IsTake : SessionId → EventTrace → Type 0
+IsTake s e = e ≡ event.Take s.export s.number
+
+abbrev pub IsLeave : SessionId → EventTrace → Type 0
+IsLeave s e = e ≡ event.Leave s.export s.number
+
+abbrev pub IsGone : SessionId → EventTrace → Type 0
+IsGone s e = e ≡ event.Gone s.export s.number
+
+-- the request waits, or its session is told an error
+abbrev pub IsTakenIn : AnswerTrace → Type 0
+IsTakenIn (answer.Accepted n tag) = ⊤
+IsTakenIn (answer.Answered error) = ⊤
+IsTakenIn a = ⊥
+
+-- the session isn't there, or not open any more
+abbrev pub IsRefused : AnswerTrace → Type 0
+IsRefused answer.NoExport = ⊤
+IsRefused answer.NotOpen = ⊤
+IsRefused a = ⊥
+
+-- this reply was given
+abbrev pub IsGiven : ReplyMessage → AnswerTrace → Type 0
+IsGiven r a = a ≡ answer.Reply r.error r.cookie
+
+-- whatever was answered
+abbrev pub IsAny : AnswerTrace → Type 0
+IsAny a = ⊤
+
+-- the session left, or was dropped: one turn, counted where it was open
+abbrev pub Leaves : Score → SessionId → Score → Type 0
+Leaves p s q = (steps : ℕ) × Turns p (IsLeave s) IsAny steps q
+
+abbrev pub Drops : Score → SessionId → Score → Type 0
+Drops p s q = (steps : ℕ) × Turns p (IsGone s) IsAny steps q
+
+-- ---- a reply is taken
+
+-- the session isn't there any more; or it had left and got all its replies; or a reply could not be written. In these
+-- two cases it was dropped
+abbrev pub WriteEnds : Score → SessionId → Option (List ℕ) → Option (List ℕ) → ℕ → ℕ → Score → Type 0
+WriteEnds p s old new before now q = (Turns p (IsTake s) IsRefused 0 q × Appends old new [])
+    ⊎ ((r : Score) × Turns p (IsTake s) (λ a. a ≡ answer.End) 0 r × Drops r s q × Appends old new [])
+    ⊎ ((r : Score) × (m : ReplyMessage) × Turns p (IsTake s) (IsGiven m) 1 r × Drops r s q × WritesPart old new (reply_text m) × Rises before now)
+
+-- ---- a request is offered
+
+-- it was refused since its session isn't open; or its export is worn, and the session left
+abbrev pub OfferEnds : Score → SessionId → RequestHead → Score → Type 0
+OfferEnds p s h q = Turns p (IsArrival s h) IsRefused 0 q
+    ⊎ ((r : Score) × Turns p (IsArrival s h) (λ a. a ≡ answer.Worn) 0 r × Leaves r s q)
+
+module _ {A : Type 0} where
+  abbrev pub IsOffered : Score → SessionId → RequestMessage → Turn A → Score → Type 0
+  IsOffered p s m Going q = Turns p (IsArrival s m.head) IsTakenIn 1 q
+  IsOffered p s m (Held back) q = Turns p (IsArrival s m.head) (λ a. a ≡ answer.Hold) 0 q × (back ≡ m)
+  IsOffered p s m Idle q = ⊥
+  IsOffered p s m Ended q = OfferEnds p s m.head q
+
+  -- ---- a request is read and offered
+
+  -- what stands next in the client's bytes, as a reader tells it
+  pub record Reads (old new : Stream) (frame : Frame A) : Type 0 where
+    pub next : old.reading.ended ≡ None → Nexts old.reading new.reading old.left new.left old.failures new.failures frame
+    pub again : (e : Ending) → old.reading.ended ≡ Some e → (frame ≡ frames.Ended e) × (new ≡ old)
+
+  -- a request other than DISC was offered, and its session isn't open any more; anything else makes the session leave
+  abbrev pub ReadEnds : Score → SessionId → Frame A → Score → Type 0
+  ReadEnds p s (frames.Whole m) q = ((m.head.kind ≡ 2) × Leaves p s q) ⊎ OfferEnds p s m.head q
+  ReadEnds p s (frames.Ended e) q = Leaves p s q
+
+  -- a request other than DISC was read and offered
+  abbrev pub Offers : Stream → Stream → Score → SessionId → Turn A → Score → Type 0
+  Offers old new p s turn q = (m : RequestMessage) × Reads old new (frames.Whole m) × (m.head.kind ≢ 2) × IsOffered p s m turn q
+
+  abbrev pub IsReadTurn : Stream → Stream → Score → SessionId → Turn A → Score → Type 0
+  IsReadTurn old new p s Going q = Offers old new p s Going q
+  IsReadTurn old new p s (Held back) q = Offers old new p s (Held back) q
+  IsReadTurn old new p s Idle q = ⊥
+  IsReadTurn old new p s Ended q = (frame : Frame A) × Reads old new frame × ReadEnds p s frame q
+
+  -- ---- a reply is taken and written
+
+  -- from the writer's known bytes and failures before to those after
+  abbrev pub IsWriteTurn : Score → SessionId → Option (List ℕ) → Option (List ℕ) → ℕ → ℕ → Turn A → Score → Type 0
+  IsWriteTurn p s old new before now Going q = (m : ReplyMessage) × Turns p (IsTake s) (IsGiven m) 1 q × Appends old new (reply_text m)
+  IsWriteTurn p s old new before now (Held m) q = ⊥
+  IsWriteTurn p s old new before now Idle q = Turns p (IsTake s) (λ a. a ≡ answer.Empty) 0 q × Appends old new []
+  IsWriteTurn p s old new before now Ended q = WriteEnds p s old new before now q

@@ -1,0 +1,146 @@
+//! The turns of a session's two threads: one reads requests and hands them in, the other takes replies and writes them.
+ghost use Rattle.std.specs.Prelude.{◌≡◌, OnOk, OnErr};
+ghost use Rattle.std.specs.Io.KnownBytes.{Appends};
+ghost use Rattle.nbd_wire.specs.Grammar.{reply_text};
+ghost use Rattle.nbd_session.specs.Streams.{Rises, WritesPart};
+ghost use Rattle.nbd_session.specs.SessionTurns.{IsOffered, IsReadTurn, IsWriteTurn, Leaves, Drops};
+
+use crate::counted::Counted;
+use crate::ending::Frame;
+use crate::fill::{WriteFailed, put};
+use crate::frames::FrameReader;
+use crate::transmission::is_disc;
+use eligibility::Eligibility;
+use export_store::Image;
+use nbd_wire::{Reply, Request, write_reply_head};
+use reply_box::Taken;
+use server_core::{ArriveRefusal, SessionId};
+use server_lock::{Pass, Shared};
+use std::alloc::Allocator;
+use std::io::{Read, Write};
+use std::sync::Wait;
+use std::sync::ledger::Ledger;
+use tag_clock::Clock;
+
+/// What a session's turn came to.
+#[derive(Drop)]
+pub enum Turn<A: Allocator> {
+    /// A request was handed in, or a reply was written.
+    Going,
+    /// As many requests of the session as its window are under way, or replies not yet taken. The request is handed back,
+    /// to be offered again once a reply was taken.
+    Held(Request<A>),
+    /// No reply is there yet.
+    Idle,
+    /// The session is over for this side.
+    Ended,
+}
+
+/// Reads the client's next request, and offers it. Where the client sent DISC, its input ended or was refused, or memory
+/// was, the session leaves.
+pub fn read_turn<L: Ledger, I: Image, E: Eligibility<Alloc = I::Alloc>, R: Read, C: Clock, W: Wait>(
+    rt: &W,
+    shared: &Shared<L, I, E>,
+    pass: &mut Pass<L>,
+    session: SessionId,
+    reader: &mut FrameReader<R, I::Alloc>,
+    clock: &C,
+) -> Turn<I::Alloc>
+    ensures { IsReadTurn reader.old reader.new pass.old session result pass.new }
+{
+    match reader.next() {
+        Frame::Whole(request) => {
+            if is_disc(request.head()) {
+                return leave(rt, shared, pass, session);
+            }
+            offer(rt, shared, pass, session, request, clock)
+        }
+        _ => leave(rt, shared, pass, session),
+    }
+}
+
+/// Hands a request in at the clock's moment. Where the export is worn, the session leaves.
+pub fn offer<L: Ledger, I: Image, E: Eligibility<Alloc = I::Alloc>, C: Clock, W: Wait>(
+    rt: &W,
+    shared: &Shared<L, I, E>,
+    pass: &mut Pass<L>,
+    session: SessionId,
+    request: Request<I::Alloc>,
+    clock: &C,
+) -> Turn<I::Alloc>
+    ensures { IsOffered pass.old session request result pass.new }
+{
+    match shared.turn_arrive(rt, pass, session, clock.now(), request) {
+        Ok(_) => Turn::Going,
+        Err(refused) => match refused.refusal {
+            ArriveRefusal::Hold => Turn::Held(refused.request),
+            ArriveRefusal::Worn => leave(rt, shared, pass, session),
+            ArriveRefusal::NoExport | ArriveRefusal::NotOpen => Turn::Ended,
+        },
+    }
+}
+
+/// The session leaves.
+fn leave<L: Ledger, I: Image, E: Eligibility<Alloc = I::Alloc>, W: Wait>(
+    rt: &W,
+    shared: &Shared<L, I, E>,
+    pass: &mut Pass<L>,
+    session: SessionId,
+) -> Turn<I::Alloc>
+    ensures ended { result ≡ Turn.Ended }
+    ensures leaves { Leaves pass.old session pass.new }
+{
+    let _ = shared.turn_leave(rt, pass, session);
+    Turn::Ended
+}
+
+/// Takes the session's oldest reply, and writes it. Where the session has left and got all its replies, or the write
+/// failed, the session is dropped.
+pub fn write_turn<L: Ledger, I: Image, E: Eligibility<Alloc = I::Alloc>, O: Write, W: Wait>(
+    rt: &W,
+    shared: &Shared<L, I, E>,
+    pass: &mut Pass<L>,
+    session: SessionId,
+    writer: &mut Counted<O>,
+) -> Turn<I::Alloc>
+    ensures { IsWriteTurn pass.old session (O.contents writer.old.inner) (O.contents writer.new.inner) writer.old.failures writer.new.failures result pass.new }
+{
+    match shared.turn_take(rt, pass, session) {
+        Ok(Taken::Reply(reply)) => match put_reply(&reply, writer) {
+            Ok(()) => Turn::Going,
+            Err(_) => drop_session(rt, shared, pass, session),
+        },
+        Ok(Taken::Empty) => Turn::Idle,
+        Ok(Taken::End) => drop_session(rt, shared, pass, session),
+        Err(_) => Turn::Ended,
+    }
+}
+
+/// The session is dropped.
+fn drop_session<L: Ledger, I: Image, E: Eligibility<Alloc = I::Alloc>, W: Wait>(
+    rt: &W,
+    shared: &Shared<L, I, E>,
+    pass: &mut Pass<L>,
+    session: SessionId,
+) -> Turn<I::Alloc>
+    ensures ended { result ≡ Turn.Ended }
+    ensures drops { Drops pass.old session pass.new }
+{
+    let _ = shared.turn_gone(rt, pass, session);
+    Turn::Ended
+}
+
+/// Writes a reply. It takes no memory of its own.
+fn put_reply<A: Allocator, O: Write>(
+    reply: &Reply<A>,
+    writer: &mut Counted<O>,
+) -> Result<(), WriteFailed>
+    ensures ok { OnOk result (Appends (O.contents writer.old.inner) (O.contents writer.new.inner) (reply_text reply.now)) }
+    ensures part { OnErr result (WritesPart (O.contents writer.old.inner) (O.contents writer.new.inner) (reply_text reply.now)) }
+    ensures failed { OnErr result (Rises writer.old.failures writer.new.failures) }
+{
+    match put(writer, &write_reply_head(reply.error(), reply.cookie())) {
+        Ok(()) => put(writer, reply.content()),
+        Err(failed) => Err(failed),
+    }
+}
