@@ -1,3 +1,1 @@
-pub mod NumberLemmas
-pub mod OutputLemmas
-pub mod ReplayLemmas
+pub mod ReportLemmas

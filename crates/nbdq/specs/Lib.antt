@@ -1,5 +1,2 @@
-pub mod Answers
-pub mod Numbers
+pub mod Checked
 pub mod Outcomes
-pub mod Output
-pub mod Replayed

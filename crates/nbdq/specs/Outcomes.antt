@@ -1,7 +1,7 @@
 -- What the shell is told of how a command went.
 use Rattle.std.specs.Prelude.{ℕ, List, Option, Some, None, codes}
-use Rattle.nbdq.specs.declared.outcome.Outcome.{Outcome}
-use Rattle.nbdq.specs.declared.outcome.Outcome.TheVariants.{Done, Refused, NoMemory, ReadFailed, WriteFailed}
+use Rattle.nbd_scripts.specs.declared.outcome.Outcome.{Outcome}
+use Rattle.nbd_scripts.specs.declared.outcome.Outcome.TheVariants.{Done, Refused, NoMemory, ReadFailed, WriteFailed}
 
 -- the exit status
 abbrev pub status_of : Outcome → ℕ

@@ -10,6 +10,8 @@ use std::io;
 /// What the program is asked to do.
 #[derive(Clone, Copy, Debug, PartialEq, Eq)]
 pub enum Task {
+    /// Read a configuration file, and tell what it configures.
+    Check,
     /// Hold the conversation of a script.
     Talk,
     /// Make the events of a script on a server.
@@ -36,6 +38,7 @@ pub fn read_command_line(rt: &(impl Env + AllocGlobal)) -> Result<Task, Error> {
 pub fn asked_task<S: AsStr>(alloc: Global, words: &[S]) -> Result<Task, Error> {
     let matches = command(alloc)?.try_get_matches_from(words)?;
     match matches.subcommand_name() {
+        Some("check") => Ok(Task::Check),
         Some("replay") => Ok(Task::Replay),
         _ => Ok(Task::Talk),
     }
@@ -44,6 +47,7 @@ pub fn asked_task<S: AsStr>(alloc: Global, words: &[S]) -> Result<Task, Error> {
 fn command<'a>(alloc: Global) -> Result<Command<'a>, AllocError> {
     Command::new(alloc, "nbdq")
         .subcommand_required(true)
+        .subcommand(Command::new(alloc, "check"))?
         .subcommand(Command::new(alloc, "talk"))?
         .subcommand(Command::new(alloc, "replay"))
 }

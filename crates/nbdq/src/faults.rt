@@ -1,8 +1,8 @@
 //! One conversation, cut at each of its places, and with each read, write and growth failing in turn; and so one script.
 
-use crate::conversation::talk_script;
 use crate::outcome::Outcome;
 use nbd_commands::{Config, ExportList, ExportSettings};
+use nbd_scripts::talk_script;
 use nbd_session::{Counted, End, TalkFault, talk};
 use refusing::Refusing;
 use std::alloc::Global;
@@ -68,6 +68,21 @@ impl Write for Sink {
     }
 }
 
+/// How the conversation over this reader and writer goes with an export of 4,096 bytes, and the writer.
+pub(crate) fn held<R: Read + Drop, W: Write + Drop>(
+    alloc: Global,
+    reader: R,
+    writer: W,
+) -> Result<(Result<End, TalkFault>, W), Fail> {
+    let mut exports = ExportList::new(alloc);
+    exports.add(&ExportSettings::new(b"a", 4096))?;
+    let config = Config::new(exports, 32)?;
+    let mut reader = Counted::new(reader);
+    let mut writer = Counted::new(writer);
+    let end = talk(alloc, &config, &mut reader, &mut writer);
+    Ok((end, writer.into_inner()))
+}
+
 /// How the conversation of the first bytes goes with a writer that takes so many, and what is said.
 fn told(
     alloc: Global,
@@ -75,16 +90,12 @@ fn told(
     fails: bool,
     room: usize,
 ) -> Result<(Result<End, TalkFault>, Vec<u8>), Fail> {
-    let mut exports = ExportList::new(alloc);
-    exports.add(&ExportSettings::new(b"a", 4096))?;
-    let config = Config::new(exports, 32)?;
-    let mut reader = Counted::new(Source { bytes: sent, fails });
-    let mut writer = Counted::new(Sink {
-        taken: Vec::new(alloc),
-        room,
-    });
-    let end = talk(alloc, &config, &mut reader, &mut writer);
-    let Sink { taken, room: _ } = writer.into_inner();
+    let taken = Vec::new(alloc);
+    let (end, Sink { taken, room: _ }) = held(
+        alloc,
+        Source { bytes: sent, fails },
+        Sink { taken, room },
+    )?;
     Ok((end, taken))
 }
 

@@ -1,30 +1,29 @@
 //! nbdq: a Network Block Device server. See README.md.
 #![tactic(auto)]
 
-mod answers;
+mod checking;
+#[cfg(test)]
+mod checks;
 mod command_line;
-mod conversation;
 #[cfg(test)]
 mod faults;
 #[cfg(test)]
 mod handshakes;
-mod lines;
 mod outcome;
 #[cfg(test)]
 mod pieces;
-mod refused;
-mod replaying;
 #[cfg(test)]
 mod replays;
-mod script;
+#[cfg(test)]
+mod rows;
 #[cfg(test)]
 mod tests;
 
+use checking::check_text;
 use clap::error::ErrorKind;
 use command_line::{Task, read_command_line};
-use conversation::talk_script;
-use outcome::Outcome;
-use replaying::replay_script;
+use nbd_scripts::{replay_script, talk_script};
+use outcome::{Outcome, status, text};
 use std::io;
 use std::io::{BufReader, BufWriter, Write};
 use std::process::ExitCode;
@@ -41,6 +40,7 @@ fn run(task: Task, rt: &(impl Input + Print + AllocGlobal)) -> Outcome {
         return Outcome::NoMemory;
     };
     let outcome = match task {
+        Task::Check => check_text(alloc, alloc, &mut input, &mut output),
         Task::Talk => talk_script(alloc, &mut input, &mut output),
         Task::Replay => replay_script(alloc, &mut input, &mut output),
     };
@@ -60,8 +60,8 @@ fn main(rt: HostRuntime) -> ExitCode {
             return ExitCode::from(USAGE);
         }
     };
-    if let Some(text) = outcome.text() {
-        let _ = rt.eprintln(text);
+    if let Some(line) = text(outcome) {
+        let _ = rt.eprintln(line);
     }
-    ExitCode::from(outcome.status())
+    ExitCode::from(status(outcome))
 }

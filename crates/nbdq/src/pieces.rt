@@ -1,8 +1,7 @@
 //! One conversation whose bytes come in pieces.
 
-use crate::faults::{SAID, SENT};
-use nbd_commands::{Config, ExportList, ExportSettings};
-use nbd_session::{Counted, End, Frame, FrameReader, TalkFault, talk};
+use crate::faults::{SAID, SENT, held};
+use nbd_session::{Counted, End, Frame, FrameReader};
 use refusing::Refusing;
 use std::alloc::{Allocator, Global};
 use std::io;
@@ -31,21 +30,6 @@ impl Read for Drip<'_> {
     }
 }
 
-/// How the conversation of these bytes goes where they come in such pieces, and what is said.
-fn told(
-    alloc: Global,
-    sent: &[u8],
-    most: usize,
-) -> Result<(Result<End, TalkFault>, Vec<u8>), Fail> {
-    let mut exports = ExportList::new(alloc);
-    exports.add(&ExportSettings::new(b"a", 4096))?;
-    let config = Config::new(exports, 32)?;
-    let mut reader = Counted::new(Drip { bytes: sent, most });
-    let mut writer = Counted::new(Vec::new(alloc));
-    let end = talk(alloc, &config, &mut reader, &mut writer);
-    Ok((end, writer.into_inner()))
-}
-
 /// The first bytes, and 28 zeros, which are no head.
 fn with_zeros(alloc: Global, count: usize) -> Result<Vec<u8>, Fail> {
     let mut bytes = Vec::new(alloc);
@@ -57,7 +41,7 @@ fn with_zeros(alloc: Global, count: usize) -> Result<Vec<u8>, Fail> {
 #[test]
 fn said_to_pieces(rt: HostRuntime) -> Result<(), Fail> {
     for most in [1, 2, 27, 109] {
-        let (end, said) = told(rt.alloc(), SENT, most)?;
+        let (end, said) = held(rt.alloc(), Drip { bytes: SENT, most }, Vec::new(rt.alloc()))?;
         assert_eq!(rt; end, Ok(End::Disc), "in pieces of {most}");
         assert_eq!(rt; said.as_slice(), SAID.as_slice(), "in pieces of {most}");
     }
@@ -68,7 +52,11 @@ fn said_to_pieces(rt: HostRuntime) -> Result<(), Fail> {
 fn nothing_is_looked_at_behind_disc(rt: HostRuntime) -> Result<(), Fail> {
     for most in [1, 2, 27, 137] {
         let sent = with_zeros(rt.alloc(), SENT.len())?;
-        let (end, said) = told(rt.alloc(), &sent, most)?;
+        let (end, said) = held(
+            rt.alloc(),
+            Drip { bytes: &sent, most },
+            Vec::new(rt.alloc()),
+        )?;
         assert_eq!(rt; end, Ok(End::Disc), "in pieces of {most}");
         assert_eq!(rt; said.as_slice(), SAID.as_slice(), "in pieces of {most}");
     }
@@ -79,7 +67,11 @@ fn nothing_is_looked_at_behind_disc(rt: HostRuntime) -> Result<(), Fail> {
 fn requests_before_a_bad_head_are_answered(rt: HostRuntime) -> Result<(), Fail> {
     for most in [1, 2, 27, 109] {
         let sent = with_zeros(rt.alloc(), DISC)?;
-        let (end, said) = told(rt.alloc(), &sent, most)?;
+        let (end, said) = held(
+            rt.alloc(),
+            Drip { bytes: &sent, most },
+            Vec::new(rt.alloc()),
+        )?;
         assert_eq!(rt; end, Ok(End::BadMagic), "in pieces of {most}");
         assert_eq!(rt; said.as_slice(), SAID.as_slice(), "in pieces of {most}");
     }
@@ -92,12 +84,12 @@ fn next_cookie<A: Allocator + Copy>(
 ) -> Result<u64, &'static str> {
     match reader.next() {
         Frame::Whole(request) => Ok(request.head().cookie),
-        Frame::Over => Err("over"),
-        Frame::Cut => Err("cut"),
-        Frame::BadMagic => Err("bad magic"),
-        Frame::TooLong => Err("too long"),
-        Frame::ReadFailed => Err("read failed"),
-        Frame::NoMemory => Err("no memory"),
+        Frame::Ended(nbd_session::Ending::Over) => Err("over"),
+        Frame::Ended(nbd_session::Ending::Cut) => Err("cut"),
+        Frame::Ended(nbd_session::Ending::BadMagic) => Err("bad magic"),
+        Frame::Ended(nbd_session::Ending::TooLong) => Err("too long"),
+        Frame::Ended(nbd_session::Ending::ReadFailed) => Err("read failed"),
+        Frame::Ended(nbd_session::Ending::NoMemory) => Err("no memory"),
     }
 }
 

@@ -1,9 +1,9 @@
 //! Whole scripts of `replay`, and the whole output of each. The expected tags and choices were worked out from the rules of
 //! the scheduler, apart from this program.
 
+use crate::command_line::Task;
 use crate::outcome::Outcome;
-use crate::replaying::replay_script;
-use refusing::Refusing;
+use crate::rows::{is_done, outcome_of};
 use std::alloc::Global;
 use std::io::Write;
 use std::test::Fail;
@@ -133,49 +133,10 @@ const SESSIONS: [Row; 3] = [
     ),
 ];
 
-/// A line behind a head of two lines, which is refused.
-const REFUSED: [&str; 22] = [
-    "attach",
-    "attach 0 0",
-    "attach 4294967296",
-    "attach -1",
-    "open 0",
-    "dispatch",
-    "dispatch 4611686018427387904",
-    "perform 0",
-    "perform 0 18446744073709551616",
-    "take 0",
-    "leave 0 x",
-    "gone",
-    "arrive 0 0 0 1 0 0 0",
-    "arrive 0 0 4611686018427387904 1 0 0 0 4",
-    "arrive 0 0 0 1 65536 0 0 4",
-    "arrive 0 0 0 1 0 65536 0 4",
-    "arrive 0 0 0 1 0 0 0 4294967296",
-    "arrive 0 0 0 1 0 0 0 1 00",
-    "arrive 0 0 0 1 1 0 0 1",
-    "arrive 0 0 0 1 1 0 0 2 00",
-    "arrive 0 0 0 1 1 0 0 1 0g",
-    "arrive 0 0 0 1 1 0 0 1 00 00",
-];
-
-/// How a script goes, and what is written.
-fn outcome_of(alloc: Global, script: &[u8]) -> (Outcome, Vec<u8>) {
-    let mut input = script;
-    let mut output = Vec::new(alloc);
-    let outcome = replay_script(alloc, &mut input, &mut output);
-    (outcome, output)
-}
-
-fn goes_as(alloc: Global, row: &Row) -> bool {
-    let (outcome, output) = outcome_of(alloc, row.1.as_bytes());
-    outcome == Outcome::Done && output.as_slice() == row.2.as_bytes()
-}
-
 #[test]
 fn shares(rt: HostRuntime) {
     for row in &SHARES {
-        let well = goes_as(rt.alloc(), row);
+        let well = is_done(rt.alloc(), Task::Replay, row.1.as_bytes(), row.2.as_bytes());
         assert!(rt; well, "{}", row.0);
     }
 }
@@ -183,7 +144,7 @@ fn shares(rt: HostRuntime) {
 #[test]
 fn shifts(rt: HostRuntime) {
     for row in &SHIFTS {
-        let well = goes_as(rt.alloc(), row);
+        let well = is_done(rt.alloc(), Task::Replay, row.1.as_bytes(), row.2.as_bytes());
         assert!(rt; well, "{}", row.0);
     }
 }
@@ -191,7 +152,7 @@ fn shifts(rt: HostRuntime) {
 #[test]
 fn queues(rt: HostRuntime) {
     for row in &QUEUES {
-        let well = goes_as(rt.alloc(), row);
+        let well = is_done(rt.alloc(), Task::Replay, row.1.as_bytes(), row.2.as_bytes());
         assert!(rt; well, "{}", row.0);
     }
 }
@@ -199,37 +160,8 @@ fn queues(rt: HostRuntime) {
 #[test]
 fn sessions(rt: HostRuntime) {
     for row in &SESSIONS {
-        let well = goes_as(rt.alloc(), row);
+        let well = is_done(rt.alloc(), Task::Replay, row.1.as_bytes(), row.2.as_bytes());
         assert!(rt; well, "{}", row.0);
-    }
-}
-
-#[test]
-fn lines_are_refused_before_the_first_step(rt: HostRuntime) -> Result<(), Fail> {
-    for line in REFUSED {
-        let mut script = Vec::from_slice(rt.alloc(), b"export a size=4096\n---\nattach 0\n")?;
-        script.extend_from_slice(line.as_bytes())?;
-        script.extend_from_slice(b"\nattach\n")?;
-        let (outcome, output) = outcome_of(rt.alloc(), &script);
-        assert_eq!(rt; outcome, Outcome::Refused, "{line}");
-        let well = output.as_slice() == b"line 4 refused\n".as_slice();
-        assert!(rt; well, "{line}");
-    }
-    Ok(())
-}
-
-#[test]
-fn heads_are_refused_as_in_talk(rt: HostRuntime) {
-    for (script, line) in [
-        ("", "line 1 refused\n"),
-        ("---\nattach 0\n", "line 1 C3\n"),
-        ("export a size=0\n---\nattach\n", "line 1 C5\n"),
-        ("export a size=1\nattach 0\n", "line 2 refused\n"),
-    ] {
-        let (outcome, output) = outcome_of(rt.alloc(), script.as_bytes());
-        assert_eq!(rt; outcome, Outcome::Refused, "{script}");
-        let well = output.as_slice() == line.as_bytes();
-        assert!(rt; well, "{script}");
     }
 }
 
@@ -243,7 +175,7 @@ fn sessions_of_an_export_are_full(rt: HostRuntime) -> Result<(), Fail> {
     }
     script.extend_from_slice(b"attach 0\ngone 0 7\nattach 0\n")?;
     written.extend_from_slice(b"full\ngone\nsession 64\nsteps 66\n")?;
-    let (outcome, output) = outcome_of(rt.alloc(), &script);
+    let (outcome, output) = outcome_of(rt.alloc(), Task::Replay, &script);
     assert_eq!(rt; outcome, Outcome::Done);
     assert!(rt; output.as_slice() == written.as_slice());
     Ok(())
@@ -267,7 +199,7 @@ fn crowded(alloc: Global, others: u64) -> Result<Vec<u8>, Fail> {
 #[test]
 fn a_crowd_at_another_export_changes_no_answer(rt: HostRuntime) -> Result<(), Fail> {
     for others in [0u64, 1000] {
-        let (outcome, output) = outcome_of(rt.alloc(), &crowded(rt.alloc(), others)?);
+        let (outcome, output) = outcome_of(rt.alloc(), Task::Replay, &crowded(rt.alloc(), others)?);
         assert_eq!(rt; outcome, Outcome::Done);
         let mut written = Vec::from_slice(
             rt.alloc(),
@@ -285,39 +217,4 @@ fn a_crowd_at_another_export_changes_no_answer(rt: HostRuntime) -> Result<(), Fa
         assert!(rt; well, "{others} others");
     }
     Ok(())
-}
-
-/// A write and a read of one session.
-const SCRIPT: &[u8] =
-    b"export a size=16\n---\nattach 0\narrive 0 0 0 1 1 0 0 2 abcd\narrive 0 0 0 2 0 0 0 2\ndispatch 0\ndispatch 0\nperform 0 0\nperform 0 1\ntake 0 0\ntake 0 0\n";
-
-const WRITTEN: &[u8] =
-    b"session 0\naccepted 0 0\naccepted 1 0\nexport 0 request 0 weight\nexport 0 request 1 weight\nperformed\nperformed\nreply 1 0 -\nreply 2 0 abcd\nsteps 9\n";
-
-/// How the script goes where the first so many growths are given and the next is refused, and what is written.
-fn replayed_without_memory(alloc: Global, heap: &Refusing<Global>) -> (Outcome, Vec<u8>) {
-    let mut input = SCRIPT;
-    let mut output = Vec::new(alloc);
-    let outcome = replay_script(heap, &mut input, &mut output);
-    (outcome, output)
-}
-
-#[test]
-fn each_growth_is_refused(rt: HostRuntime) {
-    let mut refused = 0u64;
-    for nth in 1..200u64 {
-        let heap = Refusing::new(rt.alloc(), nth);
-        let (outcome, output) = replayed_without_memory(rt.alloc(), &heap);
-        if heap.is_armed() {
-            assert_eq!(rt; outcome, Outcome::Done);
-            assert!(rt; output.as_slice() == WRITTEN);
-            break;
-        }
-        let told = outcome == Outcome::NoMemory || outcome == Outcome::Done;
-        assert!(rt; told, "at {nth}");
-        let differs = output.as_slice() != WRITTEN;
-        assert!(rt; differs, "at {nth}");
-        refused = nth;
-    }
-    assert!(rt; refused > 0);
 }

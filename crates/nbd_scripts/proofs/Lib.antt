@@ -1,0 +1,4 @@
+pub mod NumberLemmas
+pub mod OutputLemmas
+pub mod ReplayLemmas
+pub mod ToldLemmas

@@ -1,0 +1,73 @@
+-- The lines of a body of `replay`: what the fields behind an event's name say.
+use Rattle.std.specs.Prelude.{ℕ, ◌^◌, ◌==◌, Bool, ◌&&◌, nat_lt, nat_le, if◌then◌else◌, List, [], ◌∷◌, length, Option, Some, None, option_and_then, Result, Ok, Err}
+use Rattle.hex.specs.Hex.{decode_of}
+use Rattle.hex.specs.declared.FromHexError.{FromHexError}
+use Rattle.nbd_wire.specs.Grammar.{RequestMessage}
+use Rattle.nbd_wire.specs.declared.requests.RequestHead.{RequestHead}
+use Rattle.server_table.specs.declared.event.Event.{Event}
+use Rattle.server_table.specs.declared.event.Event.TheVariants as event
+use Rattle.nbd_scripts.specs.Numbers.{number_below}
+
+infixl 10 ◌>>=◌
+abbrev pub ◌>>=◌ : {A B : Type 0} → Option A → (A → Option B) → Option B
+option >>= next = option_and_then next option
+
+-- one field and no more
+abbrev pub only : List (List ℕ) → Option (List ℕ)
+only [] = None
+only (field ∷ []) = Some field
+only (field ∷ next ∷ more) = None
+
+-- an export, and a number of it, and no more
+abbrev pub pair_of : List (List ℕ) → Option (ℕ × ℕ)
+pair_of [] = None
+pair_of (export ∷ []) = None
+pair_of (export ∷ number ∷ []) = do
+  e ← number_below (2 ^ 32) export
+  n ← number_below (2 ^ 64) number
+  Some (e, n)
+pair_of (export ∷ number ∷ next ∷ more) = None
+
+-- a request of this type and length brings a payload
+abbrev pub brings_payload : RequestHead → Bool
+brings_payload head = head.kind == 1 && nat_lt 0 head.length
+
+-- bytes that are as many as is said
+abbrev pub sized : ℕ → Result (List ℕ) FromHexError → Option (List ℕ)
+sized count (Ok bytes) = if length bytes == count then Some bytes else None
+sized count (Err error) = None
+
+-- the payload in the fields behind a request's length: hex exactly where the request brings one
+abbrev pub payload_of : RequestHead → List (List ℕ) → Option (List ℕ)
+payload_of head [] = if brings_payload head then None else Some []
+payload_of head (digits ∷ []) = if brings_payload head && nat_le head.length 33554432 then sized head.length (decode_of digits) else None
+payload_of head (digits ∷ next ∷ more) = None
+
+-- `COOKIE KIND FLAGS OFFSET LENGTH`
+unfoldable pub head_read : List ℕ → List ℕ → List ℕ → List ℕ → List ℕ → Option RequestHead
+head_read cookie kind flags offset count = do
+  f ← number_below (2 ^ 16) flags
+  k ← number_below (2 ^ 16) kind
+  c ← number_below (2 ^ 64) cookie
+  o ← number_below (2 ^ 64) offset
+  l ← number_below (2 ^ 32) count
+  Some (record { flags = f; kind = k; cookie = c; offset = o; length = l })
+
+-- the same, and the payload
+unfoldable pub request_of : List (List ℕ) → Option RequestMessage
+request_of (cookie ∷ kind ∷ flags ∷ offset ∷ count ∷ payload) = do
+  head ← head_read cookie kind flags offset count
+  bytes ← payload_of head payload
+  Some (record { head = head; payload = bytes })
+request_of fields = None
+
+module _ {A : Type 0} where
+  -- `E S T`, and a request
+  unfoldable pub arrival_of : List (List ℕ) → Option (Event A)
+  arrival_of (export ∷ session ∷ moment ∷ fields) = do
+    e ← number_below (2 ^ 32) export
+    s ← number_below (2 ^ 64) session
+    t ← number_below (2 ^ 62) moment
+    request ← request_of fields
+    Some (event.Arrive e s t request)
+  arrival_of fields = None

@@ -1,0 +1,32 @@
+-- What a command of the program reads and writes, by how it went.
+use Rattle.std.specs.Prelude.{◌≡◌, ℕ, ◌⊎◌, List, ◌++◌, codes, Option, IfSome}
+use Rattle.std.specs.Fmt.{decimal}
+use Rattle.std.specs.Io.KnownBytes.{Appends, IsAtEnd}
+use Rattle.nbd_commands.specs.Refusals.{code_of}
+use Rattle.nbd_scripts.specs.declared.fault.LineFault.{LineFault}
+use Rattle.nbd_scripts.specs.declared.fault.LineFault.TheVariants.{Form, Value}
+use Rattle.nbd_scripts.specs.declared.fault.LineFault.TheVariants as fault
+use Rattle.nbd_scripts.specs.declared.outcome.Outcome.{Outcome}
+use Rattle.nbd_scripts.specs.declared.outcome.Outcome.TheVariants.{Refused, WriteFailed}
+use Rattle.nbd_scripts.specs.declared.outcome.Outcome.TheVariants as outcome
+
+-- the script is all that the input had left
+pub record IsWhole (old new : Option (List ℕ)) (script : List ℕ) : Type 0 where
+  pub known : IfSome old (λ bytes. script ≡ bytes)
+  pub end : IsAtEnd new
+
+-- the line of a refusal
+abbrev pub refusal_line : ℕ → LineFault → List ℕ
+refusal_line number Form = codes "line " ++ decimal number ++ codes " refused\n"
+refusal_line number (Value refusal) = codes "line " ++ decimal number ++ codes " C" ++ decimal (code_of refusal) ++ codes "\n"
+refusal_line number fault.NoMemory = codes ""
+
+-- the text is written and the command went so; or the write failed, or found no memory
+abbrev pub Writes : List ℕ → Outcome → Option (List ℕ) → Option (List ℕ) → Outcome → Type 0
+Writes text well old new went = ((went ≡ well) × Appends old new text) ⊎ (went ≡ outcome.NoMemory) ⊎ (went ≡ WriteFailed)
+
+-- the refusal of a line is written. Want of memory is none, and then nothing is
+abbrev pub TellsRefusal : ℕ → LineFault → Option (List ℕ) → Option (List ℕ) → Outcome → Type 0
+TellsRefusal number Form old new went = Writes (refusal_line number Form) Refused old new went
+TellsRefusal number (Value refusal) old new went = Writes (refusal_line number (Value refusal)) Refused old new went
+TellsRefusal number fault.NoMemory old new went = (went ≡ outcome.NoMemory) × (new ≡ old)

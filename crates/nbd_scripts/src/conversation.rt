@@ -1,0 +1,135 @@
+//! `nbdq talk`: a script, and the conversation that a client holds by it.
+
+ghost use Rattle.std.specs.Prelude.{◌≡◌, ◌≢◌, IfOk, IsErr, codes};
+ghost use Rattle.std.specs.Io.KnownBytes.{Appends};
+ghost use Rattle.hex.specs.Hex.{decode_of};
+ghost use Rattle.nbd_scripts.specs.Output.{is_gap, digits_of, printed, word_of, Prints};
+
+use crate::head::{Head, read_head};
+use crate::outcome::Outcome;
+use crate::refused::{read_script, refuse_line};
+use hex::FromHexError;
+use nbd_base::NoMemory;
+use nbd_commands::Config;
+use nbd_session::{Counted, End, TalkFault, talk};
+use std::alloc::Allocator;
+use std::io::{Read, Write};
+
+/// Reads a script, holds its conversation, and writes what the server says.
+///
+/// Where memory is refused, nothing of what the server says is written.
+pub fn talk_script<A: Allocator + Copy, R: Read, W: Write>(
+    alloc: A,
+    input: &mut R,
+    output: &mut W,
+) -> Outcome
+    ensures { result ≡ Outcome.ReadFailed → W.contents output.new ≡ W.contents output.old }
+{
+    let script = match read_script(alloc, input) {
+        Ok(script) => script,
+        Err(outcome) => return outcome,
+    };
+    match read_head(alloc, &script) {
+        Head::Read(config, body) => converse(alloc, &config, body.text, output),
+        Head::Refused(line, fault) => refuse_line(output, line, fault),
+    }
+}
+
+/// Holds the conversation in which a client sends the bytes that the hex spells.
+fn converse<A: Allocator + Copy, W: Write>(
+    alloc: A,
+    config: &Config<A>,
+    body: &[u8],
+    output: &mut W,
+) -> Outcome
+    ensures done { result ≡ Outcome.Done → Prints config.now.exports body.now (W.contents output.old) (W.contents output.new) }
+    ensures refused { result ≡ Outcome.Refused → IsErr (decode_of (digits_of body.now))
+        × Appends (W.contents output.old) (W.contents output.new) (codes "hex refused\n") }
+    ensures unread { result ≡ Outcome.ReadFailed → W.contents output.new ≡ W.contents output.old }
+{
+    let Ok(digits) = digits_of(alloc, body) else {
+        return Outcome::NoMemory;
+    };
+    let bytes = match hex::decode(alloc, digits.as_slice()) {
+        Ok(bytes) => bytes,
+        Err(error) => return refuse_hex(&error, output),
+    };
+    let mut reader = Counted::new(bytes.as_slice());
+    let mut writer = Counted::new(Vec::new(alloc));
+    // A vector refuses a write only for want of memory.
+    let end = match talk(alloc, config, &mut reader, &mut writer) {
+        Ok(end) => end,
+        Err(TalkFault::ReadFailed) => return Outcome::ReadFailed,
+        Err(TalkFault::WriteFailed | TalkFault::NoMemory) => return Outcome::NoMemory,
+    };
+    match spelled(alloc, &writer.into_inner(), end) {
+        Ok(text) => Outcome::of_write(output.write_all(&text), Outcome::Done),
+        Err(NoMemory) => Outcome::NoMemory,
+    }
+}
+
+/// Writes that the digits are none, or not of whole bytes, where that is why they weren't decoded.
+fn refuse_hex<W: Write>(error: &FromHexError, output: &mut W) -> Outcome
+    ensures not_done { result ≢ Outcome.Done }
+    ensures read { result ≢ Outcome.ReadFailed }
+    ensures refused { result ≡ Outcome.Refused → (error.now ≢ FromHexError.OutOfMemory)
+        × Appends (W.contents output.old) (W.contents output.new) (codes "hex refused\n") }
+{
+    match error {
+        FromHexError::OutOfMemory => Outcome::NoMemory,
+        _ => Outcome::of_write(output.write_all(b"hex refused\n"), Outcome::Refused),
+    }
+}
+
+/// What stands in a script's body but for what may stand between digits.
+fn digits_of<A: Allocator + Copy>(alloc: A, body: &[u8]) -> Result<Vec<u8, A>, NoMemory>
+    ensures { IfOk result (λ digits. digits.items ≡ digits_of body.now) }
+{
+    let mut digits = Vec::new(alloc);
+    for &byte in body {
+        if !is_gap(byte) {
+            digits.push(byte)?;
+        }
+    }
+    Ok(digits)
+}
+
+/// Whether a byte may stand between digits.
+fn is_gap(byte: u8) -> bool
+    ensures { result ≡ is_gap byte }
+{
+    matches!(byte, b' ' | b'\t' | b'\r' | b'\n')
+}
+
+/// The whole text of the output: what the server said in lines of 16 bytes, and how the conversation ended.
+fn spelled<A: Allocator + Copy>(alloc: A, said: &[u8], end: End) -> Result<Vec<u8, A>, NoMemory>
+    ensures { IfOk result (λ text. text.items ≡ printed said.now end) }
+{
+    let mut text = Vec::new(alloc);
+    for row in said.chunks(16) {
+        let digits = hex::encode(alloc, row)?;
+        text.extend_from_slice(digits.as_bytes())?;
+        text.push(b'\n')?;
+    }
+    text.extend_from_slice(b"end ")?;
+    text.extend_from_slice(end_word(end).as_bytes())?;
+    text.push(b'\n')?;
+    Ok(text)
+}
+
+fn end_word(end: End) -> &'static str
+    ensures { result.now ≡ word_of end }
+{
+    match end {
+        End::Disc => "disc",
+        End::Abort => "abort",
+        End::NoExport => "no export",
+        End::Over => "over",
+        End::Cut => "cut",
+        End::BadFlags => "bad flags",
+        End::BadMagic => "bad magic",
+        End::TooLong => "too long",
+        End::TooMany => "too many",
+        End::Worn => "worn",
+    }
+}

@@ -1,0 +1,227 @@
+//! The body of a script of `replay`: an event of the server a line.
+
+ghost use Rattle.std.specs.Prelude.{◌≡◌, true, false, [], ◌∷◌, IfOk, IfErr};
+ghost use Rattle.std.specs.Option.{ok_or, option_copied};
+ghost use Rattle.std.specs.Result.{result_ok};
+ghost use Rattle.nbd_scripts.specs.Faults.{IsMissed};
+ghost use Rattle.nbd_scripts.specs.Lines.{texts_of};
+ghost use Rattle.nbd_scripts.specs.Events.{only, pair_of, brings_payload, payload_of, head_read, request_of, arrival_of};
+
+use crate::fault::LineFault;
+use crate::head::Body;
+use crate::lines::{fields_of, first_line};
+use crate::numbers::{half_word, moment, number, word};
+use bytes::Bytes;
+use hex::FromHexError;
+use nbd_wire::protocol::WRITE;
+use nbd_wire::{MAX_PAYLOAD, Request, RequestHead};
+use server_table::Event;
+use std::alloc::Allocator;
+
+/// What reading the body of a script gives.
+pub enum Lines<A: Allocator> {
+    /// The events of the lines, in order.
+    Read(Vec<Event<A>, A>),
+    /// The first refused line, counted from 1 at the script's first.
+    Refused(usize, LineFault),
+}
+
+/// Reads all lines of a body.
+pub fn read_lines<A: Allocator + Copy>(alloc: A, body: Body<'_>) -> Lines<A> {
+    let mut events = Vec::new(alloc);
+    let mut rest = body.text;
+    let mut count = body.above;
+    while !rest.is_empty() {
+        let (line, after) = first_line(rest);
+        rest = after;
+        count = count.saturating_add(1);
+        if let Err(fault) = take_line(alloc, line, &mut events) {
+            return Lines::Refused(count, fault);
+        }
+    }
+    Lines::Read(events)
+}
+
+/// Takes one line. One without fields, or that begins with `#`, is passed over.
+fn take_line<A: Allocator + Copy>(
+    alloc: A,
+    line: &[u8],
+    events: &mut Vec<Event<A>, A>,
+) -> Result<(), LineFault> {
+    if line.first() == Some(&b'#') {
+        return Ok(());
+    }
+    let fields = fields_of(alloc, line)?;
+    match fields.as_slice() {
+        [] => Ok(()),
+        [name, numbers @ ..] => {
+            events.push(event_of(alloc, name, numbers)?)?;
+            Ok(())
+        }
+    }
+}
+
+/// The event of this name, with these numbers.
+fn event_of<A: Allocator + Copy>(
+    alloc: A,
+    name: &[u8],
+    fields: &[&[u8]],
+) -> Result<Event<A>, LineFault> {
+    match name {
+        b"attach" => Ok(Event::Attach {
+            export: word(only(fields)?)?,
+        }),
+        b"dispatch" => Ok(Event::Dispatch {
+            moment: moment(only(fields)?)?,
+        }),
+        b"perform" => {
+            let (export, number) = pair(fields)?;
+            Ok(Event::Perform { export, number })
+        }
+        b"take" => {
+            let (export, session) = pair(fields)?;
+            Ok(Event::Take { export, session })
+        }
+        b"leave" => {
+            let (export, session) = pair(fields)?;
+            Ok(Event::Leave { export, session })
+        }
+        b"gone" => {
+            let (export, session) = pair(fields)?;
+            Ok(Event::Gone { export, session })
+        }
+        b"arrive" => arrival(alloc, fields),
+        _ => Err(LineFault::Form),
+    }
+}
+
+/// The one field that there is.
+fn only<'a>(fields: &[&'a [u8]]) -> Result<&'a [u8], LineFault>
+    ensures field { option_copied (result_ok result) ≡ only (texts_of fields.now) }
+    ensures fault { IfErr result (λ fault. fault ≡ LineFault.Form) }
+{
+    match fields {
+        [field] => Ok(*field),
+        _ => Err(LineFault::Form),
+    }
+}
+
+/// An export, and the number of a session or a request of it.
+fn pair(fields: &[&[u8]]) -> Result<(u32, u64), LineFault>
+    ensures { result ≡ ok_or (pair_of (texts_of fields.now)) LineFault.Form }
+{
+    match fields {
+        [export, session] => Ok((word(export)?, number(session)?)),
+        _ => Err(LineFault::Form),
+    }
+}
+
+/// An arrival: its export, session and moment, and its request.
+#[tactic(auto, unfolding(crate::specs::Events::arrival_of))]
+fn arrival<A: Allocator + Copy>(alloc: A, fields: &[&[u8]]) -> Result<Event<A>, LineFault>
+    ensures read { IfOk result (λ event. arrival_of (texts_of fields.now) ≡ Some event) }
+    ensures missed { IfErr result (IsMissed (arrival_of {A = A} (texts_of fields.now))) }
+{
+    match fields {
+        [export, session, at, request @ ..] => Ok(Event::Arrive {
+            export: word(export)?,
+            session: number(session)?,
+            moment: moment(at)?,
+            request: request_of(alloc, request)?,
+        }),
+        _ => Err(LineFault::Form),
+    }
+}
+
+/// A request: its cookie, type, flags, offset and length, and behind them the hex of what it writes, if that is anything.
+#[tactic(auto, unfolding(crate::specs::Events::request_of))]
+fn request_of<A: Allocator + Copy>(alloc: A, fields: &[&[u8]]) -> Result<Request<A>, LineFault>
+    ensures read { IfOk result (λ request. request_of (texts_of fields.now) ≡ Some request) }
+    ensures missed { IfErr result (IsMissed (request_of (texts_of fields.now))) }
+{
+    match fields {
+        [cookie, kind, flags, offset, length, payload @ ..] => {
+            let head = head_read(cookie, kind, flags, offset, length)?;
+            with_payload(alloc, head, payload)
+        }
+        _ => Err(LineFault::Form),
+    }
+}
+
+/// The head of a request.
+#[tactic(auto, unfolding(crate::specs::Events::head_read))]
+fn head_read(
+    cookie: &[u8],
+    kind: &[u8],
+    flags: &[u8],
+    offset: &[u8],
+    length: &[u8],
+) -> Result<RequestHead, LineFault>
+    ensures { result ≡ ok_or (head_read cookie.now kind.now flags.now offset.now length.now) LineFault.Form }
+{
+    Ok(RequestHead {
+        flags: half_word(flags)?,
+        kind: half_word(kind)?,
+        cookie: number(cookie)?,
+        offset: number(offset)?,
+        length: word(length)?,
+    })
+}
+
+/// A request of this head, with the hex of its payload in the fields behind it.
+fn with_payload<A: Allocator + Copy>(
+    alloc: A,
+    head: RequestHead,
+    fields: &[&[u8]],
+) -> Result<Request<A>, LineFault>
+    ensures read { IfOk result (λ request. (request.head ≡ head) × (payload_of head (texts_of fields.now) ≡ Some request.payload)) }
+    ensures missed { IfErr result (IsMissed (payload_of head (texts_of fields.now))) }
+{
+    match fields {
+        [] => bare_request(head),
+        [digits] => write_request(alloc, head, digits),
+        _ => Err(LineFault::Form),
+    }
+}
+
+/// Whether a request of this head brings a payload.
+fn brings_payload(head: RequestHead) -> bool
+    ensures { result ≡ brings_payload head }
+{
+    head.kind == WRITE && head.length != 0
+}
+
+/// A request without a payload, if it has none.
+fn bare_request<A: Allocator + Copy>(head: RequestHead) -> Result<Request<A>, LineFault>
+    ensures whole { IfOk result (λ request. (request ≡ record { head = head; payload = [] }) × (brings_payload head ≡ false)) }
+    ensures refused { IfErr result (λ fault. (fault ≡ LineFault.Form) × (brings_payload head ≡ true)) }
+{
+    if brings_payload(head) {
+        return Err(LineFault::Form);
+    }
+    Ok(Request::new(head, Bytes::new()))
+}
+
+/// A request that writes the bytes of these digits, if they are as many as it says.
+fn write_request<A: Allocator + Copy>(
+    alloc: A,
+    head: RequestHead,
+    digits: &[u8],
+) -> Result<Request<A>, LineFault>
+    ensures whole { IfOk result (λ request. (request.head ≡ head) × (payload_of head (digits.now ∷ []) ≡ Some request.payload)) }
+    ensures missed { IfErr result (IsMissed (payload_of head (digits.now ∷ []))) }
+{
+    if !brings_payload(head) || head.length > MAX_PAYLOAD {
+        return Err(LineFault::Form);
+    }
+    let payload = match hex::decode(alloc, digits) {
+        Ok(payload) => payload,
+        Err(FromHexError::OutOfMemory) => return Err(LineFault::NoMemory),
+        Err(_) => return Err(LineFault::Form),
+    };
+    if payload.len() != head.length as usize {
+        return Err(LineFault::Form);
+    }
+    let payload = Bytes::from_vec(payload)?;
+    Ok(Request::new(head, payload))
+}

@@ -1,0 +1,20 @@
+//! Scripts: reading them, and what `talk` and `replay` write of them. docs/FORMATS.md has their layout.
+#![tactic(auto)]
+
+mod answers;
+mod conversation;
+mod events;
+mod fault;
+mod head;
+mod lines;
+mod numbers;
+mod outcome;
+mod refused;
+mod replaying;
+
+pub use conversation::talk_script;
+pub use outcome::Outcome;
+pub use replaying::replay_script;
+
+#[cfg(test)]
+mod tests;

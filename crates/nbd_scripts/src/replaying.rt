@@ -1,0 +1,77 @@
+//! `nbdq replay`: a script, and what a server answers to its events.
+
+ghost use Rattle.std.specs.Prelude.{◌≡◌, ◌⊎◌};
+ghost use Rattle.server_core.specs.Served.{setup_for};
+ghost use Rattle.nbd_scripts.specs.Replayed.{Replays, steps_line};
+ghost use Rattle.nbd_scripts.specs.Told.{Writes};
+
+use crate::answers::write_answer;
+use crate::events::{Lines, read_lines};
+use crate::head::{Head, read_head};
+use crate::outcome::Outcome;
+use crate::refused::{read_script, refuse_line};
+use eligibility::Heaped;
+use export_store::Paged;
+use nbd_commands::Config;
+use server_core::Server;
+use server_table::Event;
+use std::alloc::Allocator;
+use std::io;
+use std::io::{Read, Write};
+
+/// Reads a whole script, and then makes its events on a server and writes what each is answered.
+pub fn replay_script<A: Allocator + Copy, R: Read, W: Write>(
+    alloc: A,
+    input: &mut R,
+    output: &mut W,
+) -> Outcome
+    ensures { result ≡ Outcome.ReadFailed → W.contents output.new ≡ W.contents output.old }
+{
+    let script = match read_script(alloc, input) {
+        Ok(script) => script,
+        Err(outcome) => return outcome,
+    };
+    match read_head(alloc, &script) {
+        Head::Read(config, body) => match read_lines(alloc, body) {
+            Lines::Read(events) => replay(alloc, &config, events, output),
+            Lines::Refused(line, fault) => refuse_line(output, line, fault),
+        },
+        Head::Refused(line, fault) => refuse_line(output, line, fault),
+    }
+}
+
+/// Makes the events, and writes their answers and how many steps were counted.
+fn replay<A: Allocator + Copy, W: Write>(
+    alloc: A,
+    config: &Config<A>,
+    events: Vec<Event<A>, A>,
+    output: &mut W,
+) -> Outcome
+    ensures done { result ≡ Outcome.Done → Replays {A = A} (setup_for config.now) events.items (W.contents output.old) (W.contents output.new) }
+    ensures failed { (result ≡ Outcome.Done) ⊎ (result ≡ Outcome.NoMemory) ⊎ (result ≡ Outcome.WriteFailed) }
+{
+    let made: Result<Server<Paged<A>, Heaped<A>>, _> = Server::new(alloc, config);
+    let Ok(mut server) = made else {
+        return Outcome::NoMemory;
+    };
+    for event in events {
+        if let Err(error) = write_answer(alloc, server.event(event), output) {
+            return failed(error);
+        }
+    }
+    write_steps(server.steps(), output)
+}
+
+/// What a write that failed comes to.
+fn failed(error: io::Error) -> Outcome
+    ensures { (result ≡ Outcome.NoMemory) ⊎ (result ≡ Outcome.WriteFailed) }
+{
+    Outcome::of_write(Err(error), Outcome::WriteFailed)
+}
+
+/// Writes the last line, how many steps were counted.
+fn write_steps<W: Write>(steps: u128, output: &mut W) -> Outcome
+    ensures { Writes (steps_line steps) Outcome.Done (W.contents output.old) (W.contents output.new) result }
+{
+    Outcome::of_write(writeln!(output, "steps {steps}"), Outcome::Done)
+}

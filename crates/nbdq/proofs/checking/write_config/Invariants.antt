@@ -1,0 +1,6 @@
+use Rattle.nbdq.proofs.ReportLemmas.{Written}
+use Rattle.nbdq.proofs.checking.write_config.Given as goal
+
+-- the lines of the exports up to here are written
+abbrev pub invariant-loop-at : goal.invariant-loop-at
+invariant-loop-at g l = Written l.config l.at (g.W.Write.contents l.fn.output) (g.W.Write.contents l.output)
