@@ -12,6 +12,7 @@ use server_core::{Server, SessionId, Ticket};
 use server_lock::{Pass, Shared};
 use std::alloc::Global;
 use std::sync::Wait;
+use std::sync::atomic::{AtomicBool, Ordering};
 use std::sync::ledger::Ledger;
 use std::thread;
 use tag_clock::{Clock, Moment};
@@ -60,10 +61,10 @@ fn write_of(alloc: Global, offset: u64, byte: u8) -> Option<Request<Global>> {
     Some(Request::new(head, payload))
 }
 
-// Whether it comes true within so many turns, each of which yields to other threads.
-fn comes_true(is_true: impl Fn() -> bool) -> bool {
+// Whether a flag is set within so many turns, each of which yields to other threads.
+fn is_set(flag: &AtomicBool) -> bool {
     for _ in 0..TURNS {
-        if is_true() {
+        if flag.load(Ordering::SeqCst) {
             return true;
         }
         thread::yield_now();

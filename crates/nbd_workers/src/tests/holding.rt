@@ -5,7 +5,7 @@ use super::*;
 use server_core::ArriveRefusal;
 use server_lock::settle;
 use std::marker::Brand;
-use std::sync::atomic::{AtomicBool, AtomicU64, Ordering};
+use std::sync::atomic::AtomicU64;
 use std::sync::ledger::Blank;
 use std::test::Fail;
 use std::thread::Threads;
@@ -28,7 +28,7 @@ impl HoldsUntil {
     }
 
     fn is_holding(&self) -> bool {
-        comes_true(|| self.holding.load(Ordering::SeqCst))
+        is_set(&self.holding)
     }
 
     fn release(&self) {
@@ -36,7 +36,13 @@ impl HoldsUntil {
     }
 
     fn has_performed(&self, count: u64) -> bool {
-        comes_true(|| self.performed.load(Ordering::SeqCst) == count)
+        for _ in 0..TURNS {
+            if self.performed.load(Ordering::SeqCst) == count {
+                return true;
+            }
+            thread::yield_now();
+        }
+        false
     }
 }
 
@@ -50,7 +56,7 @@ impl Gate for HoldsUntil {
     fn pass(&self, ticket: &Ticket) {
         if ticket.number() == 0 {
             self.holding.store(true, Ordering::SeqCst);
-            comes_true(|| self.released.load(Ordering::SeqCst));
+            is_set(&self.released);
         }
     }
 

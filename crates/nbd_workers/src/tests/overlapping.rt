@@ -4,7 +4,6 @@ ghost use Rattle.std.specs.Prelude.{◌≡◌};
 use super::*;
 use server_lock::settle;
 use std::marker::Brand;
-use std::sync::atomic::{AtomicBool, Ordering};
 use std::sync::ledger::Blank;
 use std::test::Fail;
 use std::thread::Threads;
@@ -27,7 +26,7 @@ impl Gate for HoldsFirst {
         if ticket.number() != 0 {
             return;
         }
-        if !comes_true(|| self.released.load(Ordering::SeqCst)) {
+        if !is_set(&self.released) {
             self.gave_up.store(true, Ordering::SeqCst);
         }
     }
