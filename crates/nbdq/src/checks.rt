@@ -74,7 +74,12 @@ fn a_refusal_is_the_only_line(rt: HostRuntime) {
 
 #[test]
 fn the_command_is_asked_for_by_its_name(rt: HostRuntime) {
-    assert!(rt; matches!(asked_job(rt.alloc(), &["nbdq", "check"]), Ok(Job::Task(Task::Check))));
+    assert!(rt;
+        matches!(
+            asked_job(rt.alloc(), &["nbdq", "check"]),
+            Ok(Job::Task(Task::Check))
+        )
+    );
     assert!(rt; asked_job(rt.alloc(), &["nbdq", "check", "file"]).is_err());
 }
 

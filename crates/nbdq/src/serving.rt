@@ -28,10 +28,9 @@ use std::os::unix::net::UnixListener;
 use std::sync::Wait;
 use std::sync::atomic::{AtomicBool, Ordering};
 use std::sync::ledger::{Blank, Ledger};
-use std::thread;
 use std::thread::Threads;
-use std::time;
 use std::time::{Duration, Instant};
+use std::{thread, time};
 
 /// How many milliseconds a listener waits before it tries again to accept, where the system is short of something.
 const RETRY: u64 = 10;

@@ -259,8 +259,18 @@ fn statuses_and_texts(rt: HostRuntime) {
 #[test]
 fn command_lines(rt: HostRuntime) {
     let alloc = rt.alloc();
-    assert!(rt; matches!(asked_job(alloc, &["nbdq", "talk"]), Ok(Job::Task(Task::Talk))));
-    assert!(rt; matches!(asked_job(alloc, &["nbdq", "replay"]), Ok(Job::Task(Task::Replay))));
+    assert!(rt;
+        matches!(
+            asked_job(alloc, &["nbdq", "talk"]),
+            Ok(Job::Task(Task::Talk))
+        )
+    );
+    assert!(rt;
+        matches!(
+            asked_job(alloc, &["nbdq", "replay"]),
+            Ok(Job::Task(Task::Replay))
+        )
+    );
     for (words, kind) in [
         (["nbdq"].as_slice(), ErrorKind::MissingSubcommand),
         (&["nbdq", "--help"], ErrorKind::DisplayHelp),
@@ -268,13 +278,22 @@ fn command_lines(rt: HostRuntime) {
         (&["nbdq", "talk", "--help"], ErrorKind::DisplayHelp),
         (&["nbdq", "fly"], ErrorKind::InvalidSubcommand),
         (&["nbdq", "serve", "--tcp"], ErrorKind::InvalidValue),
-        (&["nbdq", "serve", "--workers", "65"], ErrorKind::ValueValidation),
-        (&["nbdq", "serve", "--workers", "0"], ErrorKind::ValueValidation),
+        (
+            &["nbdq", "serve", "--workers", "65"],
+            ErrorKind::ValueValidation,
+        ),
+        (
+            &["nbdq", "serve", "--workers", "0"],
+            ErrorKind::ValueValidation,
+        ),
         (
             &["nbdq", "serve", "--sessions", "1000001"],
             ErrorKind::ValueValidation,
         ),
-        (&["nbdq", "serve", "--sessions", "x"], ErrorKind::ValueValidation),
+        (
+            &["nbdq", "serve", "--sessions", "x"],
+            ErrorKind::ValueValidation,
+        ),
         (&["nbdq", "talk", "more"], ErrorKind::UnknownArgument),
         (&["nbdq", "--quiet"], ErrorKind::UnknownArgument),
     ] {

@@ -12,10 +12,9 @@ use std::net::{Shutdown, TcpStream};
 use std::sync::atomic::{AtomicU64, Ordering};
 use std::sync::ledger::Ledger;
 use std::sync::{Mutex, Wait};
-use std::thread;
 use std::thread::Threads;
-use std::time;
 use std::time::Duration;
+use std::{thread, time};
 use tag_clock::Clock;
 
 /// How many bytes of replies are kept before they are sent.
@@ -215,14 +214,7 @@ fn read_requests<L: Ledger, R: Wait + time::Clock>(
     let mut frames: FrameReader<&TcpStream, Global> = FrameReader::new(service.alloc, reader);
     for _ in rt.forever() {
         let heard = line.room.heard();
-        let turn = read_turn(
-            rt,
-            &service.shared,
-            pass,
-            line.session,
-            &mut frames,
-            &clock,
-        );
+        let turn = read_turn(rt, &service.shared, pass, line.session, &mut frames, &clock);
         if !is_handed_in(rt, service, line, pass, turn, heard) {
             break;
         }

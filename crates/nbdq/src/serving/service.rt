@@ -77,7 +77,10 @@ impl<'a, L: Ledger, R: Wait + time::Clock> Gate for ServiceGate<'a, L, R> {
     }
 
     fn idle(&self) -> bool {
-        self.service.bells.work.wait(self.rt, self.heard.get(), Duration::from_secs(LONG));
+        self.service
+            .bells
+            .work
+            .wait(self.rt, self.heard.get(), Duration::from_secs(LONG));
         true
     }
 }
