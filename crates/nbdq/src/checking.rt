@@ -1,6 +1,6 @@
 //! `nbdq check`: a configuration file, and what it configures.
 
-ghost use Rattle.std.specs.Prelude.{◌≡◌, ◌⊎◌, ⊥, IfOk, IfErr, OnOk, IsErrOf};
+ghost use Rattle.std.specs.Prelude.{◌≡◌, ◌⊎◌, IfOk, IfErr, OnOk, IsErrOf};
 ghost use Rattle.std.specs.Io.KnownBytes.{Appends, Consumes, IsAtEnd};
 ghost use Rattle.nbdq.specs.Checked.{disk_text, export_line, inflight_line, mode_word, offer_text, queue_text, rates_text, refusal_line, Checks, Configures};
 
