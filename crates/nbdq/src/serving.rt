@@ -32,6 +32,9 @@ use std::thread::Threads;
 use std::time::{Duration, Instant};
 use std::{thread, time};
 
+/// How many connections may be there at a time: twice as many as all sessions of 64 exports. One more is dropped.
+const CONNECTIONS: u64 = 8_192;
+
 /// How many milliseconds a listener waits before it tries again to accept, where the system is short of something.
 const RETRY: u64 = 10;
 
@@ -91,10 +94,11 @@ pub fn serve_on<R: Wait + Threads + Sync + time::Clock>(
     if let Some(unix) = unix {
         listeners.push(Listener::Unix(unix))?;
     }
-    // One for each worker, two for each connection of each listener, and one more.
-    let threads = crew.sessions.saturating_mul(2);
-    let passes = threads
-        .saturating_mul(listeners.len() as u64)
+    let listening = crew.sessions.saturating_mul(listeners.len() as u64);
+    // One for each worker, two for each connection that may be there, and one more.
+    let passes = listening
+        .min(CONNECTIONS)
+        .saturating_mul(2)
         .saturating_add(crew.workers)
         .saturating_add(1);
     let blank = Blank::new(passes);

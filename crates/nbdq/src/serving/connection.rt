@@ -125,13 +125,12 @@ fn serve_session<L: Ledger + Send + Sync, R: Wait + Threads + Sync + time::Clock
     reader: Counted<&TcpStream>,
     pass: &mut Pass<L>,
 ) {
-    match BufWriter::with_capacity(service.alloc, OUTLET, peer) {
-        Ok(outlet) => {
-            let line = Line::new(session, peer, outlet, service.bells.replies(session));
-            hold(rt, service, &line, reader, pass);
-        }
-        Err(_) => give_up(rt, service, session, pass),
+    if let Ok(outlet) = BufWriter::with_capacity(service.alloc, OUTLET, peer) {
+        let line = Line::new(session, peer, outlet, service.bells.replies(session));
+        hold(rt, service, &line, reader, pass);
     }
+    // The writer has dropped the session, where there was one.
+    give_up(rt, service, session, pass);
 }
 
 /// The writer has a thread of its own, the reader this one.
@@ -146,8 +145,6 @@ fn hold<L: Ledger + Send + Sync, R: Wait + Threads + Sync + time::Clock>(
         let started = scope.spawn(move || write_replies(rt, service, line));
         if started.is_ok() {
             read_requests(rt, service, line, reader, pass);
-        } else {
-            give_up(rt, service, line.session, pass);
         }
     });
 }
