@@ -28,6 +28,11 @@ impl Bell {
         self.rung.notify_all();
     }
 
+    /// Ends one of the waits.
+    pub fn ring_one(&self) {
+        self.rung.notify_one();
+    }
+
     /// Sleeps until it is rung once more than `heard`, and for so long at most.
     pub fn wait<R: Wait>(&self, rt: &R, heard: u64, at_most: Duration) {
         self.rung.sleep(rt, heard, at_most);

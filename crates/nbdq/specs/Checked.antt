@@ -60,3 +60,11 @@ pub record Checks (in_old in_new out_old out_new : Option (List ℕ)) (outcome :
   pub end : IsAtEnd in_new
   pub written : Appends out_old out_new (report (configured_by text))
   pub told : outcome ≡ outcome_of (configured_by text)
+
+-- the whole input was read, it configures this, and nothing is written
+pub record Configures (in_old in_new out_old out_new : Option (List ℕ)) (offer : Offer) : Type 0 where
+  pub text : List ℕ
+  pub took : Consumes in_old in_new text
+  pub end : IsAtEnd in_new
+  pub unwritten : out_new ≡ out_old
+  pub told : configured_by text ≡ Ok offer

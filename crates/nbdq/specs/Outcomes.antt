@@ -2,6 +2,8 @@
 use Rattle.std.specs.Prelude.{ℕ, List, Option, Some, None, codes}
 use Rattle.nbd_scripts.specs.declared.outcome.Outcome.{Outcome}
 use Rattle.nbd_scripts.specs.declared.outcome.Outcome.TheVariants.{Done, Refused, NoMemory, ReadFailed, WriteFailed}
+use Rattle.nbdq.specs.declared.outcome.Ending.{Ending}
+use Rattle.nbdq.specs.declared.outcome.Ending.TheVariants.{Ran, NoListener, BadAddress, CannotListen}
 
 -- the exit status
 abbrev pub status_of : Outcome → ℕ
@@ -18,3 +20,16 @@ text_of Refused = None
 text_of NoMemory = Some (codes "no memory")
 text_of ReadFailed = Some (codes "read failed")
 text_of WriteFailed = Some (codes "write failed")
+
+-- the same where the program ends
+abbrev pub status_of_end : Ending → ℕ
+status_of_end (Ran outcome) = status_of outcome
+status_of_end NoListener = 2
+status_of_end BadAddress = 2
+status_of_end CannotListen = 4
+
+abbrev pub text_of_end : Ending → Option (List ℕ)
+text_of_end (Ran outcome) = text_of outcome
+text_of_end NoListener = Some (codes "serve: no listener")
+text_of_end BadAddress = Some (codes "serve: bad address")
+text_of_end CannotListen = Some (codes "cannot listen")

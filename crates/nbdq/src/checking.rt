@@ -1,8 +1,8 @@
 //! `nbdq check`: a configuration file, and what it configures.
 
-ghost use Rattle.std.specs.Prelude.{◌≡◌, ◌⊎◌, IfOk, IfErr, OnOk};
+ghost use Rattle.std.specs.Prelude.{◌≡◌, ◌⊎◌, IfOk, IfErr, OnOk, IsErrOf};
 ghost use Rattle.std.specs.Io.KnownBytes.{Appends, Consumes, IsAtEnd};
-ghost use Rattle.nbdq.specs.Checked.{disk_text, export_line, inflight_line, mode_word, offer_text, queue_text, rates_text, refusal_line, Checks};
+ghost use Rattle.nbdq.specs.Checked.{disk_text, export_line, inflight_line, mode_word, offer_text, queue_text, rates_text, refusal_line, Checks, Configures};
 
 use nbd_commands::{Config, ExportConfig};
 use nbd_config::{FileError, FileRefusal, Place, read_config};
@@ -35,6 +35,31 @@ pub fn check_text<A: Allocator + Copy, R: Read, W: Write>(
             Outcome::of_write(write_refusal(refusal, output), Outcome::Refused)
         }
         Err(FileError::NoMemory) => Outcome::NoMemory,
+    }
+}
+
+/// What a configuration file configures, or how the command went without it. Where it is refused, the refusal is written.
+///
+/// The parsed text lies in `heap` for the time of the call, all else in `alloc`.
+pub fn read_offer<A: Allocator + Copy, R: Read, W: Write>(
+    heap: Global,
+    alloc: A,
+    input: &mut R,
+    output: &mut W,
+) -> Result<Config<A>, Outcome>
+    ensures read { IfOk result (λ config. Configures (R.remaining input.old) (R.remaining input.new) (W.contents output.old) (W.contents output.new) config) }
+    ensures refused { IsErrOf result Outcome.Refused → Checks (R.remaining input.old) (R.remaining input.new) (W.contents output.old) (W.contents output.new) Outcome.Refused }
+    ensures unread { IsErrOf result Outcome.ReadFailed → W.contents output.new ≡ W.contents output.old }
+    ensures undone { IsErrOf result Outcome.Done → ⊥ }
+{
+    let text = read_whole(alloc, input)?;
+    match read_config(heap, alloc, text.as_slice()) {
+        Ok(config) => Ok(config),
+        Err(FileError::Refused(refusal)) => Err(Outcome::of_write(
+            write_refusal(refusal, output),
+            Outcome::Refused,
+        )),
+        Err(FileError::NoMemory) => Err(Outcome::NoMemory),
     }
 }
 

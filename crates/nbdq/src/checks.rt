@@ -1,7 +1,7 @@
 //! Whole configuration files by `check`, and the whole output of each.
 
 use crate::checking::check_text;
-use crate::command_line::{Task, asked_task};
+use crate::command_line::{Job, Task, asked_job};
 use crate::outcome::Outcome;
 use crate::rows::outcome_of;
 use refusing::Refusing;
@@ -74,8 +74,13 @@ fn a_refusal_is_the_only_line(rt: HostRuntime) {
 
 #[test]
 fn the_command_is_asked_for_by_its_name(rt: HostRuntime) {
-    assert!(rt; matches!(asked_task(rt.alloc(), &["nbdq", "check"]), Ok(Task::Check)));
-    assert!(rt; asked_task(rt.alloc(), &["nbdq", "check", "file"]).is_err());
+    assert!(rt;
+        matches!(
+            asked_job(rt.alloc(), &["nbdq", "check"]),
+            Ok(Job::Task(Task::Check))
+        )
+    );
+    assert!(rt; asked_job(rt.alloc(), &["nbdq", "check", "file"]).is_err());
 }
 
 /// A reader and a writer that fail.

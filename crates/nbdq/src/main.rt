@@ -16,14 +16,17 @@ mod pieces;
 mod replays;
 #[cfg(test)]
 mod rows;
+mod serve;
+mod serving;
 #[cfg(test)]
 mod tests;
 
 use checking::check_text;
 use clap::error::ErrorKind;
-use command_line::{Task, read_command_line};
+use command_line::{Job, Task, read_command_line};
 use nbd_scripts::{replay_script, talk_script};
-use outcome::{Outcome, status, text};
+use outcome::{Ending, Outcome, status_of_end, text_of_end};
+use serve::serve;
 use std::io;
 use std::io::{BufReader, BufWriter, Write};
 use std::process::ExitCode;
@@ -31,7 +34,8 @@ use std::process::ExitCode;
 /// The status of a command line that is refused or asks for help.
 const USAGE: u8 = 2;
 
-fn run(task: Task, rt: &(impl Input + Print + AllocGlobal)) -> Outcome {
+/// The commands that read all of standard input, and then write.
+fn run<R: Input + Print + AllocGlobal>(rt: &R, task: Task) -> Outcome {
     let alloc = rt.alloc();
     let Ok(mut input) = BufReader::new(alloc, rt.reader()) else {
         return Outcome::NoMemory;
@@ -52,16 +56,17 @@ fn run(task: Task, rt: &(impl Input + Print + AllocGlobal)) -> Outcome {
 
 // A standard error that fails changes no status.
 fn main(rt: HostRuntime) -> ExitCode {
-    let outcome = match read_command_line(&rt) {
-        Ok(task) => run(task, &rt),
-        Err(error) if error.kind() == ErrorKind::OutOfMemory => Outcome::NoMemory,
+    let end = match read_command_line(&rt) {
+        Ok(Job::Task(task)) => Ending::Ran(run(&rt, task)),
+        Ok(Job::Serve(task)) => serve(&rt, &task),
+        Err(error) if error.kind() == ErrorKind::OutOfMemory => Ending::Ran(Outcome::NoMemory),
         Err(error) => {
             let _ = rt.eprint(&error);
             return ExitCode::from(USAGE);
         }
     };
-    if let Some(line) = text(outcome) {
+    if let Some(line) = text_of_end(end) {
         let _ = rt.eprintln(line);
     }
-    ExitCode::from(status(outcome))
+    ExitCode::from(status_of_end(end))
 }

@@ -1,7 +1,7 @@
 //! Whole scripts, and the whole output of each. The expected texts were worked out from the protocol's formats, apart from
 //! this program.
 
-use crate::command_line::{Task, asked_task};
+use crate::command_line::{Job, Task, asked_job};
 use crate::outcome::{Outcome, status, text};
 use crate::rows::{is_done, outcome_of};
 use clap::error::ErrorKind;
@@ -259,22 +259,46 @@ fn statuses_and_texts(rt: HostRuntime) {
 #[test]
 fn command_lines(rt: HostRuntime) {
     let alloc = rt.alloc();
-    assert_eq!(rt; asked_task(alloc, &["nbdq", "talk"]).ok(), Some(Task::Talk));
-    assert_eq!(rt;
-        asked_task(alloc, &["nbdq", "replay"]).ok(),
-        Some(Task::Replay)
+    assert!(rt;
+        matches!(
+            asked_job(alloc, &["nbdq", "talk"]),
+            Ok(Job::Task(Task::Talk))
+        )
+    );
+    assert!(rt;
+        matches!(
+            asked_job(alloc, &["nbdq", "replay"]),
+            Ok(Job::Task(Task::Replay))
+        )
     );
     for (words, kind) in [
         (["nbdq"].as_slice(), ErrorKind::MissingSubcommand),
         (&["nbdq", "--help"], ErrorKind::DisplayHelp),
         (&["nbdq", "help"], ErrorKind::DisplayHelp),
         (&["nbdq", "talk", "--help"], ErrorKind::DisplayHelp),
-        (&["nbdq", "serve"], ErrorKind::InvalidSubcommand),
+        (&["nbdq", "fly"], ErrorKind::InvalidSubcommand),
+        (&["nbdq", "serve", "--tcp"], ErrorKind::InvalidValue),
+        (
+            &["nbdq", "serve", "--workers", "65"],
+            ErrorKind::ValueValidation,
+        ),
+        (
+            &["nbdq", "serve", "--workers", "0"],
+            ErrorKind::ValueValidation,
+        ),
+        (
+            &["nbdq", "serve", "--sessions", "1000001"],
+            ErrorKind::ValueValidation,
+        ),
+        (
+            &["nbdq", "serve", "--sessions", "x"],
+            ErrorKind::ValueValidation,
+        ),
         (&["nbdq", "talk", "more"], ErrorKind::UnknownArgument),
         (&["nbdq", "--quiet"], ErrorKind::UnknownArgument),
     ] {
         assert_eq!(rt;
-            asked_task(alloc, words).err().map(|error| error.kind()),
+            asked_job(alloc, words).err().map(|error| error.kind()),
             Some(kind)
         );
     }

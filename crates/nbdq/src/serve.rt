@@ -1,0 +1,94 @@
+//! `nbdq serve`: from the command line and the configuration to the last line.
+
+use crate::checking::read_offer;
+use crate::command_line::ServeTask;
+use crate::outcome::{Ending, Outcome};
+use crate::serving::{ServeFault, serve_on};
+use nbd_commands::Config;
+use std::alloc::Global;
+use std::fs::Files;
+use std::io;
+use std::io::{BufReader, Write};
+use std::net::{Net, SocketAddr, TcpListener, TcpStream};
+use std::os::unix::net::UnixListener;
+use std::sync::Wait;
+use std::thread::Threads;
+use std::time::Clock;
+
+/// Reads the configuration from standard input, listens, says `ready`, serves, and tells how many steps were counted.
+pub fn serve<R>(rt: &R, task: &ServeTask) -> Ending
+where
+    R: Input
+        + Print
+        + AllocGlobal
+        + Net<Listener = TcpListener, Stream = TcpStream>
+        + Files
+        + Wait
+        + Threads
+        + Sync
+        + Clock,
+{
+    if task.tcp.is_none() && task.unix.is_none() {
+        return Ending::NoListener;
+    }
+    let address = match address_of(&task.tcp) {
+        Ok(address) => address,
+        Err(end) => return end,
+    };
+    let config = match read_config(rt) {
+        Ok(config) => config,
+        Err(outcome) => return Ending::Ran(outcome),
+    };
+    let (Ok(tcp), Ok(unix)) = (bind_tcp(rt, address), bind_unix(rt, &task.unix)) else {
+        return Ending::CannotListen;
+    };
+    if println!(rt; "ready").is_err() {
+        return Ending::Ran(Outcome::WriteFailed);
+    }
+    match serve_on(rt, rt.alloc(), &config, tcp, unix, task.crew) {
+        Ok(steps) => match println!(rt; "steps {steps}") {
+            Ok(()) => Ending::Ran(Outcome::Done),
+            Err(_) => Ending::Ran(Outcome::WriteFailed),
+        },
+        Err(ServeFault::NoMemory) => Ending::Ran(Outcome::NoMemory),
+        Err(ServeFault::Listen) => Ending::CannotListen,
+    }
+}
+
+/// The configuration, or how the command went without it.
+fn read_config<R: Input + Print + AllocGlobal>(rt: &R) -> Result<Config<Global>, Outcome> {
+    let alloc = rt.alloc();
+    let Ok(mut input) = BufReader::new(alloc, rt.reader()) else {
+        return Err(Outcome::NoMemory);
+    };
+    read_offer(alloc, alloc, &mut input, &mut io::writer(rt))
+}
+
+/// The address that is written, where one is. A name isn't looked up.
+fn address_of(text: &Option<String>) -> Result<Option<SocketAddr>, Ending> {
+    match text {
+        Some(text) => match text.as_str().parse() {
+            Ok(address) => Ok(Some(address)),
+            Err(_) => Err(Ending::BadAddress),
+        },
+        None => Ok(None),
+    }
+}
+
+fn bind_tcp<R: Net<Listener = TcpListener, Stream = TcpStream>>(
+    rt: &R,
+    address: Option<SocketAddr>,
+) -> io::Result<Option<TcpListener>> {
+    match address {
+        Some(address) => Ok(Some(TcpListener::bind(rt, address)?)),
+        None => Ok(None),
+    }
+}
+
+/// Makes the file of the socket, which stays when the server ends.
+fn bind_unix<R: Net + Files>(rt: &R, path: &Option<String>) -> io::Result<Option<UnixListener>> {
+    match path {
+        Some(path) => Ok(Some(UnixListener::bind(rt, path.as_str())?)),
+        None => Ok(None),
+    }
+}

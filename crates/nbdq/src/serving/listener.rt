@@ -1,0 +1,57 @@
+//! Listeners of either kind, and the connections that they accept.
+
+use std::io;
+use std::io::ErrorKind;
+use std::net::{Shutdown, TcpListener, TcpStream};
+use std::os::fd::OwnedFd;
+use std::os::unix::net::UnixListener;
+
+/// The numbers that Linux gives to "no descriptor is left", of the process and of the system, "no buffer is left" and "no
+/// memory is left".
+const PASSING: [i32; 4] = [24, 23, 105, 12];
+
+/// Where clients connect. A connection of either kind is a stream socket, so one type serves for both.
+#[derive(Drop)]
+pub enum Listener {
+    Tcp(TcpListener),
+    Unix(UnixListener),
+}
+
+impl Listener {
+    /// The next connection, once there is one. Over TCP it sends each write at once.
+    pub fn accept(&self) -> io::Result<TcpStream> {
+        match self {
+            Listener::Tcp(listener) => {
+                let (stream, _) = listener.accept()?;
+                let _ = stream.set_nodelay(true);
+                Ok(stream)
+            }
+            Listener::Unix(listener) => {
+                let (stream, _) = listener.accept()?;
+                Ok(TcpStream::from(OwnedFd::from(stream)))
+            }
+        }
+    }
+
+    /// Makes an `accept` that waits fail, and each later one.
+    pub fn close(&self) -> io::Result<()> {
+        // A listener has no `shutdown`: a second descriptor of its socket is lent to a stream, which has one.
+        let socket = match self {
+            Listener::Tcp(listener) => OwnedFd::from(listener.try_clone()?),
+            Listener::Unix(listener) => OwnedFd::from(listener.try_clone()?),
+        };
+        TcpStream::from(socket).shutdown(Shutdown::Both)
+    }
+}
+
+/// Whether an `accept` that failed so may succeed a little later: the client was gone already, a signal came, or the
+/// system is short of something that other connections give back.
+pub fn may_pass(error: &io::Error) -> bool {
+    match error.kind() {
+        ErrorKind::ConnectionAborted | ErrorKind::Interrupted => true,
+        _ => match error.raw_os_error() {
+            Some(number) => PASSING.contains(&number),
+            None => false,
+        },
+    }
+}

@@ -1,0 +1,86 @@
+//! What the threads of a server share.
+
+use super::bells::Bells;
+use super::passes::PassPool;
+use super::running_clock::RunningClock;
+use eligibility::Heaped;
+use export_store::Paged;
+use nbd_options::ExportTable;
+use nbd_workers::Gate;
+use server_core::Ticket;
+use server_lock::Shared;
+use std::alloc::Global;
+use std::cell::Cell;
+use std::sync::Wait;
+use std::sync::atomic::AtomicBool;
+use std::sync::ledger::Ledger;
+use std::time;
+use std::time::{Duration, Instant};
+use tag_clock::{Clock, Moment};
+
+/// How many seconds a worker sleeps that only a bell can give something to do.
+const LONG: u64 = 3_600;
+
+/// A server of disks in pages, and all that its threads share besides.
+#[derive(Drop)]
+pub struct Service<L: Ledger> {
+    pub alloc: Global,
+    pub shared: Shared<L, Paged<Global>, Heaped<Global>>,
+    pub passes: PassPool<L>,
+    pub bells: Bells,
+    /// What clients are told of the exports.
+    pub table: ExportTable<Global>,
+    /// None where the system's clock couldn't be read.
+    pub start: Option<Instant>,
+    /// Whether no more connections are accepted.
+    pub closed: AtomicBool,
+}
+
+impl<L: Ledger> Service<L> {
+    pub fn clock<'a, R: time::Clock>(&self, rt: &'a R) -> RunningClock<'a, R> {
+        RunningClock::since(rt, self.start)
+    }
+}
+
+/// A worker's gate. It holds up no request, wakes the session whose request was performed, and sleeps until there may be
+/// something to choose.
+#[derive(Drop)]
+pub struct ServiceGate<'a, L: Ledger, R: Wait + time::Clock> {
+    rt: &'a R,
+    service: &'a Service<L>,
+    // What the bell for work had told just before the latest dispatch.
+    heard: Cell<u64>,
+}
+
+impl<'a, L: Ledger, R: Wait + time::Clock> ServiceGate<'a, L, R> {
+    pub fn new(rt: &'a R, service: &'a Service<L>) -> ServiceGate<'a, L, R> {
+        ServiceGate {
+            rt,
+            service,
+            heard: Cell::new(0),
+        }
+    }
+}
+
+impl<'a, L: Ledger, R: Wait + time::Clock> Clock for ServiceGate<'a, L, R> {
+    fn now(&self) -> Moment {
+        self.heard.set(self.service.bells.work.heard());
+        self.service.clock(self.rt).now()
+    }
+}
+
+impl<'a, L: Ledger, R: Wait + time::Clock> Gate for ServiceGate<'a, L, R> {
+    fn pass(&self, _ticket: &Ticket) {}
+
+    fn done(&self, ticket: &Ticket) {
+        self.service.bells.ring_asker(ticket);
+    }
+
+    fn idle(&self) -> bool {
+        self.service
+            .bells
+            .work
+            .wait(self.rt, self.heard.get(), Duration::from_secs(LONG));
+        true
+    }
+}

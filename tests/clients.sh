@@ -1,0 +1,89 @@
+#!/usr/bin/env bash
+# Real clients against `nbdq serve`, over TCP and over a Unix socket: nbdinfo, nbdcopy, qemu-img, qemu-io, fio.
+#
+#   tests/clients.sh [PROGRAM]      PROGRAM is crates/nbdq/out/nbdq where none is named; `rt run` in crates/nbdq makes it
+#
+# It isn't part of `rt ci`, and installs nothing. On Debian the clients are in libnbd-bin, qemu-utils and fio. It prints a
+# line for each check, and its status is 0 where all are well. All traffic stays on the loopback address and in a new folder.
+set -u
+top=$(cd "$(dirname "$0")/.." && pwd)
+program=${1:-$top/crates/nbdq/out/nbdq}
+for tool in nbdinfo nbdcopy qemu-img qemu-io fio; do
+  command -v "$tool" >/dev/null || { echo "no $tool: apt-get install libnbd-bin qemu-utils fio"; exit 2; }
+done
+[ -x "$program" ] || { echo "no program at $program: (cd $top/crates/nbdq && rt run -- talk < stdin)"; exit 2; }
+
+folder=$(mktemp -d)
+port=${PORT:-$((20000 + RANDOM % 20000))}
+size=33554432
+failed=0
+cat > "$folder/disks.toml" <<TOML
+[[export]]
+name = "disk"
+description = "what clients write"
+size = $size
+[[export]]
+name = "seen"
+size = 1048576
+read_only = true
+TOML
+"$program" serve --tcp "127.0.0.1:$port" --unix "$folder/socket" < "$folder/disks.toml" > "$folder/said" &
+server=$!
+trap 'kill $server 2>/dev/null; rm -rf "$folder"' EXIT
+for _ in $(seq 100); do grep -q ready "$folder/said" && break; sleep 0.1; done
+
+# check NAME COMMAND..: whether a command ends well within two minutes. `not` before it wants it to fail.
+check() {
+  local name=$1 wanted=0 status
+  shift
+  if [ "$1" = not ]; then
+    wanted=1
+    shift
+  fi
+  timeout 120 "$@" > "$folder/out" 2>&1
+  status=$?
+  [ $status = 0 ] || [ $status = 124 ] || status=1
+  if [ $status = $wanted ]; then
+    echo "ok      $name"
+  else
+    echo "FAILED  $name"
+    sed 's/^/        /' "$folder/out" | tail -5 | cut -c1-200
+    failed=$((failed + 1))
+  fi
+}
+
+nbdinfo --version
+qemu-img --version | head -1
+fio --version
+head -c "$size" /dev/urandom > "$folder/sent"
+for base in "nbd://127.0.0.1:$port" "nbd+unix://"; do
+  case $base in
+    nbd://*) kind=tcp; uri() { echo "nbd://127.0.0.1:$port/$1"; } ;;
+    *) kind=unix; uri() { echo "nbd+unix:///$1?socket=$folder/socket"; } ;;
+  esac
+  check "$kind nbdinfo" nbdinfo "$(uri disk)"
+  check "$kind nbdinfo of a list" nbdinfo --list "$(uri "")"
+  check "$kind an unknown export is refused" not nbdinfo "$(uri other)"
+  for connections in 1 4; do
+    check "$kind nbdcopy to the disk, $connections connections" nbdcopy --connections=$connections "$folder/sent" "$(uri disk)"
+    check "$kind nbdcopy from the disk, $connections connections" nbdcopy --connections=$connections "$(uri disk)" "$folder/got"
+    check "$kind the bytes are the same" cmp "$folder/sent" "$folder/got"
+  done
+  check "$kind qemu-img convert" qemu-img convert -n -f raw -O raw "$folder/sent" "$(uri disk)"
+  check "$kind qemu-img compare" qemu-img compare -f raw -F raw "$folder/sent" "$(uri disk)"
+  check "$kind qemu-io patterns" qemu-io -f raw \
+    -c "write -P 0xaa 0 64k" -c "read -P 0xaa 0 64k" -c "write -z 4k 8k" -c "read -P 0 4k 8k" \
+    -c "discard 32k 16k" -c "read -P 0 32k 16k" -c "write -f -P 0x55 1000 100" -c "read -P 0x55 1000 100" -c flush "$(uri disk)"
+  check "$kind a write to a disk that is read-only is refused" not qemu-io -f raw -c "write 0 512" "$(uri seen)"
+  check "$kind fio verify, 4 KiB at depth 16" fio --name=verify --ioengine=nbd "--uri=$(uri disk)" --rw=randrw --verify=crc32c \
+    --bs=4k --size=32m --io_size=32m --iodepth=16 --output-format=terse
+  check "$kind fio verify, 4 jobs, 128 KiB at depth 8" fio --name=verify --ioengine=nbd "--uri=$(uri disk)" --rw=randwrite \
+    --verify=crc32c --bs=128k --size=8m --offset_increment=8m --numjobs=4 --iodepth=8 --output-format=terse
+  check "$kind a client that is killed costs nobody anything" bash -c "timeout -s KILL 1 fio --name=cut --thread --ioengine=nbd '--uri=$(uri disk)' --rw=randread --bs=128k --size=32m --iodepth=32 --time_based --runtime=30 >/dev/null 2>&1; nbdinfo '$(uri disk)'"
+done
+before=$(awk '{print $14 + $15}' "/proc/$server/stat")
+sleep 2
+after=$(awk '{print $14 + $15}' "/proc/$server/stat")
+check "an idle server uses no processor time ($((after - before)) ticks in 2 s)" test "$before" = "$after"
+echo "$failed failed"
+[ "$failed" = 0 ]
