@@ -12,7 +12,7 @@ some_there n m none t is = (grind (arith, nat_tests), grind (arith, nat_tests))
 pub returns-clause-ready : goal.returns-clause-ready
 returns-clause-ready g c =
     some_there (length c.as_slice.result.now) c.args.self.now.ready c.is_empty.result c.is_empty.ensures
-        (ap (λ (l : List RequestMessage). length l) c.as_slice.ensures.value ∙ ap (λ (r : Reading). r.ready) c.self.view_is)
+    (ap (λ (l : List RequestMessage). length l) c.as_slice.ensures.value ∙ ap (λ (r : Reading). r.ready) c.self.view_is)
 
 pub returns-clause-first : goal.returns-clause-first
 returns-clause-first g c = λ t.
