@@ -7,3 +7,4 @@ pub mod Served
 pub mod Counted
 pub mod Way
 pub mod Run
+pub mod NextDue

@@ -1,4 +1,6 @@
 //! The server.
+mod due;
+
 ghost use Rattle.std.specs.Prelude.{◌≡◌, ◌↔◌, ◌+◌, ◌≤◌, ◌<◌, ◌^◌, not, filter, map, length, find, is_some, slice_set, IfOk, IfErr, IfSome, IfNone, OnSome};
 ghost use Rattle.eligibility.specs.Choice.{IsActive, IsSlotInRange};
 ghost use Rattle.nbd_base.specs.Words.{change_at};

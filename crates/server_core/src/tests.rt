@@ -14,6 +14,8 @@ use std::alloc::Global;
 use std::test::Fail;
 use tag_clock::{Moment, Phase};
 
+mod due;
+
 type Tried<E> = Server<Paged<Global>, E>;
 
 /// What a script shows; its exports, each by its reservation, limit, weight, depth and window; how many requests may be in
