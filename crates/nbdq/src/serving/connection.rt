@@ -28,9 +28,6 @@ const SHORT: u32 = 16_384;
 /// request that was so long in service that who asked for it was forgotten.
 const PATIENCE: u64 = 1;
 
-/// How many seconds a writer sleeps whose session has none.
-const LONG: u64 = 3_600;
-
 /// A session, and what its two threads share.
 #[derive(Drop)]
 struct Line<'a> {
@@ -68,6 +65,15 @@ impl<'a> Line<'a> {
     fn note_taken(&self) {
         self.taken.fetch_add(1, Ordering::SeqCst);
         self.room.ring();
+    }
+
+    /// How long the writer sleeps without a ring: without end where nothing is under way.
+    fn patience(&self) -> Option<Duration> {
+        if self.under_way() == 0 {
+            None
+        } else {
+            Some(Duration::from_secs(PATIENCE))
+        }
     }
 
     /// How many requests were handed in whose replies weren't taken.
@@ -157,12 +163,7 @@ fn write_replies<L: Ledger, R: Wait>(rt: &R, service: &Service<L>, line: &Line<'
             if !write_ready(rt, service, line, &mut pass) {
                 break;
             }
-            let patience = if line.under_way() == 0 {
-                LONG
-            } else {
-                PATIENCE
-            };
-            line.replies.wait(rt, heard, Duration::from_secs(patience));
+            line.replies.wait(rt, heard, line.patience());
         }
         service.passes.give_back(rt, pass);
     }
@@ -243,7 +244,7 @@ fn is_handed_in<L: Ledger, R: Wait + time::Clock>(
             Turn::Going => return true,
             Turn::Held(request) => {
                 line.replies.ring();
-                line.room.wait(rt, heard, Duration::from_secs(PATIENCE));
+                line.room.wait(rt, heard, Some(Duration::from_secs(PATIENCE)));
                 heard = line.room.heard();
                 turn = offer(rt, &service.shared, pass, line.session, request, &clock);
             }
