@@ -6,3 +6,4 @@ pub mod Numbers
 pub mod Output
 pub mod Replayed
 pub mod Told
+pub mod Waiting

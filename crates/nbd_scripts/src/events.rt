@@ -1,4 +1,4 @@
-//! The body of a script of `replay`: an event of the server a line.
+//! The body of a script of `replay`: an event of the server a line, or a question for its tags.
 
 ghost use Rattle.std.specs.Prelude.{◌≡◌, true, false, [], ◌∷◌, IfOk, IfErr};
 ghost use Rattle.std.specs.Option.{ok_or, option_copied};
@@ -11,6 +11,8 @@ use crate::fault::LineFault;
 use crate::head::Body;
 use crate::lines::{fields_of, first_line};
 use crate::numbers::{half_word, moment, number, word};
+use crate::replay_line::ReplayLine;
+use crate::verbs::{Verb, verb_of};
 use bytes::Bytes;
 use hex::FromHexError;
 use nbd_wire::protocol::WRITE;
@@ -20,33 +22,33 @@ use std::alloc::Allocator;
 
 /// What reading the body of a script gives.
 pub enum Lines<A: Allocator> {
-    /// The events of the lines, in order.
-    Read(Vec<Event<A>, A>),
+    /// What the lines ask for, in order.
+    Read(Vec<ReplayLine<A>, A>),
     /// The first refused line, counted from 1 at the script's first.
     Refused(usize, LineFault),
 }
 
 /// Reads all lines of a body.
 pub fn read_lines<A: Allocator + Copy>(alloc: A, body: Body<'_>) -> Lines<A> {
-    let mut events = Vec::new(alloc);
+    let mut lines = Vec::new(alloc);
     let mut rest = body.text;
     let mut count = body.above;
     while !rest.is_empty() {
         let (line, after) = first_line(rest);
         rest = after;
         count = count.saturating_add(1);
-        if let Err(fault) = take_line(alloc, line, &mut events) {
+        if let Err(fault) = take_line(alloc, line, &mut lines) {
             return Lines::Refused(count, fault);
         }
     }
-    Lines::Read(events)
+    Lines::Read(lines)
 }
 
 /// Takes one line. One without fields, or that begins with `#`, is passed over.
 fn take_line<A: Allocator + Copy>(
     alloc: A,
     line: &[u8],
-    events: &mut Vec<Event<A>, A>,
+    lines: &mut Vec<ReplayLine<A>, A>,
 ) -> Result<(), LineFault> {
     if line.first() == Some(&b'#') {
         return Ok(());
@@ -55,44 +57,66 @@ fn take_line<A: Allocator + Copy>(
     match fields.as_slice() {
         [] => Ok(()),
         [name, numbers @ ..] => {
-            events.push(event_of(alloc, name, numbers)?)?;
+            let Some(verb) = verb_of(name) else {
+                return Err(LineFault::Form);
+            };
+            lines.push(asked_by(alloc, verb, numbers)?)?;
             Ok(())
         }
     }
 }
 
-/// The event of this name, with these numbers.
+/// What a line of this verb asks for, with these fields behind it.
+fn asked_by<A: Allocator + Copy>(
+    alloc: A,
+    verb: Verb,
+    fields: &[&[u8]],
+) -> Result<ReplayLine<A>, LineFault> {
+    if verb == Verb::Tags {
+        let export = export_in(fields)?;
+        return Ok(ReplayLine::Tags(export));
+    }
+    let event = event_of(alloc, verb, fields)?;
+    Ok(ReplayLine::Event(event))
+}
+
+/// The event of this verb, with these numbers.
 fn event_of<A: Allocator + Copy>(
     alloc: A,
-    name: &[u8],
+    verb: Verb,
     fields: &[&[u8]],
 ) -> Result<Event<A>, LineFault> {
-    match name {
-        b"attach" => Ok(Event::Attach {
-            export: word(only(fields)?)?,
+    match verb {
+        Verb::Attach => Ok(Event::Attach {
+            export: export_in(fields)?,
         }),
-        b"dispatch" => Ok(Event::Dispatch {
+        Verb::Arrive => arrival(alloc, fields),
+        Verb::Dispatch => Ok(Event::Dispatch {
             moment: moment(only(fields)?)?,
         }),
-        b"perform" => {
+        Verb::Perform => {
             let (export, number) = pair(fields)?;
             Ok(Event::Perform { export, number })
         }
-        b"take" => {
+        Verb::Take => {
             let (export, session) = pair(fields)?;
             Ok(Event::Take { export, session })
         }
-        b"leave" => {
+        Verb::Leave => {
             let (export, session) = pair(fields)?;
             Ok(Event::Leave { export, session })
         }
-        b"gone" => {
+        Verb::Gone => {
             let (export, session) = pair(fields)?;
             Ok(Event::Gone { export, session })
         }
-        b"arrive" => arrival(alloc, fields),
-        _ => Err(LineFault::Form),
+        Verb::Tags => Err(LineFault::Form),
     }
+}
+
+/// The export that the one field names.
+fn export_in(fields: &[&[u8]]) -> Result<u32, LineFault> {
+    word(only(fields)?)
 }
 
 /// The one field that there is.
