@@ -155,14 +155,19 @@ fn hold<L: Ledger + Send + Sync, R: Wait + Threads + Sync + time::Clock>(
     });
 }
 
-/// Writes replies until the session is over, and ends the connection.
-fn write_replies<L: Ledger, R: Wait>(rt: &R, service: &Service<L>, line: &Line<'_>) {
+/// Writes replies until the session is over, and ends the connection. In between it serves what waits, so that a long reply
+/// is written by who has just made it.
+fn write_replies<L: Ledger, R: Wait + time::Clock>(rt: &R, service: &Service<L>, line: &Line<'_>) {
     if let Some(mut pass) = service.passes.borrow(rt) {
         for _ in rt.forever() {
             let heard = line.replies.heard();
             if !write_ready(rt, service, line, &mut pass) {
                 break;
             }
+            if has_served(rt, service, line, &mut pass) {
+                continue;
+            }
+            leave_to_workers(rt, service);
             line.replies.wait(rt, heard, line.patience());
         }
         service.passes.give_back(rt, pass);
@@ -200,7 +205,8 @@ fn write_ready<L: Ledger, R: Wait>(
     unreachable!()
 }
 
-/// Reads requests until there are no more, and serves what may be served in between.
+/// Reads requests until there are no more. After one whose reply is short it serves one that waits, and leaves what else waits
+/// to the workers; one whose reply is long it leaves to the writer.
 fn read_requests<L: Ledger, R: Wait + time::Clock>(
     rt: &R,
     service: &Service<L>,
@@ -216,13 +222,14 @@ fn read_requests<L: Ledger, R: Wait + time::Clock>(
         if !is_handed_in(rt, service, line, pass, turn, heard) {
             break;
         }
-        let is_short = note_arrival(service, line, pass.last());
-        serve_one(rt, service, line, pass);
-        // While more requests are there, short replies go out together.
-        if frames.is_ready() && is_short {
+        if !note_arrival(service, line, pass.last()) {
+            line.replies.ring();
             continue;
         }
-        if !(is_short && write_own(rt, service, line, pass)) {
+        has_served(rt, service, line, pass);
+        leave_to_workers(rt, service);
+        // While more requests are there, short replies go out together.
+        if !frames.is_ready() && !write_own(rt, service, line, pass) {
             line.replies.ring();
         }
     }
@@ -269,21 +276,27 @@ fn note_arrival<L: Ledger>(service: &Service<L>, line: &Line<'_>, last: Option<T
     }
 }
 
-/// Chooses a request and performs it, whoever asked for it, and leaves what else waits to the workers.
-fn serve_one<L: Ledger, R: Wait + time::Clock>(
+/// Chooses a request and performs it, whoever asked for it. False where there is none to choose.
+fn has_served<L: Ledger, R: Wait + time::Clock>(
     rt: &R,
     service: &Service<L>,
     line: &Line<'_>,
     pass: &mut Pass<L>,
-) {
+) -> bool {
     let now = service.clock(rt).now();
-    if let Some(chosen) = service.shared.turn_dispatch(rt, pass, now) {
-        service.shared.turn_perform(rt, pass, chosen.ticket);
-        match service.bells.asker(&chosen.ticket) {
-            Some(session) if session == line.session => {}
-            _ => service.bells.ring_asker(&chosen.ticket),
-        }
+    let Some(chosen) = service.shared.turn_dispatch(rt, pass, now) else {
+        return false;
+    };
+    service.shared.turn_perform(rt, pass, chosen.ticket);
+    match service.bells.asker(&chosen.ticket) {
+        Some(session) if session == line.session => {}
+        _ => service.bells.ring_asker(&chosen.ticket),
     }
+    true
+}
+
+/// Wakes a worker where something waits.
+fn leave_to_workers<L: Ledger, R: Wait>(rt: &R, service: &Service<L>) {
     if service.shared.waiting(rt) > 0 {
         service.bells.work.ring_one();
     }
