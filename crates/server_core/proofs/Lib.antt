@@ -19,3 +19,4 @@ pub mod Goings
 pub mod Counting
 pub mod Counted
 pub mod Tagged
+pub mod Journals
