@@ -20,7 +20,7 @@ pub loop-event-preserved : goal.loop-event-preserved
 loop-event-preserved g c =
     let line : Appends (g.W.Write.contents c.loop-event.output) (g.W.Write.contents c.write_answer.new.output) (line_of {A = g.row.A.Denot} c.event.result) = search rules in
     written_more g.row.A.Denot (setup_for c.args.config.now) c.loop-event.yielded c.in-Some.event c.event.result c.loop-event.server c.event.new.self (g.W.Write.contents c.args.output.now) (g.W.Write.contents c.loop-event.output) (g.W.Write.contents c.write_answer.new.output)
-    c.loop-event.invariant c.event.ensures line
+    c.loop-event.invariant c.event.ensures.step line
 
 pub returns-clause-done : goal.returns-clause-done
 returns-clause-done g c =
