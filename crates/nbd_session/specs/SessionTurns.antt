@@ -86,10 +86,11 @@ WriteEnds p s old new before now q = (Turns p (IsTake s) IsRefused 0 q × Writes
 
 -- ---- a request is offered
 
--- it was refused since its session isn't open; or its export is worn, and the session left
+-- it was refused since its session isn't open; or its export is worn, or no memory was there for it, and the session left
 abbrev pub OfferEnds : Score → SessionId → RequestHead → Score → Type 0
 OfferEnds p s h q = Turns p (IsArrival s h) IsRefused 0 q
     ⊎ ((r : Score) × Turns p (IsArrival s h) (λ a. a ≡ answer.Worn) 0 r × Leaves r s q)
+    ⊎ ((r : Score) × Turns p (IsArrival s h) (λ a. a ≡ answer.NoMemory) 0 r × Leaves r s q)
 
 module _ {A : Type 0} where
   abbrev pub IsOffered : Score → SessionId → RequestMessage → Turn A → Score → Type 0

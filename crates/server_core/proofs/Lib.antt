@@ -20,3 +20,4 @@ pub mod Counting
 pub mod Counted
 pub mod Tagged
 pub mod NextDue
+pub mod Journals
