@@ -21,30 +21,37 @@ fn sent<E: Eligibility<Alloc = Global>>(
     Some(())
 }
 
+fn due_of<E: Eligibility<Alloc = Global>>(server: &Tried<E>) -> Option<u64> {
+    match server.next_due() {
+        Some(due) => Some(due.nanoseconds()),
+        None => None,
+    }
+}
+
 /// What is due next: before anything waits, once two wait, once the first is in service, once there is no room for the
 /// second, once there is again, and once it was chosen.
 fn dues<E: Eligibility<Alloc = Global>>(
     alloc: Global,
     rates: [u64; 5],
     inflight: u64,
-) -> Option<[Option<Moment>; 6]> {
+) -> Option<[Option<u64>; 6]> {
     let config = config_of(alloc, &[rates], inflight)?;
     let mut server: Tried<E> = Server::new(alloc, &config).ok()?;
     server.attach(0).ok()?;
-    let idle = server.next_due();
+    let idle = due_of(&server);
     sent(alloc, &mut server, &[0, 0])?;
-    let first = server.next_due();
+    let first = due_of(&server);
     let ticket = server.dispatch(at(7))?.ticket;
-    let in_service = server.next_due();
+    let in_service = due_of(&server);
     server.perform(ticket)?;
-    let done = server.next_due();
-    server.dispatch(done?)?;
-    let last = server.next_due();
+    let done = due_of(&server);
+    server.dispatch(at(done?))?;
+    let last = due_of(&server);
     sent(alloc, &mut server, &[0])?;
-    Some([idle, first, in_service, done, last, server.next_due()])
+    Some([idle, first, in_service, done, last, due_of(&server)])
 }
 
-fn both_tell(alloc: Global, rates: [u64; 5], inflight: u64, told: [Option<Moment>; 6]) -> bool {
+fn both_tell(alloc: Global, rates: [u64; 5], inflight: u64, told: [Option<u64>; 6]) -> bool {
     dues::<Listed<Global>>(alloc, rates, inflight) == Some(told)
         && dues::<Heaped<Global>>(alloc, rates, inflight) == Some(told)
 }
@@ -52,7 +59,7 @@ fn both_tell(alloc: Global, rates: [u64; 5], inflight: u64, told: [Option<Moment
 #[test]
 fn what_is_due_next(rt: HostRuntime) {
     let alloc = rt.alloc();
-    let (now, second, third) = (Some(at(0)), Some(at(100_000_000)), Some(at(200_000_000)));
+    let (now, second, third) = (Some(0), Some(100_000_000), Some(200_000_000));
     let limited = [0, 10, 1, 8, 8];
     assert!(rt; both_tell(alloc, limited, 32, [None, now, second, second, None, third]));
     assert!(rt; both_tell(alloc, limited, 1, [None, now, None, second, None, None]));
