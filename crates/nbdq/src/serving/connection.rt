@@ -251,7 +251,8 @@ fn is_handed_in<L: Ledger, R: Wait + time::Clock>(
             Turn::Going => return true,
             Turn::Held(request) => {
                 line.replies.ring();
-                line.room.wait(rt, heard, Some(Duration::from_secs(PATIENCE)));
+                line.room
+                    .wait(rt, heard, Some(Duration::from_secs(PATIENCE)));
                 heard = line.room.heard();
                 turn = offer(rt, &service.shared, pass, line.session, request, &clock);
             }
@@ -288,6 +289,7 @@ fn has_served<L: Ledger, R: Wait + time::Clock>(
         return false;
     };
     service.shared.turn_perform(rt, pass, chosen.ticket);
+    service.bells.make_way();
     match service.bells.asker(&chosen.ticket) {
         Some(session) if session == line.session => {}
         _ => service.bells.ring_asker(&chosen.ticket),

@@ -59,6 +59,17 @@ impl<'a, L: Ledger, R: Wait + time::Clock> ServiceGate<'a, L, R> {
     }
 }
 
+impl<'a, L: Ledger, R: Wait + time::Clock> ServiceGate<'a, L, R> {
+    /// Looks once more where something waits and nothing is due: from here on who performs a request rings.
+    fn due_after_all(&self) -> Option<Moment> {
+        if self.service.shared.waiting(self.rt) == 0 {
+            return None;
+        }
+        self.service.bells.note_crowd();
+        self.service.shared.next_due(self.rt)
+    }
+}
+
 impl<'a, L: Ledger, R: Wait + time::Clock> Clock for ServiceGate<'a, L, R> {
     fn now(&self) -> Moment {
         self.heard.set(self.service.bells.work.heard());
@@ -74,6 +85,10 @@ impl<'a, L: Ledger, R: Wait + time::Clock> Gate for ServiceGate<'a, L, R> {
     }
 
     fn idle(&self, due: Option<Moment>) -> bool {
+        let due = match due {
+            Some(due) => Some(due),
+            None => self.due_after_all(),
+        };
         let now = self.service.clock(self.rt).now();
         let at_most = due.map(|due| until(now, due));
         self.service
