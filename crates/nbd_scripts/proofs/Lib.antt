@@ -1,3 +1,6 @@
+pub mod BodyLemmas
+pub mod HeadLemmas
+pub mod LineLemmas
 pub mod NumberLemmas
 pub mod OutputLemmas
 pub mod ReplayLemmas

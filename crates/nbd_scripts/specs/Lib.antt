@@ -1,9 +1,15 @@
 pub mod Answers
+pub mod Bodies
+pub mod Drafts
 pub mod Events
 pub mod Faults
+pub mod Head
 pub mod Lines
 pub mod Numbers
 pub mod Output
 pub mod Replayed
+pub mod Scripts
+pub mod Steps
 pub mod Told
+pub mod Verbs
 pub mod Waiting

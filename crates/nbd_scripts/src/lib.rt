@@ -2,6 +2,7 @@
 #![tactic(auto)]
 
 mod answers;
+mod body;
 mod conversation;
 mod events;
 mod fault;

@@ -1,5 +1,8 @@
 //! The verbs of a replay: what the first field of a line asks for.
 
+ghost use Rattle.std.specs.Prelude.{◌≡◌};
+ghost use Rattle.nbd_scripts.specs.Verbs.{verb_of};
+
 /// What the first field of a line asks for.
 #[derive(Clone, Copy, Debug, PartialEq, Eq)]
 pub enum Verb {
@@ -14,7 +17,9 @@ pub enum Verb {
 }
 
 /// The verb of this name.
-pub fn verb_of(name: &[u8]) -> Option<Verb> {
+pub fn verb_of(name: &[u8]) -> Option<Verb>
+    ensures { result ≡ verb_of name.now }
+{
     if name == b"attach".as_slice() {
         return Some(Verb::Attach);
     }
