@@ -18,21 +18,21 @@ pub record Reads (script : List ℕ) (plan : Plan) (above : ℕ) (rest : List �
 -- the next line, and what stands behind it
 pub record Cuts (rest line after : List ℕ) : Type 0 where
   pub some : 0 < length rest
-  pub line : line ≡ before_first is_feed rest
-  pub after : after ≡ after_first is_feed rest
+  pub is_line : line ≡ before_first is_feed rest
+  pub is_after : after ≡ after_first is_feed rest
 
 pub reads_first : (script : List ℕ) (plan : Plan) → plan ≡ no_plan → Reads script plan 0 script
 reads_first script plan is = record { goes_on = ap (λ (p : Plan). head_behind p 0 (lines_in script)) is; is_rest = refl }
 
 pub lines_are : (rest line after : List ℕ) → Cuts rest line after → lines_in rest ≡ line ∷ lines_in after
-lines_are rest line after cuts = lines_cut rest cuts.some ∙ ap (λ (l : List ℕ). l ∷ lines_in (after_first is_feed rest)) (sym cuts.line) ∙ ap (λ (l : List ℕ). line ∷ lines_in l) (sym cuts.after)
+lines_are rest line after cuts = lines_cut rest cuts.some ∙ ap (λ (l : List ℕ). l ∷ lines_in (after_first is_feed rest)) (sym cuts.is_line) ∙ ap (λ (l : List ℕ). line ∷ lines_in l) (sym cuts.is_after)
 
 next : (script : List ℕ) (plan : Plan) (above : ℕ) (rest line after : List ℕ) → Reads script plan above rest → Cuts rest line after
     → head_of (lines_in script) ≡ head_behind plan above (line ∷ lines_in after)
 next script plan above rest line after so cuts = sym so.goes_on ∙ ap (head_behind plan above) (lines_are rest line after cuts)
 
 pub rest_behind : (script : List ℕ) (plan : Plan) (above : ℕ) (rest line after : List ℕ) → Reads script plan above rest → Cuts rest line after → after ≡ behind (above + 1) script
-rest_behind script plan above rest line after so cuts = cuts.after ∙ ap (after_first is_feed) so.is_rest ∙ sym (behind_more above script)
+rest_behind script plan above rest line after so cuts = cuts.is_after ∙ ap (after_first is_feed) so.is_rest ∙ sym (behind_more above script)
 
 pub reads_more : (script : List ℕ) (plan after_plan : Plan) (above : ℕ) (rest line after : List ℕ) → Reads script plan above rest → Cuts rest line after
     → bytes_eq line (codes "---") ≡ false → plan_after plan line ≡ Ok after_plan → Reads script after_plan (above + 1) after

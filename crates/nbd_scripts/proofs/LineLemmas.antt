@@ -34,11 +34,12 @@ lines_cut (byte ∷ []) some = chosen (is_feed byte) refl
     chosen : (is : Bool) → is_feed byte ≡ is → lines_in (byte ∷ []) ≡ before_first is_feed (byte ∷ []) ∷ lines_in (after_first is_feed (byte ∷ []))
     chosen true is = feed_in_front byte [] is
     chosen false is = last_in_front byte is
-lines_cut (byte ∷ next ∷ more) some = chosen (is_feed byte) refl
+lines_cut (byte ∷ next ∷ more) some = chosen (is_feed byte) refl (lines_cut (next ∷ more) (omega arith))
   where
-    chosen : (is : Bool) → is_feed byte ≡ is → lines_in (byte ∷ next ∷ more) ≡ before_first is_feed (byte ∷ next ∷ more) ∷ lines_in (after_first is_feed (byte ∷ next ∷ more))
-    chosen true is = feed_in_front byte (next ∷ more) is
-    chosen false is = other_in_front byte (next ∷ more) is (lines_cut (next ∷ more) (omega arith))
+    chosen : (is : Bool) → is_feed byte ≡ is → lines_in (next ∷ more) ≡ before_first is_feed (next ∷ more) ∷ lines_in (after_first is_feed (next ∷ more))
+        → lines_in (byte ∷ next ∷ more) ≡ before_first is_feed (byte ∷ next ∷ more) ∷ lines_in (after_first is_feed (byte ∷ next ∷ more))
+    chosen true is rest = feed_in_front byte (next ∷ more) is
+    chosen false is rest = other_in_front byte (next ∷ more) is rest
 
 pub lines_none : (text : List ℕ) → length text ≡ 0 → lines_in text ≡ []
 unfolding lines_in
@@ -48,4 +49,6 @@ lines_none (byte ∷ more) none = absurd (omega arith)
 -- one line more
 pub behind_more : (count : ℕ) (text : List ℕ) → behind (count + 1) text ≡ after_first is_feed (behind count text)
 behind_more zero text = refl
-behind_more (suc count) text = rw add-one (behind_more count (after_first is_feed text))
+behind_more (suc count) text =
+    let same : suc count + 1 ≡ suc (count + 1) = omega arith in
+    ap (λ (n : ℕ). behind n text) same ∙ behind_more count (after_first is_feed text)
