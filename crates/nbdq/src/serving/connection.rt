@@ -2,7 +2,7 @@
 
 use super::service::Service;
 use nbd_session::{Counted, Door, Entry, FrameReader, Turn, haggle, offer, read_turn, write_turn};
-use nbd_wire::protocol::READ;
+use nbd_wire::protocol::{READ, WRITE};
 use nbd_workers::Bell;
 use server_core::SessionId;
 use server_lock::{AnswerTrace, EventTrace, Pass, Trace};
@@ -20,8 +20,8 @@ use tag_clock::Clock;
 /// How many bytes of replies are kept before they are sent.
 const OUTLET: usize = 65_536;
 
-/// The longest data, in bytes, of a reply that a reader writes itself. It fits into what a socket holds, so a client that
-/// doesn't read yet is still read.
+/// The longest data, in bytes, of a READ or WRITE that a reader performs itself. The reply fits into what a socket holds, so a
+/// client that doesn't read yet is still read; a longer WRITE is performed while the next is read.
 const SHORT: u32 = 16_384;
 
 /// How many seconds a writer sleeps whose session has requests under way. Each reply rings its bell, so this is for a
@@ -205,8 +205,8 @@ fn write_ready<L: Ledger, R: Wait>(
     unreachable!()
 }
 
-/// Reads requests until there are no more. After one whose reply is short it serves one that waits, and leaves what else waits
-/// to the workers; one whose reply is long it leaves to the writer.
+/// Reads requests until there are no more. After one whose data is short it serves one that waits, and leaves what else waits to
+/// the workers; one whose data is long it leaves to the writer.
 fn read_requests<L: Ledger, R: Wait + time::Clock>(
     rt: &R,
     service: &Service<L>,
@@ -262,7 +262,7 @@ fn is_handed_in<L: Ledger, R: Wait + time::Clock>(
     unreachable!()
 }
 
-/// Notes a request that was handed in, and tells whether its reply is short.
+/// Notes a request that was handed in, and tells whether its data is short.
 fn note_arrival<L: Ledger>(service: &Service<L>, line: &Line<'_>, last: Option<Trace>) -> bool {
     line.arrived.fetch_add(1, Ordering::SeqCst);
     let Some(Trace { event, answer }) = last else {
@@ -272,7 +272,10 @@ fn note_arrival<L: Ledger>(service: &Service<L>, line: &Line<'_>, last: Option<T
         service.bells.note_asker(line.session, number);
     }
     match event {
-        EventTrace::Arrive { head, .. } => head.kind != READ || head.length <= SHORT,
+        EventTrace::Arrive { head, .. } => match head.kind {
+            READ | WRITE => head.length <= SHORT,
+            _ => true,
+        },
         _ => false,
     }
 }
