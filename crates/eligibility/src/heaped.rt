@@ -6,10 +6,12 @@ ghost use Rattle.tag_clock.specs.Tags.{AreInRange};
 ghost use Rattle.nbd_base.specs.Least.{least};
 ghost use Rattle.index_heap.specs.Keys.{keys_less, least_key};
 ghost use Rattle.eligibility.specs.Choice.{choice, all_shifted, AllInRange, IsSlotInRange};
-ghost use Rattle.eligibility.specs.Indexed.{slot_r, slot_l, slot_p, IsHeld, IsSplit, AllLate, IsIndexed, chosen_of};
+ghost use Rattle.eligibility.specs.Indexed.{slot_p, IsHeld, IsSplit, AllLate, IsIndexed, chosen_of};
+ghost use Rattle.eligibility.specs.NextDue.{IsNextDue, IsNeverDue, key_alone};
 
 use crate::Eligibility;
 use crate::slots::{idle_slots, shift_all};
+use crate::soonest::{l_of, lesser_of, not_before, r_of};
 use index_heap::IndexHeap;
 use nbd_base::NoMemory;
 use std::alloc::Allocator;
@@ -18,8 +20,8 @@ use tag_clock::{Moment, Phase, Tags};
 
 /// The tags by export, and three heaps over them.
 ///
-/// A choice takes O(log n) for each export whose L tag has become due since the last choice, and else O(1); a shift takes
-/// O(n), n the number of exports.
+/// A choice takes O(log n) for each export whose L tag has become due since the last choice, and else O(1), as what is due
+/// next does; a shift takes O(n), n the number of exports.
 #[derive(Drop)]
 pub struct Heaped<A: Allocator + Copy> {
     slots: Vec<Option<Tags>, A>,
@@ -45,32 +47,22 @@ impl<A: Allocator + Copy> Model for Heaped<A> {
     ghost invariant = { λ h. IsIndexed h.asked h.slots.items h.reserved h.throttled h.ready };
 }
 
-/// The R tag, where there is one.
-fn r_of(slot: Option<Tags>) -> Option<i128>
-    ensures { result ≡ slot_r slot }
-{
-    match slot {
-        Some(tags) => tags.r,
-        None => None,
-    }
-}
-
-/// The L tag, where the export is active.
-fn l_of(slot: Option<Tags>) -> Option<i128>
-    ensures { result ≡ slot_l slot }
-{
-    match slot {
-        Some(tags) => Some(tags.l),
-        None => None,
-    }
-}
-
 /// The P tag, where the export is active.
 fn p_of(slot: Option<Tags>) -> Option<i128>
     ensures { result ≡ slot_p slot }
 {
     match slot {
         Some(tags) => Some(tags.p),
+        None => None,
+    }
+}
+
+/// The least key of a heap.
+fn key_of(least: Option<(u32, i128)>) -> Option<i128>
+    ensures { result ≡ key_alone least }
+{
+    match least {
+        Some((_, key)) => Some(key),
         None => None,
     }
 }
@@ -172,5 +164,14 @@ impl<A: Allocator + Copy> Eligibility for Heaped<A> {
             now.tag(),
         );
         chosen(self.reserved.least(), self.ready.least(), now.tag())
+    }
+
+    fn next_due(&self, now: Moment) -> Option<i128> {
+        if self.ready.least().is_some() {
+            return Some(now.tag());
+        }
+        let reservation = key_of(self.reserved.least());
+        let limit = key_of(self.throttled.least());
+        not_before(now.tag(), lesser_of(reservation, limit))
     }
 }

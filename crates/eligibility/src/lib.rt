@@ -6,13 +6,15 @@
 mod heaped;
 mod listed;
 mod slots;
+mod soonest;
 mod walks;
 
-ghost use Rattle.std.specs.Prelude.{◌≡◌, ℕ, ◌≤◌, List, Option, Some, None, slice_set, replicate, IfOk, pos};
+ghost use Rattle.std.specs.Prelude.{◌≡◌, ℕ, ◌≤◌, List, Option, Some, None, slice_set, replicate, IfOk, IfSome, IfNone, pos};
 ghost use Rattle.nbd_base.specs.Range.{InRange};
 ghost use Rattle.tag_clock.specs.Tags.{AreInRange};
 ghost use Rattle.tag_clock.specs.declared.Tags.{Tags};
 ghost use Rattle.eligibility.specs.Choice.{choice, all_shifted, AllInRange, IsIdle, IsActive};
+ghost use Rattle.eligibility.specs.NextDue.{IsNextDue, IsNeverDue};
 
 pub use heaped::Heaped;
 pub use listed::Listed;
@@ -71,4 +73,10 @@ pub trait Eligibility: Sized + Drop {
         ensures asked { asked self.new ≤ now }
         ensures chosen { result ≡ choice (pos now) (contents self.old) }
         ensures contents { contents self.new ≡ contents self.old };
+
+    /// The least moment, from `now` on, at which `choose` would choose an export, as a tag; none where it never would.
+    fn next_due(&self, now: Moment) -> Option<i128>
+        requires { asked self.now ≤ now }
+        ensures due { IfSome result (λ due. IsNextDue (pos now) (contents self.now) due) }
+        ensures never { IfNone result (IsNeverDue (pos now) (contents self.now)) };
 }

@@ -4,14 +4,16 @@ ghost use Rattle.nbd_base.specs.Range.{InRange};
 ghost use Rattle.tag_clock.specs.Tags.{AreInRange};
 ghost use Rattle.nbd_base.specs.Least.{least, keyed, the_sooner};
 ghost use Rattle.eligibility.specs.Choice.{choice, all_shifted, AllInRange, candidates, due_r, due_p, slot_key, slot_shifted, IsSlotInRange};
+ghost use Rattle.eligibility.specs.NextDue.{IsNextDue, IsNeverDue};
 
 use crate::Eligibility;
 use crate::slots::{idle_slots, shift_all};
+use crate::soonest::{least_tag, not_before};
 use nbd_base::NoMemory;
 use std::alloc::Allocator;
 use tag_clock::{Moment, Phase, Tags};
 
-/// The tags by export. A choice and a shift look at each export.
+/// The tags by export. A choice, a shift and what is due next look at each export.
 #[derive(Drop)]
 pub struct Listed<A: Allocator + Copy> {
     slots: Vec<Option<Tags>, A>,
@@ -55,6 +57,10 @@ impl<A: Allocator + Copy> Eligibility for Listed<A> {
             Some((_, export)) => Some((export, Phase::Weight)),
             None => None,
         }
+    }
+
+    fn next_due(&self, now: Moment) -> Option<i128> {
+        not_before(now.tag(), least_tag(&self.slots))
     }
 }
 

@@ -1,4 +1,5 @@
 pub mod NumberLemmas
 pub mod OutputLemmas
 pub mod ReplayLemmas
+pub mod TagsLemmas
 pub mod ToldLemmas

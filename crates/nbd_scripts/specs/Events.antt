@@ -1,22 +1,21 @@
 -- The lines of a body of `replay`: what the fields behind an event's name say.
-use Rattle.std.specs.Prelude.{ℕ, ◌^◌, ◌==◌, Bool, ◌&&◌, nat_lt, nat_le, if◌then◌else◌, List, [], ◌∷◌, length, Option, Some, None, option_and_then, Result, Ok, Err}
+use Rattle.std.specs.Prelude.{ℕ, ◌^◌, ◌==◌, Bool, ◌&&◌, nat_lt, nat_le, if◌then◌else◌, List, [], ◌∷◌, length, Option, Some, None, option_map, option_and_then, Result, Ok, Err}
 use Rattle.hex.specs.Hex.{decode_of}
 use Rattle.hex.specs.declared.FromHexError.{FromHexError}
 use Rattle.nbd_wire.specs.Grammar.{RequestMessage}
 use Rattle.nbd_wire.specs.declared.requests.RequestHead.{RequestHead}
 use Rattle.server_table.specs.declared.event.Event.{Event}
 use Rattle.server_table.specs.declared.event.Event.TheVariants as event
+use Rattle.nbd_scripts.specs.declared.replay_line.ReplayLine.{ReplayLine}
+use Rattle.nbd_scripts.specs.declared.replay_line.ReplayLine.TheVariants as asked
+use Rattle.nbd_scripts.specs.declared.verbs.Verb.{Verb}
+use Rattle.nbd_scripts.specs.declared.verbs.Verb.TheVariants as verbs
 use Rattle.nbd_scripts.specs.Numbers.{number_below}
+use Rattle.nbd_scripts.specs.Lines.{only}
 
 infixl 10 ◌>>=◌
 abbrev pub ◌>>=◌ : {A B : Type 0} → Option A → (A → Option B) → Option B
 option >>= next = option_and_then next option
-
--- one field and no more
-abbrev pub only : List (List ℕ) → Option (List ℕ)
-only [] = None
-only (field ∷ []) = Some field
-only (field ∷ next ∷ more) = None
 
 -- an export, and a number of it, and no more
 abbrev pub pair_of : List (List ℕ) → Option (ℕ × ℕ)
@@ -61,6 +60,14 @@ request_of (cookie ∷ kind ∷ flags ∷ offset ∷ count ∷ payload) = do
   Some (record { head = head; payload = bytes })
 request_of fields = None
 
+-- an export alone
+abbrev pub export_of : List (List ℕ) → Option ℕ
+export_of fields = only fields >>= number_below (2 ^ 32)
+
+-- a moment alone
+abbrev pub moment_of : List (List ℕ) → Option ℕ
+moment_of fields = only fields >>= number_below (2 ^ 62)
+
 module _ {A : Type 0} where
   -- `E S T`, and a request
   unfoldable pub arrival_of : List (List ℕ) → Option (Event A)
@@ -71,3 +78,19 @@ module _ {A : Type 0} where
     request ← request_of fields
     Some (event.Arrive e s t request)
   arrival_of fields = None
+
+  -- the event of a verb, with these fields behind it
+  unfoldable pub event_of : Verb → List (List ℕ) → Option (Event A)
+  event_of verbs.Attach fields = option_map event.Attach (export_of fields)
+  event_of verbs.Arrive fields = arrival_of fields
+  event_of verbs.Dispatch fields = option_map event.Dispatch (moment_of fields)
+  event_of verbs.Perform fields = option_map (λ pair. event.Perform pair.0 pair.1) (pair_of fields)
+  event_of verbs.Take fields = option_map (λ pair. event.Take pair.0 pair.1) (pair_of fields)
+  event_of verbs.Leave fields = option_map (λ pair. event.Leave pair.0 pair.1) (pair_of fields)
+  event_of verbs.Gone fields = option_map (λ pair. event.Gone pair.0 pair.1) (pair_of fields)
+  event_of verbs.Tags fields = None
+
+  -- what a line asks for by its verb and the fields behind it
+  abbrev pub asked_by : Verb → List (List ℕ) → Option (ReplayLine A)
+  asked_by verbs.Tags fields = option_map asked.Tags (export_of fields)
+  asked_by verb fields = option_map asked.Event (event_of verb fields)

@@ -6,3 +6,5 @@ pub mod Numbers
 pub mod Output
 pub mod Replayed
 pub mod Told
+pub mod Verbs
+pub mod Waiting

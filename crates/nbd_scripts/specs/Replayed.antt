@@ -1,15 +1,20 @@
--- What `replay` writes of a run of a server: the line of each answer, and how many steps were counted.
+-- What `replay` writes of a run of a server: the line of each answer, what waits where its tags are asked for, and how many
+-- steps were counted.
 use Rattle.std.specs.Prelude.{◌≡◌, ℕ, List, [], ◌∷◌, ◌++◌, codes, Option}
 use Rattle.std.specs.List.{sum_by}
 use Rattle.std.specs.Fmt.{decimal}
 use Rattle.std.specs.Io.KnownBytes.{Appends}
 use Rattle.server_table.specs.declared.event.Event.{Event}
 use Rattle.server_table.specs.declared.event.Answer.{Answer}
-use Rattle.server_table.specs.Table.{Table, Setup}
-use Rattle.server_table.specs.Steps.{last_table}
-use Rattle.server_table.specs.Shares.{marks_of}
+use Rattle.server_table.specs.Table.{Table, Setup, opening_table}
+use Rattle.server_table.specs.Steps.{step, last_table}
+use Rattle.server_table.specs.Shares.{mark_of, marks_of}
 use Rattle.server_core.specs.Run.{IsAnswered}
+use Rattle.server_core.specs.Served.{Served, Stepped}
+use Rattle.nbd_scripts.specs.declared.replay_line.ReplayLine.{ReplayLine}
+use Rattle.nbd_scripts.specs.declared.replay_line.ReplayLine.TheVariants as asked
 use Rattle.nbd_scripts.specs.Answers.{line_of}
+use Rattle.nbd_scripts.specs.Waiting.{tags_text}
 
 -- how many steps changed something, of all exports together
 abbrev pub steps_in : Table → ℕ
@@ -19,12 +24,28 @@ abbrev pub steps_line : ℕ → List ℕ
 steps_line steps = codes "steps " ++ decimal steps ++ codes "\n"
 
 module _ {A : Type 0} where
-  unfoldable pub lines_of : List (Answer A) → List ℕ
-  lines_of [] = []
-  lines_of (answer ∷ answers) = line_of answer ++ lines_of answers
+  -- the events among the lines
+  unfoldable pub events_of : List (ReplayLine A) → List (Event A)
+  events_of [] = []
+  events_of (asked.Event event ∷ lines) = event ∷ events_of lines
+  events_of (asked.Tags export ∷ lines) = events_of lines
 
-  -- the answers that the definition of a server gives to these events are written, and the steps that it counts
-  pub record Replays (setup : Setup) (events : List (Event A)) (old new : Option (List ℕ)) : Type 0 where
+  -- what is written of the lines from a table on, where these are the answers to the events among them: the line of each
+  -- answer, and the tags of what waits at that point
+  unfoldable pub text_of : Setup → Table → List (ReplayLine A) → List (Answer A) → List ℕ
+  text_of setup table [] answers = []
+  text_of setup table (asked.Event event ∷ lines) [] = []
+  text_of setup table (asked.Event event ∷ lines) (answer ∷ answers) = line_of answer ++ text_of setup (step setup table event (mark_of answer)).table lines answers
+  text_of setup table (asked.Tags export ∷ lines) answers = tags_text setup table export ++ text_of setup table lines answers
+
+  -- the answers that the definition of a server gives to the events are written, with the tags that were asked for between
+  -- them, and the steps that it counts
+  pub record Replays (setup : Setup) (lines : List (ReplayLine A)) (old new : Option (List ℕ)) : Type 0 where
     pub answers : List (Answer A)
-    pub answered : IsAnswered setup events answers
-    pub written : Appends old new (lines_of answers ++ steps_line (steps_in (last_table setup events (marks_of answers))))
+    pub answered : IsAnswered setup (events_of lines) answers
+    pub written : Appends old new (text_of setup (opening_table setup) lines answers ++ steps_line (steps_in (last_table setup (events_of lines) (marks_of answers))))
+
+  -- a line was made: its event is one step of the server, or the server stays, and what is told is written
+  abbrev pub IsMade : Served → ReplayLine A → Served → Option (List ℕ) → Option (List ℕ) → Type 0
+  IsMade before (asked.Event event) after old new = (said : Answer A) × (Stepped before event after said) × (Appends old new (line_of said))
+  IsMade before (asked.Tags export) after old new = (after ≡ before) × (Appends old new (tags_text before.setup before.table export))

@@ -1,109 +1,138 @@
-//! The body of a script of `replay`: an event of the server a line.
+//! The body of a script of `replay`: an event of the server a line, or a question for its tags.
 
 ghost use Rattle.std.specs.Prelude.{◌≡◌, true, false, [], ◌∷◌, IfOk, IfErr};
-ghost use Rattle.std.specs.Option.{ok_or, option_copied};
-ghost use Rattle.std.specs.Result.{result_ok};
+ghost use Rattle.std.specs.Option.{ok_or};
 ghost use Rattle.nbd_scripts.specs.Faults.{IsMissed};
 ghost use Rattle.nbd_scripts.specs.Lines.{texts_of};
-ghost use Rattle.nbd_scripts.specs.Events.{only, pair_of, brings_payload, payload_of, head_read, request_of, arrival_of};
+ghost use Rattle.nbd_scripts.specs.Events.{arrival_of, asked_by, brings_payload, event_of, export_of, head_read, moment_of, pair_of, payload_of, request_of};
 
 use crate::fault::LineFault;
 use crate::head::Body;
-use crate::lines::{fields_of, first_line};
+use crate::lines::{fields_of, first_line, is_comment, only};
 use crate::numbers::{half_word, moment, number, word};
+use crate::replay_line::ReplayLine;
+use crate::verbs::{Verb, verb_of};
 use bytes::Bytes;
 use hex::FromHexError;
 use nbd_wire::protocol::WRITE;
 use nbd_wire::{MAX_PAYLOAD, Request, RequestHead};
 use server_table::Event;
 use std::alloc::Allocator;
+use tag_clock::Moment;
 
 /// What reading the body of a script gives.
 pub enum Lines<A: Allocator> {
-    /// The events of the lines, in order.
-    Read(Vec<Event<A>, A>),
+    /// What the lines ask for, in order.
+    Read(Vec<ReplayLine<A>, A>),
     /// The first refused line, counted from 1 at the script's first.
     Refused(usize, LineFault),
 }
 
 /// Reads all lines of a body.
 pub fn read_lines<A: Allocator + Copy>(alloc: A, body: Body<'_>) -> Lines<A> {
-    let mut events = Vec::new(alloc);
+    let mut lines = Vec::new(alloc);
     let mut rest = body.text;
     let mut count = body.above;
     while !rest.is_empty() {
         let (line, after) = first_line(rest);
         rest = after;
         count = count.saturating_add(1);
-        if let Err(fault) = take_line(alloc, line, &mut events) {
+        if let Err(fault) = take_line(alloc, line, &mut lines) {
             return Lines::Refused(count, fault);
         }
     }
-    Lines::Read(events)
+    Lines::Read(lines)
 }
 
 /// Takes one line. One without fields, or that begins with `#`, is passed over.
 fn take_line<A: Allocator + Copy>(
     alloc: A,
     line: &[u8],
-    events: &mut Vec<Event<A>, A>,
+    lines: &mut Vec<ReplayLine<A>, A>,
 ) -> Result<(), LineFault> {
-    if line.first() == Some(&b'#') {
+    if is_comment(line) {
         return Ok(());
     }
     let fields = fields_of(alloc, line)?;
     match fields.as_slice() {
         [] => Ok(()),
         [name, numbers @ ..] => {
-            events.push(event_of(alloc, name, numbers)?)?;
+            let Some(verb) = verb_of(name) else {
+                return Err(LineFault::Form);
+            };
+            lines.push(asked_by(alloc, verb, numbers)?)?;
             Ok(())
         }
     }
 }
 
-/// The event of this name, with these numbers.
+/// What a line of this verb asks for, with these fields behind it.
+fn asked_by<A: Allocator + Copy>(
+    alloc: A,
+    verb: Verb,
+    fields: &[&[u8]],
+) -> Result<ReplayLine<A>, LineFault>
+    ensures read { IfOk result (λ line. asked_by verb (texts_of fields.now) ≡ Some line) }
+    ensures missed { IfErr result (IsMissed (asked_by {A = A} verb (texts_of fields.now))) }
+{
+    if verb == Verb::Tags {
+        let export = export_in(fields)?;
+        return Ok(ReplayLine::Tags(export));
+    }
+    let event = event_of(alloc, verb, fields)?;
+    Ok(ReplayLine::Event(event))
+}
+
+/// The event of this verb, with these numbers.
+#[tactic(auto, unfolding(crate::specs::Events::event_of))]
 fn event_of<A: Allocator + Copy>(
     alloc: A,
-    name: &[u8],
+    verb: Verb,
     fields: &[&[u8]],
-) -> Result<Event<A>, LineFault> {
-    match name {
-        b"attach" => Ok(Event::Attach {
-            export: word(only(fields)?)?,
+) -> Result<Event<A>, LineFault>
+    ensures read { IfOk result (λ event. event_of verb (texts_of fields.now) ≡ Some event) }
+    ensures missed { IfErr result (IsMissed (event_of {A = A} verb (texts_of fields.now))) }
+{
+    match verb {
+        Verb::Attach => Ok(Event::Attach {
+            export: export_in(fields)?,
         }),
-        b"dispatch" => Ok(Event::Dispatch {
-            moment: moment(only(fields)?)?,
+        Verb::Arrive => arrival(alloc, fields),
+        Verb::Dispatch => Ok(Event::Dispatch {
+            moment: moment_in(fields)?,
         }),
-        b"perform" => {
+        Verb::Perform => {
             let (export, number) = pair(fields)?;
             Ok(Event::Perform { export, number })
         }
-        b"take" => {
+        Verb::Take => {
             let (export, session) = pair(fields)?;
             Ok(Event::Take { export, session })
         }
-        b"leave" => {
+        Verb::Leave => {
             let (export, session) = pair(fields)?;
             Ok(Event::Leave { export, session })
         }
-        b"gone" => {
+        Verb::Gone => {
             let (export, session) = pair(fields)?;
             Ok(Event::Gone { export, session })
         }
-        b"arrive" => arrival(alloc, fields),
-        _ => Err(LineFault::Form),
+        Verb::Tags => Err(LineFault::Form),
     }
 }
 
-/// The one field that there is.
-fn only<'a>(fields: &[&'a [u8]]) -> Result<&'a [u8], LineFault>
-    ensures field { option_copied (result_ok result) ≡ only (texts_of fields.now) }
-    ensures fault { IfErr result (λ fault. fault ≡ LineFault.Form) }
+/// The export that the one field names.
+fn export_in(fields: &[&[u8]]) -> Result<u32, LineFault>
+    ensures { result ≡ ok_or (export_of (texts_of fields.now)) LineFault.Form }
 {
-    match fields {
-        [field] => Ok(*field),
-        _ => Err(LineFault::Form),
-    }
+    word(only(fields)?)
+}
+
+/// The moment that the one field says.
+fn moment_in(fields: &[&[u8]]) -> Result<Moment, LineFault>
+    ensures { result ≡ ok_or (moment_of (texts_of fields.now)) LineFault.Form }
+{
+    moment(only(fields)?)
 }
 
 /// An export, and the number of a session or a request of it.

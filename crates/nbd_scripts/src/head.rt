@@ -3,7 +3,7 @@
 ghost use Rattle.std.specs.Prelude.{◌≡◌, IsNone, IsSome, OnOk, OnErr, IfErr};
 
 use crate::fault::LineFault;
-use crate::lines::{fields_of, first_line};
+use crate::lines::{fields_of, first_line, is_comment};
 use crate::numbers::number;
 use nbd_commands::{Config, DEFAULT_INFLIGHT, ExportList, ExportSettings, Refusal, is_inflight};
 use std::alloc::Allocator;
@@ -69,7 +69,7 @@ impl<A: Allocator + Copy> Draft<A> {
 
     /// Takes one line. One without fields, or that begins with `#`, is passed over.
     fn line(&mut self, alloc: A, line: &[u8]) -> Result<(), LineFault> {
-        if line.first() == Some(&b'#') {
+        if is_comment(line) {
             return Ok(());
         }
         let fields = fields_of(alloc, line)?;

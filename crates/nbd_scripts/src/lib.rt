@@ -10,7 +10,10 @@ mod lines;
 mod numbers;
 mod outcome;
 mod refused;
+mod replay_line;
 mod replaying;
+mod tags;
+mod verbs;
 
 pub use conversation::talk_script;
 pub use outcome::Outcome;

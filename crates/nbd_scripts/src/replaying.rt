@@ -1,8 +1,8 @@
-//! `nbdq replay`: a script, and what a server answers to its events.
+//! `nbdq replay`: a script, and what a server answers to its lines.
 
-ghost use Rattle.std.specs.Prelude.{◌≡◌, ◌⊎◌};
+ghost use Rattle.std.specs.Prelude.{◌≡◌, ◌⊎◌, OnOk};
 ghost use Rattle.server_core.specs.Served.{setup_for};
-ghost use Rattle.nbd_scripts.specs.Replayed.{Replays, steps_line};
+ghost use Rattle.nbd_scripts.specs.Replayed.{IsMade, Replays, steps_line};
 ghost use Rattle.nbd_scripts.specs.Told.{Writes};
 
 use crate::answers::write_answer;
@@ -10,16 +10,17 @@ use crate::events::{Lines, read_lines};
 use crate::head::{Head, read_head};
 use crate::outcome::Outcome;
 use crate::refused::{read_script, refuse_line};
+use crate::replay_line::ReplayLine;
+use crate::tags::write_tags;
 use eligibility::Heaped;
 use export_store::Paged;
 use nbd_commands::Config;
 use server_core::Server;
-use server_table::Event;
 use std::alloc::Allocator;
 use std::io;
 use std::io::{Read, Write};
 
-/// Reads a whole script, and then makes its events on a server and writes what each is answered.
+/// Reads a whole script, and then makes its lines on a server and writes what each is answered.
 pub fn replay_script<A: Allocator + Copy, R: Read, W: Write>(
     alloc: A,
     input: &mut R,
@@ -33,33 +34,48 @@ pub fn replay_script<A: Allocator + Copy, R: Read, W: Write>(
     };
     match read_head(alloc, &script) {
         Head::Read(config, body) => match read_lines(alloc, body) {
-            Lines::Read(events) => replay(alloc, &config, events, output),
+            Lines::Read(lines) => replay(alloc, &config, lines, output),
             Lines::Refused(line, fault) => refuse_line(output, line, fault),
         },
         Head::Refused(line, fault) => refuse_line(output, line, fault),
     }
 }
 
-/// Makes the events, and writes their answers and how many steps were counted.
+/// Makes the lines in order, and writes what they are answered and how many steps were counted.
 fn replay<A: Allocator + Copy, W: Write>(
     alloc: A,
     config: &Config<A>,
-    events: Vec<Event<A>, A>,
+    lines: Vec<ReplayLine<A>, A>,
     output: &mut W,
 ) -> Outcome
-    ensures done { result ≡ Outcome.Done → Replays {A = A} (setup_for config.now) events.items (W.contents output.old) (W.contents output.new) }
+    ensures done { result ≡ Outcome.Done → Replays {A = A} (setup_for config.now) lines.items (W.contents output.old) (W.contents output.new) }
     ensures failed { (result ≡ Outcome.Done) ⊎ (result ≡ Outcome.NoMemory) ⊎ (result ≡ Outcome.WriteFailed) }
 {
     let made: Result<Server<Paged<A>, Heaped<A>>, _> = Server::new(alloc, config);
     let Ok(mut server) = made else {
         return Outcome::NoMemory;
     };
-    for event in events {
-        if let Err(error) = write_answer(alloc, server.event(event), output) {
+    for line in lines {
+        if let Err(error) = make_line(alloc, &mut server, line, output) {
             return failed(error);
         }
     }
     write_steps(server.steps(), output)
+}
+
+/// Makes one line, and writes what it is answered.
+fn make_line<A: Allocator + Copy, W: Write>(
+    alloc: A,
+    server: &mut Server<Paged<A>, Heaped<A>>,
+    line: ReplayLine<A>,
+    output: &mut W,
+) -> io::Result<()>
+    ensures { OnOk result (IsMade {A = A} server.old line server.new (W.contents output.old) (W.contents output.new)) }
+{
+    match line {
+        ReplayLine::Event(event) => write_answer(alloc, server.event(event), output),
+        ReplayLine::Tags(export) => write_tags(alloc, server, export, output),
+    }
 }
 
 /// What a write that failed comes to.

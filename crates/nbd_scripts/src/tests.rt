@@ -62,7 +62,7 @@ const REFUSALS: [(&str, &str); 37] = [
 ];
 
 /// A line behind a head of two lines, which is refused.
-const REFUSED: [&str; 22] = [
+const REFUSED: [&str; 26] = [
     "attach",
     "attach 0 0",
     "attach 4294967296",
@@ -85,6 +85,10 @@ const REFUSED: [&str; 22] = [
     "arrive 0 0 0 1 1 0 0 2 00",
     "arrive 0 0 0 1 1 0 0 1 0g",
     "arrive 0 0 0 1 1 0 0 1 00 00",
+    "tags",
+    "tags 0 0",
+    "tags 4294967296",
+    "tag 0",
 ];
 
 /// How a script of `talk` goes, and what is written.

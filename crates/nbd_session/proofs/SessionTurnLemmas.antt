@@ -1,5 +1,5 @@
 -- The turns of a session.
-use Rattle.std.proofs.Common.{◌≡◌, ◌≢◌, ℕ, List, ◌++◌, Option, Result, Ok, Err, ◌∙◌, sym, ap, append_assoc, inl, inr}
+use Rattle.std.proofs.Common.{◌≢◌, ℕ, List, ◌++◌, Option, Result, Ok, Err, ◌∙◌, sym, ap, append_assoc, inr}
 use Rattle.std.specs.Prelude.{OnErr}
 use Rattle.std.specs.Io.KnownBytes.{Appends}
 use Rattle.nbd_wire.specs.Grammar.{RequestMessage}
@@ -7,7 +7,6 @@ use Rattle.server_core.specs.declared.session.SessionId.{SessionId}
 use Rattle.server_lock.specs.Scores.{Score}
 use Rattle.nbd_session.specs.Streams.{WritesPart}
 use Rattle.nbd_session.specs.Frames.{Stream}
-use Rattle.nbd_session.specs.declared.ending.Frame.{Frame}
 use Rattle.nbd_session.specs.declared.ending.Frame.TheVariants as frames
 use Rattle.nbd_session.specs.declared.session_turns.Turn.{Turn}
 use Rattle.nbd_session.specs.declared.session_turns.Turn.TheVariants.{Going, Held, Idle, Ended}
@@ -33,4 +32,4 @@ module _ {A : Type 0} where
   read_and_offered old new p s m Going q reads other h = (m, reads, other, h)
   read_and_offered old new p s m (Held back) q reads other h = (m, reads, other, h)
   read_and_offered old new p s m Idle q reads other h = h
-  read_and_offered old new p s m Ended q reads other h = (frames.Whole m, reads, inr h)
+  read_and_offered old new p s m Ended q reads other h = (frames.Whole m, reads, inr (other, h))

@@ -1,5 +1,5 @@
 -- What a turn of a session does: to its pass, and to its reader or its writer.
-use Rattle.std.specs.Prelude.{◌≡◌, ◌≢◌, ℕ, ◌+◌, ◌⊎◌, List, [], Option, Some, None, ⊤}
+use Rattle.std.specs.Prelude.{◌≡◌, ◌≢◌, ℕ, ◌+◌, ◌<◌, ◌⊎◌, List, [], Option, Some, None, ⊤}
 use Rattle.std.specs.Io.KnownBytes.{Appends}
 use Rattle.nbd_wire.specs.declared.requests.RequestHead.{RequestHead}
 use Rattle.nbd_wire.specs.Grammar.{RequestMessage, ReplyMessage, reply_text}
@@ -14,7 +14,7 @@ use Rattle.nbd_session.specs.Streams.{Rises, WritesPart}
 use Rattle.nbd_session.specs.declared.ending.Ending.{Ending}
 use Rattle.nbd_session.specs.declared.ending.Frame.{Frame}
 use Rattle.nbd_session.specs.declared.ending.Frame.TheVariants as frames
-use Rattle.nbd_session.specs.Frames.{Stream, Nexts}
+use Rattle.nbd_session.specs.Frames.{Stream, Nexts, IsWhole}
 use Rattle.nbd_session.specs.declared.session_turns.Turn.{Turn}
 use Rattle.nbd_session.specs.declared.session_turns.Turn.TheVariants.{Going, Held, Idle, Ended}
 
@@ -25,11 +25,13 @@ abbrev pub IsLast : Option Trace → (EventTrace → Type 0) → (AnswerTrace �
 IsLast None IsEvent IsAnswer = ⊥
 IsLast (Some t) IsEvent IsAnswer = IsEvent t.event × IsAnswer t.answer
 
--- one turn was made: such an event with such an answer, which counts so many steps
+-- one turn was made: such an event with such an answer, which counts so many steps. What the pass holds stays
 pub record Turns (p : Score) (IsEvent : EventTrace → Type 0) (IsAnswer : AnswerTrace → Type 0) (steps : ℕ) (q : Score) : Type 0 where
   pub turns : q.turns ≡ next_count p.turns
   pub share : q.share ≡ p.share + steps
   pub last : IsLast q.last IsEvent IsAnswer
+  pub held : q.held ≡ p.held
+  pub choice : q.choice ≡ p.choice
 
 -- a request with this head arrived on the session
 abbrev pub IsArrival : SessionId → RequestHead → EventTrace → Type 0
@@ -61,32 +63,34 @@ IsRefused a = ⊥
 abbrev pub IsGiven : ReplyMessage → AnswerTrace → Type 0
 IsGiven r a = a ≡ answer.Reply r.error r.cookie
 
--- whatever was answered
-abbrev pub IsAny : AnswerTrace → Type 0
-IsAny a = ⊤
-
--- the session left, or was dropped: one turn, counted where it was open
+-- the session left, which counts a step; or it was refused since it isn't open, and nothing is counted
 abbrev pub Leaves : Score → SessionId → Score → Type 0
-Leaves p s q = (steps : ℕ) × Turns p (IsLeave s) IsAny steps q
+Leaves p s q = Turns p (IsLeave s) (λ a. a ≡ answer.Left) 1 q ⊎ Turns p (IsLeave s) IsRefused 0 q
 
+-- the same of a session that was dropped
 abbrev pub Drops : Score → SessionId → Score → Type 0
-Drops p s q = (steps : ℕ) × Turns p (IsGone s) IsAny steps q
+Drops p s q = Turns p (IsGone s) (λ a. a ≡ answer.Dropped) 1 q ⊎ Turns p (IsGone s) IsRefused 0 q
 
 -- ---- a reply is taken
+
+-- nothing was written, and no write failed
+abbrev pub WritesNothing : Option (List ℕ) → Option (List ℕ) → ℕ → ℕ → Type 0
+WritesNothing old new before now = Appends old new [] × (now ≡ before)
 
 -- the session isn't there any more; or it had left and got all its replies; or a reply could not be written. In these
 -- two cases it was dropped
 abbrev pub WriteEnds : Score → SessionId → Option (List ℕ) → Option (List ℕ) → ℕ → ℕ → Score → Type 0
-WriteEnds p s old new before now q = (Turns p (IsTake s) IsRefused 0 q × Appends old new [])
-    ⊎ ((r : Score) × Turns p (IsTake s) (λ a. a ≡ answer.End) 0 r × Drops r s q × Appends old new [])
+WriteEnds p s old new before now q = (Turns p (IsTake s) IsRefused 0 q × WritesNothing old new before now)
+    ⊎ ((r : Score) × Turns p (IsTake s) (λ a. a ≡ answer.End) 0 r × Drops r s q × WritesNothing old new before now)
     ⊎ ((r : Score) × (m : ReplyMessage) × Turns p (IsTake s) (IsGiven m) 1 r × Drops r s q × WritesPart old new (reply_text m) × Rises before now)
 
 -- ---- a request is offered
 
--- it was refused since its session isn't open; or its export is worn, and the session left
+-- it was refused since its session isn't open; or its export is worn, or no memory was there for it, and the session left
 abbrev pub OfferEnds : Score → SessionId → RequestHead → Score → Type 0
 OfferEnds p s h q = Turns p (IsArrival s h) IsRefused 0 q
     ⊎ ((r : Score) × Turns p (IsArrival s h) (λ a. a ≡ answer.Worn) 0 r × Leaves r s q)
+    ⊎ ((r : Score) × Turns p (IsArrival s h) (λ a. a ≡ answer.NoMemory) 0 r × Leaves r s q)
 
 module _ {A : Type 0} where
   abbrev pub IsOffered : Score → SessionId → RequestMessage → Turn A → Score → Type 0
@@ -100,11 +104,13 @@ module _ {A : Type 0} where
   -- what stands next in the client's bytes, as a reader tells it
   pub record Reads (old new : Stream) (frame : Frame A) : Type 0 where
     pub next : old.reading.ended ≡ None → Nexts old.reading new.reading old.left new.left old.failures new.failures frame
+    pub ready : old.reading.ended ≡ None → 0 < old.reading.ready → IsWhole frame × (new.left ≡ old.left) × (new.failures ≡ old.failures)
     pub again : (e : Ending) → old.reading.ended ≡ Some e → (frame ≡ frames.Ended e) × (new ≡ old)
 
-  -- a request other than DISC was offered, and its session isn't open any more; anything else makes the session leave
+  -- a request other than DISC was offered, and its session isn't open any more; DISC, and what isn't a request, makes the
+  -- session leave
   abbrev pub ReadEnds : Score → SessionId → Frame A → Score → Type 0
-  ReadEnds p s (frames.Whole m) q = ((m.head.kind ≡ 2) × Leaves p s q) ⊎ OfferEnds p s m.head q
+  ReadEnds p s (frames.Whole m) q = ((m.head.kind ≡ 2) × Leaves p s q) ⊎ ((m.head.kind ≢ 2) × OfferEnds p s m.head q)
   ReadEnds p s (frames.Ended e) q = Leaves p s q
 
   -- a request other than DISC was read and offered
@@ -121,7 +127,7 @@ module _ {A : Type 0} where
 
   -- from the writer's known bytes and failures before to those after
   abbrev pub IsWriteTurn : Score → SessionId → Option (List ℕ) → Option (List ℕ) → ℕ → ℕ → Turn A → Score → Type 0
-  IsWriteTurn p s old new before now Going q = (m : ReplyMessage) × Turns p (IsTake s) (IsGiven m) 1 q × Appends old new (reply_text m)
+  IsWriteTurn p s old new before now Going q = (m : ReplyMessage) × Turns p (IsTake s) (IsGiven m) 1 q × Appends old new (reply_text m) × (now ≡ before)
   IsWriteTurn p s old new before now (Held m) q = ⊥
-  IsWriteTurn p s old new before now Idle q = Turns p (IsTake s) (λ a. a ≡ answer.Empty) 0 q × Appends old new []
+  IsWriteTurn p s old new before now Idle q = Turns p (IsTake s) (λ a. a ≡ answer.Empty) 0 q × WritesNothing old new before now
   IsWriteTurn p s old new before now Ended q = WriteEnds p s old new before now q

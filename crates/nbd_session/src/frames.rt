@@ -35,7 +35,7 @@ impl<A: Allocator + Copy> Model for Frames<A> {
 impl<A: Allocator + Copy> Frames<A> {
     ghost use Rattle.std.specs.Prelude.{◌≡◌, ◌<◌, [], Some, None};
     ghost use Rattle.nbd_session.specs.declared.ending.Ending.{Ending};
-    ghost use Rattle.std.specs.Prelude.{IsTrue};
+    ghost use Rattle.std.specs.Prelude.{◌↔◌, IsTrue};
     ghost use Rattle.nbd_wire.specs.Grammar.{BeginsWhole};
     ghost use Rattle.nbd_session.specs.Frames.{Nexts, IsWhole};
 
@@ -84,7 +84,8 @@ impl<A: Allocator + Copy> Frames<A> {
 
     /// Whether the next call gives a request without reading.
     pub fn is_ready(&self) -> bool
-        ensures { IsTrue result → BeginsWhole self.now.kept }
+        ensures ready { IsTrue result ↔ (0 < self.now.ready) }
+        ensures first { IsTrue result → BeginsWhole self.now.kept }
     {
         !self.ready.as_slice().is_empty()
     }
@@ -108,7 +109,7 @@ impl<R: Read, A: Allocator + Copy> Model for FrameReader<R, A> {
 impl<R: Read, A: Allocator + Copy> FrameReader<R, A> {
     ghost use Rattle.std.specs.Prelude.{◌≡◌, ◌<◌, [], Some, None};
     ghost use Rattle.nbd_session.specs.declared.ending.Ending.{Ending};
-    ghost use Rattle.std.specs.Prelude.{IsTrue};
+    ghost use Rattle.std.specs.Prelude.{◌↔◌, IsTrue};
     ghost use Rattle.nbd_wire.specs.Grammar.{BeginsWhole};
     ghost use Rattle.nbd_session.specs.Frames.{Nexts, IsWhole};
 
@@ -138,7 +139,8 @@ impl<R: Read, A: Allocator + Copy> FrameReader<R, A> {
 
     /// Whether the next call gives a request without reading: one stands first in the bytes that were read.
     pub fn is_ready(&self) -> bool
-        ensures { IsTrue result → BeginsWhole self.now.reading.kept }
+        ensures ready { IsTrue result ↔ (0 < self.now.reading.ready) }
+        ensures first { IsTrue result → BeginsWhole self.now.reading.kept }
     {
         self.frames.is_ready()
     }

@@ -26,3 +26,6 @@ pub use haggling::haggle;
 pub use laws::{handshake_is_haggled, one_conversation, requests_are_plain, worked_conversations};
 pub use session_turns::{Turn, offer, read_turn, write_turn};
 pub use talking::{End, Entry, TalkFault};
+
+#[cfg(test)]
+mod tests;

@@ -59,7 +59,7 @@ pub fn read_turn<L: Ledger, I: Image, E: Eligibility<Alloc = I::Alloc>, R: Read,
     }
 }
 
-/// Hands a request in at the clock's moment. Where the export is worn, the session leaves.
+/// Hands a request in at the clock's moment. Where the export is worn, or no memory is there for it, the session leaves.
 pub fn offer<L: Ledger, I: Image, E: Eligibility<Alloc = I::Alloc>, C: Clock, W: Wait>(
     rt: &W,
     shared: &Shared<L, I, E>,
@@ -75,6 +75,7 @@ pub fn offer<L: Ledger, I: Image, E: Eligibility<Alloc = I::Alloc>, C: Clock, W:
         Err(refused) => match refused.refusal {
             ArriveRefusal::Hold => Turn::Held(refused.request),
             ArriveRefusal::Worn => leave(rt, shared, pass, session),
+            ArriveRefusal::NoMemory => leave(rt, shared, pass, session),
             ArriveRefusal::NoExport | ArriveRefusal::NotOpen => Turn::Ended,
         },
     }
@@ -136,6 +137,7 @@ fn put_reply<A: Allocator, O: Write>(
     writer: &mut Counted<O>,
 ) -> Result<(), WriteFailed>
     ensures ok { OnOk result (Appends (O.contents writer.old.inner) (O.contents writer.new.inner) (reply_text reply.now)) }
+    ensures kept { OnOk result (writer.new.failures ≡ writer.old.failures) }
     ensures part { OnErr result (WritesPart (O.contents writer.old.inner) (O.contents writer.new.inner) (reply_text reply.now)) }
     ensures failed { OnErr result (Rises writer.old.failures writer.new.failures) }
 {

@@ -33,8 +33,8 @@ impl Bell {
         self.rung.notify_one();
     }
 
-    /// Sleeps until it is rung once more than `heard`, and for so long at most.
-    pub fn wait<R: Wait>(&self, rt: &R, heard: u64, at_most: Duration) {
-        self.rung.sleep(rt, heard, at_most);
+    /// Sleeps until it is rung once more than `heard`, and for so long at most; without end where no time is given.
+    pub fn wait<R: Wait>(&self, rt: &R, heard: u64, at_most: Option<Duration>) {
+        self.rung.sleep(rt, heard, at_most.unwrap_or(Duration::MAX));
     }
 }

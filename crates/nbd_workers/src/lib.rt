@@ -6,7 +6,7 @@ mod sleeper;
 mod worker;
 
 pub use bell::Bell;
-pub use sleeper::Sleeper;
+pub use sleeper::{Sleeper, until};
 pub use worker::{Gate, work};
 
 #[cfg(test)]

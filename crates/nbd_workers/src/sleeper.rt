@@ -1,4 +1,6 @@
 //! A gate that sleeps.
+ghost use Rattle.std.specs.Prelude.{◌≡◌, ◌-◌};
+ghost use Rattle.std.specs.Duration.{as_nanos};
 
 use crate::bell::Bell;
 use crate::worker::Gate;
@@ -8,8 +10,9 @@ use std::sync::Wait;
 use std::time::Duration;
 use tag_clock::{Clock, Moment};
 
-/// One worker's gate, which holds up no request. Where there is nothing to do it sleeps on a bell that is to be rung after
-/// each arrival, each leave and the stop; it rings another bell once a request was performed.
+/// One worker's gate, which holds up no request. Where there is nothing to do it sleeps until something is due, and
+/// without end where nothing is. A bell ends the sleep, which is to be rung after each arrival and the stop; it rings
+/// another bell once a request was performed.
 #[derive(Drop)]
 pub struct Sleeper<'a, C: Clock, R: Wait> {
     rt: &'a R,
@@ -18,27 +21,26 @@ pub struct Sleeper<'a, C: Clock, R: Wait> {
     replies: &'a Bell,
     // What the bell had told just before the latest dispatch.
     heard: Cell<u64>,
-    at_most: Duration,
 }
 
 impl<'a, C: Clock, R: Wait> Sleeper<'a, C, R> {
-    /// A gate that sleeps for so long at most before it looks again.
-    pub fn new(
-        rt: &'a R,
-        clock: &'a C,
-        work: &'a Bell,
-        replies: &'a Bell,
-        at_most: Duration,
-    ) -> Sleeper<'a, C, R> {
+    /// A gate that sleeps on the first bell, and rings the second.
+    pub fn new(rt: &'a R, clock: &'a C, work: &'a Bell, replies: &'a Bell) -> Sleeper<'a, C, R> {
         Sleeper {
             rt,
             clock,
             work,
             replies,
             heard: Cell::new(0),
-            at_most,
         }
     }
+}
+
+/// How long it is until a moment: no time where it has come.
+pub fn until(now: Moment, due: Moment) -> Duration
+    ensures { as_nanos result ≡ due - now }
+{
+    Duration::from_nanos(due.nanoseconds().saturating_sub(now.nanoseconds()))
 }
 
 impl<'a, C: Clock, R: Wait> Clock for Sleeper<'a, C, R> {
@@ -55,8 +57,9 @@ impl<'a, C: Clock, R: Wait> Gate for Sleeper<'a, C, R> {
         self.replies.ring();
     }
 
-    fn idle(&self) -> bool {
-        self.work.wait(self.rt, self.heard.get(), self.at_most);
+    fn idle(&self, due: Option<Moment>) -> bool {
+        let at_most = due.map(|due| until(self.clock.now(), due));
+        self.work.wait(self.rt, self.heard.get(), at_most);
         true
     }
 }

@@ -17,6 +17,7 @@ use std::sync::ledger::Ledger;
 use std::thread;
 use tag_clock::{Clock, Moment};
 
+mod due;
 mod flooding;
 mod holding;
 mod overlapping;

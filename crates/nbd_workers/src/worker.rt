@@ -7,7 +7,7 @@ use server_core::Ticket;
 use server_lock::{Pass, Shared};
 use std::sync::Wait;
 use std::sync::ledger::Ledger;
-use tag_clock::Clock;
+use tag_clock::{Clock, Moment};
 
 /// What a worker passes between its choice of a request and that request's service, and where it waits while there is
 /// nothing to do. `now` gives the moment of each dispatch. No lock is held in any of these calls.
@@ -18,8 +18,9 @@ pub trait Gate: Clock {
     /// The request was performed.
     fn done(&self, ticket: &Ticket);
 
-    /// Nothing was chosen. False ends the worker.
-    fn idle(&self) -> bool;
+    /// Nothing was chosen, and nothing is before that moment unless something changes; without one, not before then.
+    /// False ends the worker.
+    fn idle(&self, due: Option<Moment>) -> bool;
 }
 
 /// Chooses requests and performs each, until the server is stopping and nothing waits, or until the gate's `idle` says so.
@@ -45,7 +46,7 @@ pub fn work<L: Ledger, I: Image, E: Eligibility<Alloc = I::Alloc>, G: Gate, R: W
         if shared.stopping() && shared.waiting(rt) == 0 {
             break;
         }
-        if !gate.idle() {
+        if !gate.idle(shared.next_due(rt)) {
             break;
         }
     }

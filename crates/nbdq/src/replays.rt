@@ -133,6 +133,24 @@ const SESSIONS: [Row; 3] = [
     ),
 ];
 
+const TAGS: [Row; 3] = [
+    (
+        "the tags of what waits, behind a choice by reservation and one by weight, which is credited",
+        "export a size=4096 r=4 w=1\n---\nattach 0\narrive 0 0 0 1 0 0 0 4\narrive 0 0 0 2 0 0 0 4\ndispatch 0\ndispatch 0\narrive 0 0 0 3 0 0 0 4\ntags 0\n",
+        "session 0\naccepted 0 0\naccepted 1 0\nexport 0 request 0 reservation\nexport 0 request 1 weight\naccepted 2 0\nwaiting 1\ntag 2 250000000 0 2000000000\nsteps 6\n",
+    ),
+    (
+        "a shift moves the P tag of what waits, and without a reservation there is no R tag",
+        "export a size=4096 w=1\nexport b size=4096 w=1\n---\nattach 0\nattach 1\narrive 0 0 0 1 0 0 0 4\narrive 0 0 0 2 0 0 0 4\narrive 0 0 0 3 0 0 0 4\ndispatch 0\ndispatch 0\narrive 1 0 5 1 0 0 0 4\ntags 0\ntags 1\ndispatch 5\n",
+        "session 0\nsession 0\naccepted 0 0\naccepted 1 0\naccepted 2 0\nexport 0 request 0 weight\nexport 0 request 1 weight\naccepted 0 5\nwaiting 1\ntag 2 - 0 5\nwaiting 1\ntag 0 - 5 5\nexport 0 request 2 weight\nsteps 9\n",
+    ),
+    (
+        "nothing waits, two requests wait, and there is no such export",
+        "export a size=4096 l=10 w=2\n---\ntags 0\nattach 0\narrive 0 0 7 1 0 0 0 4\narrive 0 0 7 2 0 0 0 4\ntags 0\ntags 1\n",
+        "waiting 0\nsession 0\naccepted 0 7\naccepted 1 100000007\nwaiting 2\ntag 0 - 7 7\ntag 1 - 100000007 500000007\nno export\nsteps 3\n",
+    ),
+];
+
 #[test]
 fn shares(rt: HostRuntime) {
     for row in &SHARES {
@@ -144,6 +162,14 @@ fn shares(rt: HostRuntime) {
 #[test]
 fn shifts(rt: HostRuntime) {
     for row in &SHIFTS {
+        let well = is_done(rt.alloc(), Task::Replay, row.1.as_bytes(), row.2.as_bytes());
+        assert!(rt; well, "{}", row.0);
+    }
+}
+
+#[test]
+fn tags(rt: HostRuntime) {
+    for row in &TAGS {
         let well = is_done(rt.alloc(), Task::Replay, row.1.as_bytes(), row.2.as_bytes());
         assert!(rt; well, "{}", row.0);
     }

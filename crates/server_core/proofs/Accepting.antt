@@ -20,24 +20,28 @@ use Rattle.lone_export.specs.declared.refusal.ArriveRefusal.TheVariants as arriv
 use Rattle.lone_export.specs.declared.step.Step.TheVariants as own
 use Rattle.lone_export.specs.declared.step.StepAnswer.TheVariants as alone
 use Rattle.server_table.specs.declared.event.Event.TheVariants.{Arrive}
-use Rattle.server_table.specs.declared.event.Answer.TheVariants.{Accepted, NoExport}
-use Rattle.server_table.specs.Parts.{Entry, Part, table_of, job_of_entry}
+use Rattle.server_table.specs.declared.event.Event.{Event}
+use Rattle.server_table.specs.declared.event.Answer.{Answer}
+use Rattle.server_table.specs.declared.event.Answer.TheVariants.{Accepted, NoExport, NoMemory}
+use Rattle.server_table.specs.Shares.{mark_of}
+use Rattle.server_table.specs.Parts.{Entry, Part, table_of, setup_of, job_of_entry}
 use Rattle.server_table.specs.Order.{AllParts, head_tags, heads}
 use Rattle.server_table.specs.Ways.{entry_shifted, least_first_p, way_for, part_tags, accepted_part}
-use Rattle.server_table.specs.Steps.{outcome}
+use Rattle.server_table.specs.Steps.{outcome, step}
 use Rattle.server_table.proofs.Arrived.{Admits, step_accepts, step_refuses}
-use Rattle.server_table.proofs.Refused.{no_arrive}
+use Rattle.server_table.proofs.Refused.{no_arrive, no_room_to_arrive}
 use Rattle.server_core.specs.Here.{arrived, refusal_here}
 use Rattle.server_core.specs.declared.refusal.NotArrived.{NotArrived}
 use Rattle.server_core.specs.Kept.{AreShort, IsPart, IsServer, Within, TagsInRange, total}
-use Rattle.server_core.specs.Members.{Standing, shifted_standing, accepted_standing, AdmitsAt, Arrives, Went}
-use Rattle.server_core.specs.Served.{parts, served_of, AllMembers, IsServed, Stepped, arrive_says}
+use Rattle.server_core.specs.Members.{Standing, shifted_standing, accepted_standing, logged_as, AdmitsAt, IsLetIn, Arrives, Went}
+use Rattle.export_cell.specs.Journal.{Journal}
+use Rattle.server_core.specs.Served.{Served, parts, journals_of, served_of, AllMembers, IsServed, Stepped, arrive_says}
 use Rattle.server_core.specs.Way.{lowered_to, way_of, IsFallInRange}
 use Rattle.server_core.proofs.Entries.{part_at}
 use Rattle.server_core.proofs.Picked.{total_small}
 use Rattle.server_core.proofs.Fallen.{least_within, IsKeyWithin}
 use Rattle.server_core.proofs.Changed.{in_order, before_way, after_way, kept_arrived, new_in_range}
-use Rattle.server_core.proofs.Served.{part_there, within_parts, parts_set, same_setup, members_set, member_at, beyond, stepped_own, kept_own, same_seats}
+use Rattle.server_core.proofs.Served.{part_there, within_parts, parts_set, parts_back, same_setup, members_set, member_at, beyond, stepped_own, kept_own, same_seats}
 use Rattle.server_core.proofs.Performed.{all_seats}
 use Rattle.server_core.proofs.Ways.{parts_way}
 
@@ -81,6 +85,22 @@ module _ (A : Type 0) where
       by : (r : Result Arrived (NotArrivedAlone A)) → IfErr r (λ e. e.request ≡ q) → IfErr (arrived r) (λ e. e.request ≡ q)
       by (Ok x) back = tt
       by (Err x) back = back
+
+  -- ---- room is made for it first, or there is none
+  pub stepped_no_memory : (ms : List Standing) (now inflight e s t : ℕ) (q : RequestMessage) (m m' : Standing) → e < length ms → m ≡ get_or ms e m → IsLetIn m s → m' ≡ logged_as m' m → Stepped {A = A} (served_of ms now inflight) (Arrive e s t q) (served_of (set ms e m') now inflight) NoMemory
+  stepped_no_memory ms now inflight e s t q m m' lt at may same =
+      let back : parts (set ms e m') ≡ parts ms = parts_back ms e m m' at (ap (λ (x : Standing). x.part) same) in
+      record {
+        stepped = no_room_to_arrive (parts ms) now inflight e s t q m.part (within_parts ms e lt) (part_there ms e m lt at) may.0 may.1 may.2
+            ∙ ap (λ (l : List Part). outcome {A = A} (table_of l now) NoMemory) (sym back);
+        setup = ap (λ (l : List Part). setup_of l inflight) back;
+      }
+
+  pub stepped_from : (ms0 ms : List Standing) (now inflight : ℕ) (event : Event A) (new : Served) (answer : Answer A) → parts ms ≡ parts ms0 → Stepped (served_of ms now inflight) event new answer → Stepped (served_of ms0 now inflight) event new answer
+  stepped_from ms0 ms now inflight event new answer same h = record {
+    stepped = subst (λ (ps : List Part). step (setup_of ps inflight) (table_of ps now) event (mark_of answer) ≡ record { table = new.table; answer = answer }) same h.stepped;
+    setup = h.setup ∙ ap (λ (ps : List Part). setup_of ps inflight) same;
+  }
 
 -- ---- ranges
 pub part_range : (ms : List Standing) (slots : List (Option Tags)) (asked now inflight served e : ℕ) (m : Standing) → IsServed ms slots asked now inflight served → e < length ms → m ≡ get_or ms e m → TagsInRange m.part
@@ -150,6 +170,13 @@ seats_shifted : (d : ℤ) (ms : List Standing) → all_seats (map (shifted_stand
 seats_shifted d [] = refl
 seats_shifted d (m ∷ ms) = ap (λ l. m.seats ∷ l) (seats_shifted d ms)
 
+journals_shifted : (d : ℤ) (ms : List Standing) → journals_of (map (shifted_standing d) ms) ≡ journals_of ms
+journals_shifted d [] = refl
+journals_shifted d (m ∷ ms) = ap (λ (l : List Journal). m.journal ∷ l) (journals_shifted d ms)
+
+pub journals_way : (n : ℕ) (t : ℤ) (ms : List Standing) → journals_of (way_of n t ms) ≡ journals_of ms
+journals_way n t ms = same_by journals_of journals_shifted n t ms
+
 pub length_way : (n : ℕ) (t : ℤ) (ms : List Standing) → length (way_of n t ms) ≡ length ms
 length_way n t ms = same_by length (λ d l. length-map l (shifted_standing d)) n t ms
 
@@ -167,7 +194,7 @@ room_way inflight n t ms h = by_test (n == 0) (least_first_p (parts ms))
 
 -- ---- one that is accepted
 module _ (A : Type 0) where
-  pub accepted_at : (m m' : Standing) (s t : ℕ) (q : RequestMessage) (r : Result Arrived (NotArrivedAlone A)) → AdmitsAt m s q → Arrives {A = A} m m' s t q r → m' ≡ accepted_standing s t q m
+  pub accepted_at : (m m' : Standing) (s t : ℕ) (q : RequestMessage) (r : Result Arrived (NotArrivedAlone A)) → AdmitsAt m s q → Arrives {A = A} m m' s t q r → m' ≡ accepted_standing s t q (logged_as m' m)
   accepted_at m m' s t q (Ok (arrival.Accepted n tag)) a arrives = arrives.1
   accepted_at m m' s t q (Ok (arrival.Answered error)) a arrives = absurd (arrives.0 a)
   accepted_at m m' s t q (Err e) a arrives = absurd (arrives.0 a)
@@ -182,7 +209,7 @@ module _ (A : Type 0) where
       let order = in_order (total (parts ms)) (parts ms) kept.server.each in
       let way = way_of (length m.part.waiting) (pos t) ms in
       let after = accepted_part s q (part_tags m.part t) m.part in
-      let is : m' ≡ accepted_standing s t q m = accepted_at m m' s t q r a arrives in
+      let is : m' ≡ accepted_standing s t q (logged_as m' m) = accepted_at m m' s t q r a arrives in
       let l : set (way_for (length m.part.waiting) (pos t) (parts ms)) e after ≡ parts (set way e m') =
       ap (λ (ps : List Part). set ps e after) (sym (parts_way (length m.part.waiting) (pos t) ms)) ∙ ap (λ (x : Standing). set (parts way) e x.part) (sym is) ∙ sym (parts_set way e m') in
       let there : m ≡ get_or way e m = sym (member_same (pos t) ms e m m lt at) in
@@ -197,7 +224,7 @@ module _ (A : Type 0) where
   kept_accepted ms slots slots' asked asked' now inflight served e s t q m m' r kept lt at a arrives small firsts le =
       let way = way_of (length m.part.waiting) (pos t) ms in
       let after = accepted_part s q (part_tags m.part t) m.part in
-      let is : m' ≡ accepted_standing s t q m = accepted_at m m' s t q r a arrives in
+      let is : m' ≡ accepted_standing s t q (logged_as m' m) = accepted_at m m' s t q r a arrives in
       let l : set (way_for (length m.part.waiting) (pos t) (parts ms)) e after ≡ parts (set way e m') =
       ap (λ (ps : List Part). set ps e after) (sym (parts_way (length m.part.waiting) (pos t) ms)) ∙ ap (λ (x : Standing). set (parts way) e x.part) (sym is) ∙ sym (parts_set way e m') in
       let f : slots' ≡ set (heads (way_for (length m.part.waiting) (pos t) (parts ms))) e (head_tags after.waiting) =

@@ -112,7 +112,7 @@ pub record Waits (A : Type 0) (m : Kept) (new : Whole) (s t n : ℕ) (tag : ℤ)
   pub pushed : waiting ≡ m.waiting ++ one ∷ []
 
 abbrev pub kept_waiting : Kept → Whole → Share → List Tags → ℕ → Kept
-kept_waiting m new share waiting room = record { whole = new; share = share; interval = m.interval; waiting = waiting; waiting_room = room; out = m.out; out_room = m.out_room }
+kept_waiting m new share waiting room = record { whole = new; journal = m.journal; room = m.room; share = share; interval = m.interval; waiting = waiting; waiting_room = room; out = m.out; out_room = m.out_room }
 
 -- the state of the export alone
 abbrev pub state_waiting : Terms → Alone → ℕ → ℕ → RequestMessage → Alone

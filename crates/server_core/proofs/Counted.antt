@@ -27,7 +27,7 @@ use Rattle.core_laws.proofs.Order.{Mem, mem_all, mem_of_filter, foremost_mem}
 use Rattle.core_laws.proofs.Chosen.{IsChosen, is_chosen}
 use Rattle.server_core.specs.Counted.{rise, counted_steps, IsSound}
 use Rattle.server_core.specs.Members.{Standing}
-use Rattle.server_core.specs.Served.{Served, parts, served_of, IsServed, Stepped}
+use Rattle.server_core.specs.Served.{Served, parts, journals_of, served_of, IsServed, Stepped}
 
 abbrev total : List Side → ℕ
 total sides = sum_by (λ (one : Side). one.count) sides
@@ -225,7 +225,9 @@ sound ms slots asked now inflight out kept =
     let here = outs_of 0 (parts ms) in
     let counted = kept.server.counted in
     let within = kept.server.within in
-    record { within = omega (arith, here, counted, within); sides = fits.sides; rows = fits.rows }
+    let long : length (journals_of ms) ≡ length (map (λ (p : Part). p.terms) (parts ms)) =
+    length-map ms (λ (m : Standing). m.journal) ∙ sym (length-map ms (λ (m : Standing). m.part)) ∙ sym (length-map (parts ms) (λ (p : Part). p.terms)) in
+    record { within = omega (arith, here, counted, within); sides = fits.sides; journals = long; rows = fits.rows }
 
 module _ {A : Type 0} where
   counted_from : (old new : Served) (event : Event A) (answer : Answer A) → Fits old.setup old.table → Stepped old event new answer → counted_steps new ≡ counted_steps old + rise answer

@@ -9,9 +9,10 @@ use Rattle.lone_export.specs.Alone.{Alone, Job, Moved, own_step, done, undone, m
 use Rattle.lone_export.specs.Lone.{Whole, Does, slot_among, slots_without}
 use Rattle.lone_export.specs.declared.step.Step.TheVariants.{Perform}
 use Rattle.lone_export.specs.declared.step.StepAnswer.TheVariants.{Performed, NotOut}
+use Rattle.export_cell.specs.Journal.{Journal}
 use Rattle.server_table.specs.Parts.{Entry, Part, without}
 use Rattle.server_core.specs.declared.member.Sent.{Sent}
-use Rattle.server_core.specs.Members.{Seat, Kept, entries_of, seats_of, sent_tags, part_of, standing_of, slot_in, seats_without, done_standing, IsMember, own, Performs}
+use Rattle.server_core.specs.Members.{Seat, Kept, entries_of, seats_of, sent_tags, part_of, standing_of, slot_in, seats_without, with_log, done_standing, IsMember, own, Performs}
 use Rattle.lone_export.proofs.Cases.{if_one}
 use Rattle.server_core.proofs.Members.{alone_back, sent_length}
 
@@ -153,10 +154,10 @@ module _ (A : Type 0) where
       ∙ ap (λ l. record { terms = old.terms; inflight = old.inflight; state = new.state; slots = l }) slots
       ∙ ap (λ s. record { terms = old.terms; inflight = old.inflight; state = s; slots = slots_without old.state.out old.slots n }) kept
 
-  pub performs_kept : (m : Kept) (new : Whole) (n : ℕ) (memory : Bool) (out : List Sent) → IsMember m → Does {A = A} m.whole new (Perform n memory) (Performed memory) → new.slots ≡ slots_without m.whole.state.out m.whole.slots n → out ≡ sent_without n m.out → IsMember (record m { whole = new; out = out })
-  performs_kept m new n memory out h does slots left =
-      subst (λ (w : Whole). IsMember (record m { whole = w; out = out })) (sym (done_whole m.whole new n memory does slots))
-      (subst (λ (l : List Sent). IsMember (record m { whole = record m.whole { state = done_state n m.whole.state new.state; slots = slots_without m.whole.state.out m.whole.slots n }; out = l })) (sym left)
+  pub performs_kept : (m : Kept) (new : Whole) (j : Journal) (r : ℕ) (n : ℕ) (memory : Bool) (out : List Sent) → IsMember m → Does {A = A} m.whole new (Perform n memory) (Performed memory) → new.slots ≡ slots_without m.whole.state.out m.whole.slots n → out ≡ sent_without n m.out → IsMember (record m { whole = new; journal = j; room = r; out = out })
+  performs_kept m new j r n memory out h does slots left =
+      subst (λ (w : Whole). IsMember (record m { whole = w; journal = j; room = r; out = out })) (sym (done_whole m.whole new n memory does slots))
+      (subst (λ (l : List Sent). IsMember (record m { whole = record m.whole { state = done_state n m.whole.state new.state; slots = slots_without m.whole.state.out m.whole.slots n }; journal = j; room = r; out = l })) (sym left)
       (record {
         tagged = h.tagged;
         sent = numbers_without n m.whole.state.out m.out h.sent;
@@ -169,16 +170,16 @@ module _ (A : Type 0) where
         out_room = h.out_room;
       }))
 
-  pub performs : (m : Kept) (new : Whole) (n : ℕ) (memory : Bool) (out : List Sent) → IsMember m → Does {A = A} m.whole new (Perform n memory) (Performed memory) → new.slots ≡ slots_without m.whole.state.out m.whole.slots n → out ≡ sent_without n m.out → Performs A (standing_of m) (standing_of (record m { whole = new; out = out })) n memory
-  performs m new n memory out h does slots left =
+  pub performs : (m : Kept) (new : Whole) (j : Journal) (r : ℕ) (n : ℕ) (memory : Bool) (out : List Sent) → IsMember m → Does {A = A} m.whole new (Perform n memory) (Performed memory) → new.slots ≡ slots_without m.whole.state.out m.whole.slots n → out ≡ sent_without n m.out → Performs A (standing_of m) (standing_of (record m { whole = new; journal = j; room = r; out = out })) n memory
+  performs m new j r n memory out h does slots left =
       let state = m.whole.state in
       let is : own {A = A} (standing_of m) (Perform n memory) ≡ record { state = new.state; answer = Performed memory } = ap (λ (s : Alone). own_step {A = A} m.whole.terms s (Perform n memory)) (alone_back m h) ∙ does.did in
       let base : Part = record (part_of m) { image = new.state.image; sessions = new.state.sessions; count = new.state.count } in
       record {
-        standing = ap (λ (w : Whole). standing_of (record m { whole = w; out = out })) (done_whole m.whole new n memory does slots)
-            ∙ ap (λ (l : List Sent). standing_of (record m { whole = record m.whole { state = done_state n state new.state; slots = slots_without state.out m.whole.slots n }; out = l })) left
-            ∙ ap (λ (l : List Entry). record { part = record base { out = l }; inflight = m.whole.inflight; seats = seats_of (jobs_without n state.out) (slots_without state.out m.whole.slots n) }) (entries_without n state.out m.out h.sent)
-            ∙ ap (λ (l : List Seat). record { part = record base { out = without n (part_of m).out }; inflight = m.whole.inflight; seats = l }) (seats_of_without n state.out m.whole.slots h.seated)
-            ∙ ap (λ (moved : Moved A). done_standing n moved.state (standing_of m)) (sym is);
+        standing = ap (λ (w : Whole). standing_of (record m { whole = w; journal = j; room = r; out = out })) (done_whole m.whole new n memory does slots)
+            ∙ ap (λ (l : List Sent). standing_of (record m { whole = record m.whole { state = done_state n state new.state; slots = slots_without state.out m.whole.slots n }; journal = j; room = r; out = l })) left
+            ∙ ap (λ (l : List Entry). record { part = record base { out = l }; inflight = m.whole.inflight; seats = seats_of (jobs_without n state.out) (slots_without state.out m.whole.slots n); journal = j; room = r }) (entries_without n state.out m.out h.sent)
+            ∙ ap (λ (l : List Seat). record { part = record base { out = without n (part_of m).out }; inflight = m.whole.inflight; seats = l; journal = j; room = r }) (seats_of_without n state.out m.whole.slots h.seated)
+            ∙ ap (λ (moved : Moved A). done_standing n moved.state (with_log j r (standing_of m))) (sym is);
         told = ap (λ (moved : Moved A). moved.answer) is;
       }

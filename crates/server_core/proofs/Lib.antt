@@ -19,3 +19,5 @@ pub mod Goings
 pub mod Counting
 pub mod Counted
 pub mod Tagged
+pub mod NextDue
+pub mod Journals

@@ -1,19 +1,23 @@
 -- From a call of the export alone to the same call with its tags.
-use Rattle.std.proofs.Common.{◌≡◌, ℕ, List, [], ◌∷◌, map, length, refl, sym, ◌∙◌, ap, subst, arith}
+use Rattle.std.proofs.Common.{◌≡◌, ℕ, Option, Some, None, Result, Ok, Err, List, [], ◌∷◌, map, length, refl, sym, ◌∙◌, ap, subst, arith}
 use Rattle.std.proofs.lemmas.List.{length-map}
-use Rattle.std.specs.Prelude.{not, ◌==◌, ◌&&◌, slice_get}
+use Rattle.std.specs.Prelude.{IsErrOf, IfOk, OnErr, not, ◌==◌, ◌&&◌, ◌^◌, nat_le, filter, slice_get}
+use Rattle.nbd_wire.specs.Grammar.{RequestMessage}
 use Rattle.nbd_commands.specs.Terms.{Terms}
 use Rattle.tag_clock.specs.declared.Tags.{Tags}
-use Rattle.reply_box.specs.Sessions.{is_left_at, is_here_at, outbox_at}
+use Rattle.reply_box.specs.Sessions.{is_open_at, is_left_at, is_here, is_here_at, outbox_at}
 use Rattle.lone_export.specs.Alone.{Alone, Job, Moved, own_step, outstanding}
-use Rattle.lone_export.specs.Lone.{Whole, Does}
+use Rattle.lone_export.specs.Lone.{Whole, Does, DoesOr, MayArrive, MayAttach, attach_said}
+use Rattle.lone_export.specs.declared.refusal.NotAttached.{NotAttached}
+use Rattle.lone_export.specs.declared.refusal.NotAttached.TheVariants.{Refused, NoMemory}
 use Rattle.lone_export.specs.declared.step.Step.{Step}
-use Rattle.lone_export.specs.declared.step.Step.TheVariants.{Take}
+use Rattle.lone_export.specs.declared.step.Step.TheVariants.{Attach, Take, Leave, Gone}
 use Rattle.lone_export.specs.declared.step.StepAnswer.{StepAnswer}
 use Rattle.lone_export.proofs.Cases.{if_one, some_one}
+use Rattle.export_cell.specs.Journal.{Journal, Cell, IsReserved}
 use Rattle.server_table.specs.Parts.{alone_of, job_of_entry}
 use Rattle.server_core.specs.declared.member.Sent.{Sent}
-use Rattle.server_core.specs.Members.{Kept, entries_of, sent_tags, part_of, standing_of, IsMember, with_state, own, Went}
+use Rattle.server_core.specs.Members.{Kept, entries_of, sent_tags, part_of, standing_of, IsMember, with_state, with_log, cell_at, IsReservedAt, IsLetIn, MayOpen, WantsMemory, own, Went, WentOr}
 
 -- ---- the requests with their tags, and without
 pub jobs_back : (jobs : List Job) (tags : List Tags) → length tags ≡ length jobs → map job_of_entry (entries_of jobs tags) ≡ jobs
@@ -51,6 +55,15 @@ module _ (A : Type 0) where
       (some_one (Still state) (slice_get (outbox_at state.sessions s) 0) (λ reply h. refl)
       (if_one (Still state) (is_left_at state.sessions s && outstanding state s == 0) refl refl))
 
+  pub keeps_attach : (terms : Terms) (state : Alone) → KeepsRequests {A = A} terms state Attach
+  keeps_attach terms state = if_one (Still state) (nat_le (2 ^ 56) state.count) refl (if_one (Still state) (length (filter is_here state.sessions) == 64) refl refl)
+
+  pub keeps_leave : (terms : Terms) (state : Alone) (s : ℕ) → KeepsRequests {A = A} terms state (Leave s)
+  keeps_leave terms state s = if_one (Still state) (not (is_open_at state.sessions s)) refl refl
+
+  pub keeps_gone : (terms : Terms) (state : Alone) (s : ℕ) → KeepsRequests {A = A} terms state (Gone s)
+  keeps_gone terms state s = if_one (Still state) (not (is_here_at state.sessions s)) refl refl
+
 module _ {A : Type 0} where
   -- what stands of the export after the call
   same_whole : (old new : Whole) (step : Step A) (answer : StepAnswer A) → Does old new step answer → new.slots ≡ old.slots → KeepsRequests old.terms old.state step → new ≡ record old { state = seated old.state new.state }
@@ -65,16 +78,70 @@ module _ {A : Type 0} where
   own_is : (m : Kept) → IsMember m → (step : Step A) → own (standing_of m) step ≡ own_step m.whole.terms m.whole.state step
   own_is m h step = ap (λ (s : Alone). own_step m.whole.terms s step) (alone_back m h)
 
-  pub went : (m : Kept) (new : Whole) (step : Step A) (answer : StepAnswer A) → IsMember m → Does m.whole new step answer → new.slots ≡ m.whole.slots → KeepsRequests m.whole.terms m.whole.state step → Went (standing_of m) (standing_of (record m { whole = new })) step answer
-  went m new step answer h does slots keeps =
+  pub went : (m : Kept) (new : Whole) (j : Journal) (r : ℕ) (step : Step A) (answer : StepAnswer A) → IsMember m → Does m.whole new step answer → new.slots ≡ m.whole.slots → KeepsRequests m.whole.terms m.whole.state step → Went (standing_of m) (standing_of (record m { whole = new; journal = j; room = r })) step answer
+  went m new j r step answer h does slots keeps =
       let is = own_is m h step ∙ does.did in
       record {
-        standing = ap (λ (w : Whole). standing_of (record m { whole = w })) (same_whole m.whole new step answer does slots keeps)
-            ∙ ap (λ (moved : Moved A). with_state moved.state (standing_of m)) (sym is);
+        standing = ap (λ (w : Whole). standing_of (record m { whole = w; journal = j; room = r })) (same_whole m.whole new step answer does slots keeps)
+            ∙ ap (λ (moved : Moved A). with_state moved.state (with_log j r (standing_of m))) (sym is);
         told = ap (λ (moved : Moved A). moved.answer) (sym is);
       }
 
-  pub went_kept : (m : Kept) (new : Whole) (step : Step A) (answer : StepAnswer A) → IsMember m → Does m.whole new step answer → new.slots ≡ m.whole.slots → KeepsRequests m.whole.terms m.whole.state step → IsMember (record m { whole = new })
-  went_kept m new step answer h does slots keeps =
-      subst (λ (w : Whole). IsMember (record m { whole = w })) (sym (same_whole m.whole new step answer does slots keeps))
+  pub went_kept : (m : Kept) (new : Whole) (j : Journal) (r : ℕ) (step : Step A) (answer : StepAnswer A) → IsMember m → Does m.whole new step answer → new.slots ≡ m.whole.slots → KeepsRequests m.whole.terms m.whole.state step → IsMember (record m { whole = new; journal = j; room = r })
+  went_kept m new j r step answer h does slots keeps =
+      subst (λ (w : Whole). IsMember (record m { whole = w; journal = j; room = r })) (sym (same_whole m.whole new step answer does slots keeps))
       (record { tagged = h.tagged; sent = h.sent; seated = h.seated; r_interval = h.r_interval; interval = h.interval; p_interval = h.p_interval; few = h.few; waiting_room = h.waiting_room; out_room = h.out_room })
+
+-- ---- the journal beside it
+-- what is kept of the requests doesn't depend on the journal
+pub relogged : (m : Kept) (j : Journal) (r : ℕ) → IsMember m → IsMember (record m { journal = j; room = r })
+relogged m j r h = record { tagged = h.tagged; sent = h.sent; seated = h.seated; r_interval = h.r_interval; interval = h.interval; p_interval = h.p_interval; few = h.few; waiting_room = h.waiting_room; out_room = h.out_room }
+
+pub logged_standing : (m : Kept) (new : Whole) (j : Journal) (r : ℕ) → new ≡ m.whole → standing_of (record m { whole = new; journal = j; room = r }) ≡ with_log j r (standing_of m)
+logged_standing m new j r is = ap (λ (w : Whole). standing_of (record m { whole = w; journal = j; room = r })) is
+
+abbrev pub cell_in : Kept → Cell
+cell_in m = record { live = m.whole; journal = m.journal; room = m.room }
+
+-- the same cell, with another state and no slots
+abbrev cell_with : Kept → Alone → Cell
+cell_with m state = record { live = record { terms = m.whole.terms; inflight = m.whole.inflight; state = state; slots = [] }; journal = m.journal; room = m.room }
+
+pub reserved_at : (m : Kept) (s : ℕ) (q : RequestMessage) (kept : Option RequestMessage) → IsMember m → IsReserved (cell_in m) s q kept → IsReservedAt (standing_of m) s q kept
+reserved_at m s q None h not_so = subst (λ (state : Alone). IsReserved (cell_with m state) s q None) (sym (alone_back m h)) not_so
+reserved_at m s q (Some kept) h so = subst (λ (state : Alone). IsReserved (cell_with m state) s q (Some kept)) (sym (alone_back m h)) (so.0, so.1, record { few = so.2.few; room = so.2.room })
+
+pub reserved_in : (m : Kept) (s : ℕ) (q : RequestMessage) (kept : Option RequestMessage) → IsMember m → IsReservedAt (standing_of m) s q kept → IsReserved (cell_in m) s q kept
+reserved_in m s q None h not_so = subst (λ (state : Alone). IsReserved (cell_with m state) s q None) (alone_back m h) not_so
+reserved_in m s q (Some kept) h at =
+    let so : IsReserved (cell_with m m.whole.state) s q (Some kept) = subst (λ (state : Alone). IsReserved (cell_with m state) s q (Some kept)) (alone_back m h) at in
+    (so.0, so.1, record { few = so.2.few; room = so.2.room })
+
+pub let_in_at : (m : Kept) (s : ℕ) → IsMember m → MayArrive m.whole s (Ok tt) → IsLetIn (standing_of m) s
+let_in_at m s h may = subst (λ (state : Alone). MayArrive (cell_with m state).live s (Ok tt)) (sym (alone_back m h)) may
+
+-- ---- what a call that may want memory answers
+pub if_ok : {T E : Type 0} (P Q : T → Type 0) (r : Result T E) → ((x : T) → P x → Q x) → IfOk r P → IfOk r Q
+if_ok P Q (Ok x) f p = f x p
+if_ok P Q (Err e) f p = tt
+
+pub on_err : {T E : Type 0} (P Q : Type 0) (r : Result T E) → (P → Q) → OnErr r P → OnErr r Q
+on_err P Q (Ok x) f p = tt
+on_err P Q (Err e) f p = f p
+
+pub same_kept : (m : Kept) (new : Whole) (j : Journal) (r : ℕ) → IsMember m → new ≡ m.whole → IsMember (record m { whole = new; journal = j; room = r })
+same_kept m new j r h is = subst (λ (w : Whole). IsMember (record m { whole = w; journal = j; room = r })) (sym is) (relogged m j r h)
+
+module _ {A : Type 0} where
+  pub went_or : (m : Kept) (new : Whole) (j : Journal) (r : ℕ) (step : Step A) (answer : Option (StepAnswer A)) → IsMember m → DoesOr m.whole new step answer → new.slots ≡ m.whole.slots → KeepsRequests m.whole.terms m.whole.state step → WentOr (standing_of m) (standing_of (record m { whole = new; journal = j; room = r })) step answer
+  went_or m new j r step None h same slots keeps = logged_standing m new j r same
+  went_or m new j r step (Some answer) h does slots keeps = went m new j r step answer h does slots keeps
+
+  pub went_or_kept : (m : Kept) (new : Whole) (j : Journal) (r : ℕ) (step : Step A) (answer : Option (StepAnswer A)) → IsMember m → DoesOr m.whole new step answer → new.slots ≡ m.whole.slots → KeepsRequests m.whole.terms m.whole.state step → IsMember (record m { whole = new; journal = j; room = r })
+  went_or_kept m new j r step None h same slots keeps = same_kept m new j r h same
+  went_or_kept m new j r step (Some answer) h does slots keeps = went_kept m new j r step answer h does slots keeps
+
+pub wants : (m : Kept) (r : Result ℕ NotAttached) → (IsErrOf r NoMemory → MayAttach m.whole (Ok tt)) → WantsMemory (standing_of m) r
+wants m (Ok n) may = tt
+wants m (Err (Refused e)) may = tt
+wants m (Err NoMemory) may = let h = may refl in record { young = h.0; few = h.1 }

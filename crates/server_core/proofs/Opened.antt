@@ -12,7 +12,8 @@ use Rattle.server_table.specs.Parts.{Part, rows_from, side_of}
 use Rattle.server_table.specs.Order.{AllParts, heads}
 use Rattle.server_core.specs.Kept.{AreShort, IsPart, LastKind, total, outs}
 use Rattle.server_core.specs.Members.{Standing, Seat, opening_part, opening_standing}
-use Rattle.server_core.specs.Served.{parts, served_of, AllMembers, IsServed, opening_served, setup_for}
+use Rattle.export_cell.specs.Journal.{Journal, opening_journal}
+use Rattle.server_core.specs.Served.{parts, journals_of, served_of, AllMembers, IsServed, opening_served, setup_for}
 
 abbrev pub opened : ℕ → List Export → List Standing
 opened inflight exports = map (λ export. opening_standing inflight (terms_of export)) exports
@@ -78,6 +79,10 @@ new_seats : (inflight : ℕ) (xs : List Export) → map (λ (m : Standing). m.se
 new_seats inflight [] = refl
 new_seats inflight (x ∷ xs) = ap (λ (l : List (List Seat)). [] ∷ l) (new_seats inflight xs)
 
+new_journals : (inflight : ℕ) (xs : List Export) → journals_of (opened inflight xs) ≡ map opening_journal (map terms_of xs)
+new_journals inflight [] = refl
+new_journals inflight (x ∷ xs) = ap (λ (l : List Journal). opening_journal (terms_of x) ∷ l) (new_journals inflight xs)
+
 new_room : (inflight : ℕ) (xs : List Export) → AllMembers (λ m. m.inflight ≡ inflight) (opened inflight xs)
 new_room inflight [] = tt
 new_room inflight (x ∷ xs) = (refl, new_room inflight xs)
@@ -86,10 +91,11 @@ pub opened_served : (inflight : ℕ) (xs : List Export) → served_of (opened in
 opened_served inflight xs =
     let ms = opened inflight xs in
     let terms = map terms_of xs in
-    ap (λ l. record { setup = record { exports = l; inflight = inflight }; table = record { rows = rows_from 0 (parts ms); sides = map side_of (parts ms); now = 0 }; seats = map (λ (m : Standing). m.seats) ms }) (new_setup inflight xs)
-    ∙ ap (λ l. record { setup = record { exports = terms; inflight = inflight }; table = record { rows = l; sides = map side_of (parts ms); now = 0 }; seats = map (λ (m : Standing). m.seats) ms }) (new_rows inflight 0 xs)
-    ∙ ap (λ l. record { setup = record { exports = terms; inflight = inflight }; table = record { rows = []; sides = l; now = 0 }; seats = map (λ (m : Standing). m.seats) ms }) (new_sides inflight xs)
-    ∙ ap (λ l. record { setup = record { exports = terms; inflight = inflight }; table = record { rows = []; sides = map opening_side terms; now = 0 }; seats = l }) (new_seats inflight xs)
+    ap (λ l. record { setup = record { exports = l; inflight = inflight }; table = record { rows = rows_from 0 (parts ms); sides = map side_of (parts ms); now = 0 }; seats = map (λ (m : Standing). m.seats) ms; journals = journals_of ms }) (new_setup inflight xs)
+    ∙ ap (λ l. record { setup = record { exports = terms; inflight = inflight }; table = record { rows = l; sides = map side_of (parts ms); now = 0 }; seats = map (λ (m : Standing). m.seats) ms; journals = journals_of ms }) (new_rows inflight 0 xs)
+    ∙ ap (λ l. record { setup = record { exports = terms; inflight = inflight }; table = record { rows = []; sides = l; now = 0 }; seats = map (λ (m : Standing). m.seats) ms; journals = journals_of ms }) (new_sides inflight xs)
+    ∙ ap (λ l. record { setup = record { exports = terms; inflight = inflight }; table = record { rows = []; sides = map opening_side terms; now = 0 }; seats = l; journals = journals_of ms }) (new_seats inflight xs)
+    ∙ ap (λ l. record { setup = record { exports = terms; inflight = inflight }; table = record { rows = []; sides = map opening_side terms; now = 0 }; seats = map (λ terms. []) terms; journals = l }) (new_journals inflight xs)
 
 pub kept_new : (inflight asked : ℕ) (xs : List Export) (slots : List (Option Tags)) → length xs ≤ 64 → All (λ (m : Standing). AreShort m.part.terms) (opened inflight xs) → slots ≡ replicate (length xs) None → asked ≡ 0 → IsServed (opened inflight xs) slots asked 0 inflight 0
 kept_new inflight asked xs slots few short is none_asked =

@@ -130,6 +130,8 @@ picked_is Weight p = refl
 abbrev pub kept_picking : Kept → Option ℕ → Job → List Job → List Tags → Sent → ℕ → ℕ → Kept
 kept_picking m due job rest ts sent slot room = record {
   whole = record m.whole { state = record m.whole.state { waiting = rest; out = m.whole.state.out ++ job ∷ []; count = m.whole.state.count + 1 }; slots = m.whole.slots ++ slot ∷ [] };
+  journal = m.journal;
+  room = m.room;
   share = share_credited_by due m.share;
   interval = m.interval;
   waiting = waiting_credited due ts;
@@ -206,10 +208,10 @@ pub record Picking (A : Type 0) (m : Kept) (new : Whole) (number slot : ℕ) (t 
   pub popped : m.waiting ≡ t ∷ ts
 
 abbrev pub kept_after : Kept → Phase → Whole → ℕ → Tags → List Tags → ℕ → Kept
-kept_after m phase new number t ts room = record { whole = new; share = share_credited_by (credit_due phase m.interval) m.share; interval = m.interval; waiting = waiting_credited (credit_due phase m.interval) ts; waiting_room = room; out = m.out ++ record { number = number; tags = t } ∷ []; out_room = m.out_room }
+kept_after m phase new number t ts room = record { whole = new; journal = m.journal; room = m.room; share = share_credited_by (credit_due phase m.interval) m.share; interval = m.interval; waiting = waiting_credited (credit_due phase m.interval) ts; waiting_room = room; out = m.out ++ record { number = number; tags = t } ∷ []; out_room = m.out_room }
 
 pub kept_is : (m : Kept) (phase : Phase) (new : Whole) (number : ℕ) (t : Tags) (ts : List Tags) (room out_room : ℕ) (share : Share) (waiting : List Tags) (out : List Sent) → share ≡ share_credited_by (credit_due phase m.interval) m.share → waiting ≡ waiting_credited (credit_due phase m.interval) ts → out ≡ m.out ++ record { number = number; tags = t } ∷ [] → out_room ≡ m.out_room →
-    kept_after m phase new number t ts room ≡ record { whole = new; share = share; interval = m.interval; waiting = waiting; waiting_room = room; out = out; out_room = out_room }
+    kept_after m phase new number t ts room ≡ record { whole = new; journal = m.journal; room = m.room; share = share; interval = m.interval; waiting = waiting; waiting_room = room; out = out; out_room = out_room }
 kept_is m phase new number t ts room out_room share waiting out a b c d =
     ap (λ (x : Share). record (kept_after m phase new number t ts room) { share = x }) (sym a)
     ∙ ap (λ (x : List Tags). record (kept_after m phase new number t ts room) { share = share; waiting = x }) (sym b)
@@ -253,9 +255,9 @@ module _ (A : Type 0) where
       ∙ ap (λ n. seats_of state.out m.whole.slots ++ record { number = n; slot = slot } ∷ []) one.same in
       let below : AllEntries (λ e. e.number < number) (part_of m).out = subst (λ n. AllEntries (λ e. e.number < n) (part_of m).out) one.same (front_below (part_of m).out (entries_of one.rest ts) x (subst (λ (l : List Entry). IsNumbered ((part_of m).out ++ l)) waiting numbered)) in
       record {
-        standing = ap (λ (p : Part). record { part = p; inflight = new.inflight; seats = seats_of new.state.out new.slots }) (part_is m phase new number slot room t ts h pick)
-            ∙ ap (λ i. record { part = part_picked phase (part_of m); inflight = i; seats = seats_of new.state.out new.slots }) pick.does.inflight
-            ∙ ap (λ (l : List Seat). record { part = part_picked phase (part_of m); inflight = m.whole.inflight; seats = l }) seats;
+        standing = ap (λ (p : Part). record { part = p; inflight = new.inflight; seats = seats_of new.state.out new.slots; journal = m.journal; room = m.room }) (part_is m phase new number slot room t ts h pick)
+            ∙ ap (λ i. record { part = part_picked phase (part_of m); inflight = i; seats = seats_of new.state.out new.slots; journal = m.journal; room = m.room }) pick.does.inflight
+            ∙ ap (λ (l : List Seat). record { part = part_picked phase (part_of m); inflight = m.whole.inflight; seats = l; journal = m.journal; room = m.room }) seats;
         number = ap first_number waiting ∙ ap Some one.same;
         held = ap (λ (l : List Seat). slot_in l number) seats ∙ slot_last number slot state.out m.whole.slots (sent_tags m.out) h.seated (sent_length m.out state.out h.sent) below;
       }

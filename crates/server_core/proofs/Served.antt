@@ -31,7 +31,7 @@ use Rattle.server_table.proofs.Sides.{step_attach, step_take, step_leave, step_g
 use Rattle.server_table.proofs.Refused.{no_attach, no_take, no_leave, no_gone, no_room_to_attach}
 use Rattle.server_core.specs.Here.{here, attached}
 use Rattle.server_core.specs.Kept.{IsServer}
-use Rattle.server_core.specs.Members.{Standing, own as own_of, Went, WentOr, WantsMemory}
+use Rattle.server_core.specs.Members.{Standing, own as own_of, logged_as, Went, WentOr, WantsMemory}
 use Rattle.server_core.specs.Served.{parts, served_of, AllMembers, IsServed, Stepped, attach_says, leave_says, gone_says, take_says}
 use Rattle.server_core.proofs.Changed.{kept_seated}
 
@@ -49,6 +49,11 @@ set_back (x ∷ xs) (suc e) m m' at is = ap (λ l. x ∷ l) (set_back xs e m m' 
 
 pub parts_set : (ms : List Standing) (e : ℕ) (m : Standing) → parts (set ms e m) ≡ set (parts ms) e m.part
 parts_set ms e m = map-set (λ (x : Standing). x.part) ms e m
+
+pub parts_back : (ms : List Standing) (e : ℕ) (m m' : Standing) → m ≡ get_or ms e m → m'.part ≡ m.part → parts (set ms e m') ≡ parts ms
+parts_back [] e m m' at is = refl
+parts_back (x ∷ xs) zero m m' at is = ap (λ (p : Part). p ∷ parts xs) (is ∙ ap (λ (y : Standing). y.part) at)
+parts_back (x ∷ xs) (suc e) m m' at is = ap (λ (l : List Part). x.part ∷ l) (parts_back xs e m m' at is)
 
 pub same_setup : (ms : List Standing) (e : ℕ) (m m' : Standing) → m ≡ get_or ms e m → m'.part.terms ≡ m.part.terms → map (λ (p : Part). p.terms) (parts (set ms e m')) ≡ map (λ (p : Part). p.terms) (parts ms)
 same_setup [] e m m' at is = refl
@@ -69,6 +74,13 @@ pub member_at : (P : Standing → Type 0) (ms : List Standing) (e : ℕ) (m : St
 member_at P [] e m all lt at = absurd (omega arith)
 member_at P (x ∷ xs) zero m all lt at = subst P (sym at) all.0
 member_at P (x ∷ xs) (suc e) m all lt at = member_at P xs e m all.1 (omega arith) at
+
+-- of one export only the journal changed
+pub kept_logged : (ms : List Standing) (slots : List (Option Tags)) (asked now inflight served e : ℕ) (m m' : Standing) → IsServed ms slots asked now inflight served → e < length ms → m ≡ get_or ms e m → m' ≡ logged_as m' m → IsServed (set ms e m') slots asked now inflight served
+kept_logged ms slots asked now inflight served e m m' kept lt at is = record {
+  server = subst (λ (l : List Part). IsServer l slots asked now inflight served) (sym (parts_back ms e m m' at (ap (λ (x : Standing). x.part) is))) kept.server;
+  room = members_set (λ (x : Standing). x.inflight ≡ inflight) ms e m' kept.room (ap (λ (x : Standing). x.inflight) is ∙ member_at (λ (x : Standing). x.inflight ≡ inflight) ms e m kept.room lt at);
+}
 
 pub beyond : (ms : List Standing) (e : ℕ) → length ms ≤ e → length (parts ms) ≤ e
 beyond ms e le = subst (λ n. n ≤ e) (sym (length-map ms (λ (x : Standing). x.part))) le
@@ -113,15 +125,15 @@ module _ {A : Type 0} where
   seats_own ms e m m' one said at went = same_seats ms e m m' at (ap (λ (x : Standing). x.seats) went.standing)
 
   -- ---- calls on sessions
-  leave_told : (e : ℕ) (r : Result (Unit {0}) NotOpen) → as_answer e Weight (leave_said r) ≡ leave_says {A = A} (here r)
+  pub leave_told : (e : ℕ) (r : Result (Unit {0}) NotOpen) → as_answer e Weight (leave_said r) ≡ leave_says {A = A} (here r)
   leave_told e (Ok done) = refl
   leave_told e (Err x) = refl
 
-  gone_told : (e : ℕ) (r : Result (Unit {0}) NotOpen) → as_answer e Weight (gone_said r) ≡ gone_says {A = A} (here r)
+  pub gone_told : (e : ℕ) (r : Result (Unit {0}) NotOpen) → as_answer e Weight (gone_said r) ≡ gone_says {A = A} (here r)
   gone_told e (Ok done) = refl
   gone_told e (Err x) = refl
 
-  take_told : (e : ℕ) (r : Result (Taken A) NotOpen) → as_answer e Weight (take_said r) ≡ take_says {A = A} (here r)
+  pub take_told : (e : ℕ) (r : Result (Taken A) NotOpen) → as_answer e Weight (take_said r) ≡ take_says {A = A} (here r)
   take_told e (Ok (taking.Reply r)) = refl
   take_told e (Ok taking.Empty) = refl
   take_told e (Ok taking.End) = refl
@@ -162,13 +174,17 @@ module _ {A : Type 0} where
   stepped_attach ms now inflight e m m' (Err (Refused attaching.Worn)) lt at went may = stepped_own ms now inflight e m m' (Attach e) own.Attach alone.Worn at went (step_attach (parts ms) now inflight e m.part Weight (within_parts ms e lt) (part_there ms e m lt at))
   stepped_attach ms now inflight e m m' (Err (Refused attaching.Full)) lt at went may = stepped_own ms now inflight e m m' (Attach e) own.Attach alone.Full at went (step_attach (parts ms) now inflight e m.part Weight (within_parts ms e lt) (part_there ms e m lt at))
   stepped_attach ms now inflight e m m' (Err NoMemory) lt at same may =
-      subst (λ (l : List Standing). Stepped {A = A} (served_of ms now inflight) (Attach e) (served_of l now inflight) answer.NoMemory) (sym (set_back ms e m m' at same))
-      (record { stepped = no_room_to_attach (parts ms) now inflight e m.part (within_parts ms e lt) (part_there ms e m lt at) may.young may.few; setup = refl })
+      let back : parts (set ms e m') ≡ parts ms = parts_back ms e m m' at (ap (λ (x : Standing). x.part) same) in
+      record {
+        stepped = no_room_to_attach (parts ms) now inflight e m.part (within_parts ms e lt) (part_there ms e m lt at) may.young may.few
+            ∙ ap (λ (l : List Part). record { table = table_of l now; answer = answer.NoMemory }) (sym back);
+        setup = ap (λ (l : List Part). setup_of l inflight) back;
+      }
 
   pub kept_or : (ms : List Standing) (slots : List (Option Tags)) (asked now inflight served e : ℕ) (m m' : Standing) (one : Step A) (said : Option (StepAnswer A)) → IsServed ms slots asked now inflight served → e < length ms → m ≡ get_or ms e m → WentOr m m' one said → IsServed (set ms e m') slots asked now inflight served
-  kept_or ms slots asked now inflight served e m m' one None kept lt at same = subst (λ (l : List Standing). IsServed l slots asked now inflight served) (sym (set_back ms e m m' at same)) kept
+  kept_or ms slots asked now inflight served e m m' one None kept lt at same = kept_logged ms slots asked now inflight served e m m' kept lt at same
   kept_or ms slots asked now inflight served e m m' one (Some said) kept lt at went = kept_own ms slots asked now inflight served e m m' one said kept lt at went
 
   pub seats_or : (ms : List Standing) (e : ℕ) (m m' : Standing) (one : Step A) (said : Option (StepAnswer A)) → m ≡ get_or ms e m → WentOr m m' one said → map (λ (x : Standing). x.seats) (set ms e m') ≡ map (λ (x : Standing). x.seats) ms
-  seats_or ms e m m' one None at same = ap (λ (l : List Standing). map (λ (x : Standing). x.seats) l) (set_back ms e m m' at same)
+  seats_or ms e m m' one None at same = same_seats ms e m m' at (ap (λ (x : Standing). x.seats) same)
   seats_or ms e m m' one (Some said) at went = seats_own ms e m m' one said at went

@@ -35,8 +35,9 @@ module _ {A : Type 0} where
   abbrev pub rise : Answer A → ℕ
   rise said = if is_counted said then 1 else 0
 
--- no more requests are out than may be; each export of the setup has its side, and each row is of an export that is there
+-- no more requests are out than may be; each export of the setup has its side and its journal, and each row is of an export that is there
 pub record IsSound (served : Served) : Type 0 where
   pub within : length (filter (λ row. row.out) served.table.rows) ≤ served.setup.inflight
   pub sides : length served.table.sides ≡ length served.setup.exports
+  pub journals : length served.journals ≡ length served.setup.exports
   pub rows : AllByRecursion (λ row. row.export < length served.setup.exports) served.table.rows

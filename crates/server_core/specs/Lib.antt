@@ -4,6 +4,8 @@ pub mod Members
 pub mod Tickets
 pub mod Here
 pub mod Served
+pub mod Journals
 pub mod Counted
 pub mod Way
 pub mod Run
+pub mod NextDue

@@ -6,7 +6,7 @@ use Rattle.tag_clock.specs.declared.Tags.{Tags}
 use Rattle.tag_clock.specs.declared.Phase.{Phase}
 use Rattle.tag_clock.specs.Clocks.{Share}
 use Rattle.lone_export.specs.Alone.{Alone, Job, Moved, own_step, opening}
-use Rattle.lone_export.specs.Lone.{Whole, Admits, refusal_said}
+use Rattle.lone_export.specs.Lone.{Whole, Admits, MayArrive, refusal_said}
 use Rattle.lone_export.specs.declared.refusal.Arrived.{Arrived}
 use Rattle.lone_export.specs.declared.refusal.Arrived.TheVariants.{Accepted, Answered}
 use Rattle.lone_export.specs.declared.refusal.NotArrived.{NotArrived}
@@ -18,6 +18,7 @@ use Rattle.lone_export.specs.declared.step.StepAnswer.{StepAnswer}
 use Rattle.lone_export.specs.declared.step.Step.TheVariants.{Arrive, Perform}
 use Rattle.lone_export.specs.declared.step.StepAnswer.TheVariants as said
 use Rattle.lone_export.specs.declared.step.StepAnswer.TheVariants.{Performed}
+use Rattle.export_cell.specs.Journal.{Journal, Cell, IsReserved, opening_journal}
 use Rattle.server_table.specs.Parts.{Entry, Part, alone_of, with_alone, performed_part}
 use Rattle.server_table.specs.Picks.{part_picked}
 use Rattle.server_table.specs.Ways.{part_shifted, part_tags, accepted_part}
@@ -28,26 +29,31 @@ pub record Seat : Type 0 where
   pub number : ℕ
   pub slot : ℕ
 
--- an export of a server: its part of the table, how many of its requests may be out, and the seats of those that are
+-- an export of a server: its part of the table, how many of its requests may be out, the seats of those that are, its
+-- journal, and how many steps the log has room for
 pub record Standing : Type 0 where
   pub part : Part
   pub inflight : ℕ
   pub seats : List Seat
+  pub journal : Journal
+  pub room : ℕ
 
 abbrev pub opening_part : Terms → Part
 opening_part terms = record { terms = terms; image = (opening terms).image; waiting = []; out = []; next = 0; last_r = None; last_l = None; last_p = None; sessions = []; count = 0 }
 
 abbrev pub opening_standing : ℕ → Terms → Standing
-opening_standing inflight terms = record { part = opening_part terms; inflight = inflight; seats = [] }
+opening_standing inflight terms = record { part = opening_part terms; inflight = inflight; seats = []; journal = opening_journal terms; room = 0 }
 
 -- the slot of the request of that number
 abbrev pub slot_in : List Seat → ℕ → Option ℕ
 slot_in [] n = None
 slot_in (seat ∷ seats) n = if seat.number == n then Some seat.slot else slot_in seats n
 
--- ---- as it is kept: the export alone, and the tags beside it
+-- ---- as it is kept: the export alone with its journal, and the tags beside it
 pub record Kept : Type 0 where
   pub whole : Whole
+  pub journal : Journal
+  pub room : ℕ
   pub share : Share
   pub interval : Option ℕ
   pub waiting : List Tags
@@ -83,7 +89,7 @@ part_of m = record {
 }
 
 abbrev pub standing_of : Kept → Standing
-standing_of m = record { part = part_of m; inflight = m.whole.inflight; seats = seats_of m.whole.state.out m.whole.slots }
+standing_of m = record { part = part_of m; inflight = m.whole.inflight; seats = seats_of m.whole.state.out m.whole.slots; journal = m.journal; room = m.room }
 
 -- each request has its tags, and there is room for as many as there may be
 pub record IsMember (m : Kept) : Type 0 where
@@ -101,18 +107,27 @@ pub record IsMember (m : Kept) : Type 0 where
 abbrev pub with_state : Alone → Standing → Standing
 with_state state standing = record standing { part = with_alone state standing.part }
 
+-- the same export, with another journal and another room in its log
+abbrev pub with_log : Journal → ℕ → Standing → Standing
+with_log journal room standing = record standing { journal = journal; room = room }
+
+-- the export before a call, with the journal and the room that the call left
+abbrev pub logged_as : Standing → Standing → Standing
+logged_as new old = with_log new.journal new.room old
+
 module _ {A : Type 0} where
   abbrev pub own : Standing → Step A → Moved A
   own standing step = own_step standing.part.terms (alone_of standing.part) step
 
-  -- a call that is this step of the export alone, with this answer, and leaves its requests as they are
+  -- a call that is this step of the export alone, with this answer, and leaves its requests as they are; of its journal
+  -- other clauses speak, here and below
   pub record Went (old new : Standing) (step : Step A) (answer : StepAnswer A) : Type 0 where
-    pub standing : new ≡ with_state (own old step).state old
+    pub standing : new ≡ with_state (own old step).state (logged_as new old)
     pub told : answer ≡ (own old step).answer
 
-  -- the same, or nothing at all where there was no answer
+  -- the same, or nothing but the journal changed where there was no answer
   abbrev pub WentOr : Standing → Standing → Step A → Option (StepAnswer A) → Type 0
-  WentOr old new step None = new ≡ old
+  WentOr old new step None = new ≡ logged_as new old
   WentOr old new step (Some answer) = Went old new step answer
 
 -- a session may be opened
@@ -131,12 +146,12 @@ abbrev pub seats_without : ℕ → List Seat → List Seat
 seats_without n seats = filter (λ seat. not (seat.number == n)) seats
 
 abbrev pub done_standing : ℕ → Alone → Standing → Standing
-done_standing n state standing = record { part = performed_part n state standing.part; inflight = standing.inflight; seats = seats_without n standing.seats }
+done_standing n state standing = record standing { part = performed_part n state standing.part; seats = seats_without n standing.seats }
 
 module _ (A : Type 0) where
   -- the request of this number was out, and is done as it is of the export alone
   pub record Performs (old new : Standing) (n : ℕ) (memory : Bool) : Type 0 where
-    pub standing : new ≡ done_standing n (own {A = A} old (Perform n memory)).state old
+    pub standing : new ≡ done_standing n (own {A = A} old (Perform n memory)).state (logged_as new old)
     pub told : (own {A = A} old (Perform n memory)).answer ≡ Performed memory
 
 -- ---- a request is picked
@@ -145,11 +160,11 @@ first_number [] = None
 first_number (entry ∷ entries) = Some entry.number
 
 abbrev pub picked_standing : Phase → Seat → Standing → Standing
-picked_standing phase seat standing = record { part = part_picked phase standing.part; inflight = standing.inflight; seats = standing.seats ++ seat ∷ [] }
+picked_standing phase seat standing = record standing { part = part_picked phase standing.part; seats = standing.seats ++ seat ∷ [] }
 
 -- the first request that waited is out, in its seat
 pub record Picks (old new : Standing) (phase : Phase) (seat : Seat) : Type 0 where
-  pub standing : new ≡ picked_standing phase seat old
+  pub standing : new ≡ picked_standing phase seat (logged_as new old)
   pub number : first_number old.part.waiting ≡ Some seat.number
   pub held : slot_in new.seats seat.number ≡ Some seat.slot
 
@@ -161,10 +176,26 @@ accepted_standing s t q standing = record standing { part = accepted_part s q (p
 abbrev pub AdmitsAt : Standing → ℕ → RequestMessage → Type 0
 AdmitsAt standing s q = Admits standing.part.terms (alone_of standing.part) s q
 
+-- the export alone with its journal; its slots stand in the seats
+abbrev pub cell_at : Standing → Cell
+cell_at standing = record {
+  live = record { terms = standing.part.terms; inflight = standing.inflight; state = alone_of standing.part; slots = [] };
+  journal = standing.journal;
+  room = standing.room;
+}
+
+-- the export refuses no request of session s before it is looked at
+abbrev pub IsLetIn : Standing → ℕ → Type 0
+IsLetIn standing s = MayArrive (cell_at standing).live s (Ok tt)
+
+-- there is room for a request that is let in, and this copy of it; no copy of one that isn't
+abbrev pub IsReservedAt : Standing → ℕ → RequestMessage → Option RequestMessage → Type 0
+IsReservedAt standing s q kept = IsReserved (cell_at standing) s q kept
+
 -- it waits with its tags exactly where it is admitted; else the call is the step of the export alone
 abbrev pub Arrives : {A : Type 0} → Standing → Standing → ℕ → ℕ → RequestMessage → Result Arrived (NotArrived A) → Type 0
 Arrives old new s t q (Ok (Accepted number limit_tag)) =
-    AdmitsAt old s q × (new ≡ accepted_standing s t q old) × (number ≡ old.part.next) × (limit_tag ≡ (part_tags old.part t).l)
+    AdmitsAt old s q × (new ≡ accepted_standing s t q (logged_as new old)) × (number ≡ old.part.next) × (limit_tag ≡ (part_tags old.part t).l)
 Arrives {A} old new s t q (Ok (Answered error)) = (AdmitsAt old s q → ⊥) × Went {A = A} old new (Arrive s t q) (said.Answered error)
 Arrives {A} old new s t q (Err e) = (AdmitsAt old s q → ⊥) × Went {A = A} old new (Arrive s t q) (refusal_said e.refusal)
 

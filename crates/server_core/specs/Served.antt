@@ -14,6 +14,7 @@ use Rattle.server_table.specs.Table.{Table, Setup, opening_table, waits_in}
 use Rattle.server_table.specs.Steps.{step}
 use Rattle.server_table.specs.Shares.{mark_of}
 use Rattle.server_table.specs.Parts.{Part, table_of, setup_of}
+use Rattle.export_cell.specs.Journal.{Journal, opening_journal}
 use Rattle.server_core.specs.Kept.{IsServer}
 use Rattle.server_core.specs.Members.{Standing, Seat, slot_in}
 use Rattle.server_core.specs.Tickets.{Place}
@@ -29,18 +30,20 @@ use Rattle.server_core.specs.declared.refusal.NotAttached.TheVariants as attachi
 use Rattle.server_core.specs.declared.refusal.SessionRefusal.{SessionRefusal}
 use Rattle.server_core.specs.declared.refusal.SessionRefusal.TheVariants as refusing
 
--- the table of all exports with what it is set up with, and by export the seats of the requests that are out
+-- the table of all exports with what it is set up with, and by export the seats of the requests that are out and the
+-- journal
 pub record Served : Type 0 where
   pub setup : Setup
   pub table : Table
   pub seats : List (List Seat)
+  pub journals : List Journal
 
 abbrev pub setup_for : Offer → Setup
 setup_for offer = record { exports = map terms_of offer.exports; inflight = offer.inflight }
 
 -- a server before its first event
 abbrev pub opening_served : Setup → Served
-opening_served setup = record { setup = setup; table = opening_table setup; seats = map (λ terms. []) setup.exports }
+opening_served setup = record { setup = setup; table = opening_table setup; seats = map (λ terms. []) setup.exports; journals = map opening_journal setup.exports }
 
 -- the request is out, in that slot
 abbrev pub Holds : Served → Place → Type 0
@@ -54,8 +57,11 @@ waiting_tags e table = map (λ row. (row.number, tags_of row)) (filter (waits_in
 abbrev pub parts : List Standing → List Part
 parts members = map (λ member. member.part) members
 
+abbrev pub journals_of : List Standing → List Journal
+journals_of members = map (λ member. member.journal) members
+
 abbrev pub served_of : List Standing → ℕ → ℕ → Served
-served_of members now inflight = record { setup = setup_of (parts members) inflight; table = table_of (parts members) now; seats = map (λ member. member.seats) members }
+served_of members now inflight = record { setup = setup_of (parts members) inflight; table = table_of (parts members) now; seats = map (λ member. member.seats) members; journals = journals_of members }
 
 abbrev pub AllMembers : (Standing → Type 0) → List Standing → Type 0
 AllMembers P [] = ⊤
@@ -103,6 +109,7 @@ module _ {A : Type 0} where
   arrive_refusal_says arriving.NotOpen = said.NotOpen
   arrive_refusal_says arriving.Worn = said.Worn
   arrive_refusal_says arriving.Hold = said.Hold
+  arrive_refusal_says arriving.NoMemory = said.NoMemory
 
   abbrev pub arrive_says : Result Arrived (NotArrived A) → Answer A
   arrive_says (Ok (arrival.Accepted n tag)) = said.Accepted n tag

@@ -1,6 +1,7 @@
 //! A server by its events.
 ghost use Rattle.std.specs.Prelude.{◌≡◌};
 ghost use Rattle.server_table.specs.declared.event.Event.TheVariants as event;
+ghost use Rattle.server_core.specs.Journals.{EventMoves};
 ghost use Rattle.server_core.specs.Served.{Stepped, attach_says, arrive_says, dispatch_says, take_says, leave_says, gone_says, refusal_says};
 
 use crate::refusal::{ArriveRefusal, NotArrived, NotAttached, SessionRefusal};
@@ -37,6 +38,7 @@ fn arrive_answer<A: Allocator>(said: Result<Arrived, NotArrived<A>>) -> Answer<A
             ArriveRefusal::NotOpen => Answer::NotOpen,
             ArriveRefusal::Worn => Answer::Worn,
             ArriveRefusal::Hold => Answer::Hold,
+            ArriveRefusal::NoMemory => Answer::NoMemory,
         },
     }
 }
@@ -95,7 +97,8 @@ fn gone_answer<A: Allocator>(said: Result<(), SessionRefusal>) -> Answer<A>
 impl<I: Image, E: Eligibility<Alloc = I::Alloc>> Server<I, E> {
     /// One event, and its answer. A request to be performed is named by its number.
     pub fn event(&mut self, what: Event<I::Alloc>) -> Answer<I::Alloc>
-        ensures { Stepped {A = I.Alloc} self.old what self.new result }
+        ensures step { Stepped {A = I.Alloc} self.old what self.new result }
+        ensures journals { EventMoves {A = I.Alloc} self.old what self.new result }
     {
         match what {
             Event::Attach { export } => attach_answer(self.attach(export)),
@@ -127,7 +130,8 @@ impl<I: Image, E: Eligibility<Alloc = I::Alloc>> Server<I, E> {
 
     /// The request that is in service under this number is done.
     fn perform_number(&mut self, export: u32, number: u64) -> Answer<I::Alloc>
-        ensures { Stepped {A = I.Alloc} self.old (event.Perform export number) self.new result }
+        ensures step { Stepped {A = I.Alloc} self.old (event.Perform export number) self.new result }
+        ensures journals { EventMoves {A = I.Alloc} self.old (event.Perform export number) self.new result }
     {
         let Some(ticket) = self.find(export, number) else {
             return Answer::NotOut;

@@ -1,14 +1,18 @@
-//! One export of a server: the export alone, and beside it the tags of its requests.
-ghost use Rattle.std.specs.Prelude.{◌≡◌, ◌≢◌, ◌<◌, ◌++◌, length, map, option_map, slice_get, ◌↔◌, IsTrue, IfErr, IsSome, ◌==◌, not, filter, find, is_some, IfOk, IfSome, IfNone, Some};
+//! One export of a server: the export with its journal, and beside it the tags of its requests.
+ghost use Rattle.std.specs.Prelude.{◌≡◌, ◌≢◌, ◌<◌, ◌++◌, length, map, option_map, slice_get, ◌↔◌, IsTrue, IfErr, IsSome, ◌==◌, not, filter, find, is_some, is_ok, IfOk, IfSome, IfNone, OnErr, Some};
 ghost use Rattle.std.specs.Vec.{vec_capacity};
 ghost use Rattle.nbd_commands.specs.Terms.{terms_of};
 ghost use Rattle.nbd_commands.specs.Exports.{IsWithin};
-ghost use Rattle.lone_export.specs.Lone.{leave_said, gone_said, take_said, attach_said};
+ghost use Rattle.lone_export.specs.Lone.{leave_said, gone_said, take_said, attach_said, arrived_said};
+ghost use Rattle.lone_export.specs.declared.step.StepAnswer.TheVariants.{Performed};
+ghost use Rattle.export_cell.specs.Journal.{JournalMove, IsAdvanced, IsJournal, surplus, reserved, noted_as};
+ghost use Rattle.server_table.specs.Parts.{alone_of};
 
 use crate::tagging::{give_credit, shift_all};
+use export_cell::ExportCell;
 use export_queue::Picked;
 use export_store::Image;
-use lone_export::{Arrived, Lone, NotArrived, NotAttached, Step, StepAnswer};
+use lone_export::{Arrived, NotArrived, NotAttached, Step, StepAnswer};
 use nbd_base::NoMemory;
 use nbd_commands::ExportConfig;
 use nbd_wire::Request;
@@ -28,7 +32,7 @@ pub(crate) struct Sent {
 /// An export, with the tags of its requests in the order of their numbers.
 #[derive(Drop)]
 pub(crate) struct Member<I: Image> {
-    lone: Lone<I>,
+    cell: ExportCell<I>,
     shares: ShareClock,
     r_interval: Option<u64>,
     waiting: VecDeque<Tags, I::Alloc>,
@@ -42,13 +46,13 @@ impl<I: Image> Model for Member<I> {
 
     ghost Value = { Standing };
 
-    ghost view = { λ m. standing_of (record { whole = m.lone; share = m.shares; interval = m.r_interval; waiting = m.waiting.items; waiting_room = deque_capacity m.waiting; out = m.out.items; out_room = vec_capacity m.out }) };
+    ghost view = { λ m. standing_of (record { whole = m.cell.live; journal = m.cell.journal; room = m.cell.room; share = m.shares; interval = m.r_interval; waiting = m.waiting.items; waiting_room = deque_capacity m.waiting; out = m.out.items; out_room = vec_capacity m.out }) };
 
-    ghost invariant = { λ m. IsMember (record { whole = m.lone; share = m.shares; interval = m.r_interval; waiting = m.waiting.items; waiting_room = deque_capacity m.waiting; out = m.out.items; out_room = vec_capacity m.out }) };
+    ghost invariant = { λ m. IsMember (record { whole = m.cell.live; journal = m.cell.journal; room = m.cell.room; share = m.shares; interval = m.r_interval; waiting = m.waiting.items; waiting_room = deque_capacity m.waiting; out = m.out.items; out_room = vec_capacity m.out }) };
 }
 
 impl<I: Image> Member<I> {
-    ghost use Rattle.server_core.specs.Members.{opening_standing, slot_in, Went, WentOr, WantsMemory, Performs, Picks, AdmitsAt, Arrives, shifted_standing, told_tags};
+    ghost use Rattle.server_core.specs.Members.{opening_standing, slot_in, with_log, logged_as, Went, WentOr, IsLetIn, IsReservedAt, WantsMemory, Performs, Picks, AdmitsAt, Arrives, shifted_standing, told_tags};
     ghost use Rattle.server_table.specs.Ways.{part_shifted};
     ghost use Rattle.server_table.specs.Order.{IsNumbered, head_tags};
     ghost use Rattle.server_table.specs.Picks.{part_picked};
@@ -66,11 +70,11 @@ impl<I: Image> Member<I> {
         let Some(tuning) = Tuning::new(config.reservation(), config.limit(), config.weight()) else {
             unreachable!();
         };
-        let lone = Lone::new(alloc, config, inflight)?;
+        let cell = ExportCell::new(alloc, config, inflight)?;
         let waiting = VecDeque::with_capacity(alloc, config.depth())?;
         let out = Vec::with_capacity(alloc, inflight)?;
         Ok(Member {
-            lone,
+            cell,
             shares: ShareClock::new(tuning.r_interval(), tuning.p_interval()),
             r_interval: tuning.r_interval(),
             waiting,
@@ -80,34 +84,47 @@ impl<I: Image> Member<I> {
 
     /// Nothing more arrives on the session.
     pub(crate) fn leave(&mut self, session: u64) -> Result<(), NotOpen>
-        ensures { Went {A = I.Alloc} self.old self.new (Step.Leave session) (leave_said result) }
+        ensures went { Went {A = I.Alloc} self.old self.new (Step.Leave session) (leave_said result) }
+        ensures journal { JournalMove {A = I.Alloc} self.old.part.terms (Step.Leave session) (Some (leave_said result)) self.old.journal self.new.journal }
     {
-        self.lone.leave(session)
+        self.cell.leave(session)
     }
 
     /// The session is dropped with its replies.
     pub(crate) fn gone(&mut self, session: u64) -> Result<(), NotOpen>
-        ensures { Went {A = I.Alloc} self.old self.new (Step.Gone session) (gone_said result) }
+        ensures went { Went {A = I.Alloc} self.old self.new (Step.Gone session) (gone_said result) }
+        ensures journal { JournalMove {A = I.Alloc} self.old.part.terms (Step.Gone session) (Some (gone_said result)) self.old.journal self.new.journal }
     {
-        self.lone.gone(session)
+        self.cell.gone(session)
     }
 
     /// The oldest reply of the session is taken.
     pub(crate) fn take(&mut self, session: u64) -> Result<Taken<I::Alloc>, NotOpen>
-        ensures { Went {A = I.Alloc} self.old self.new (Step.Take session) (take_said result) }
+        ensures went { Went {A = I.Alloc} self.old self.new (Step.Take session) (take_said result) }
+        ensures journal { JournalMove {A = I.Alloc} self.old.part.terms (Step.Take session) (Some (take_said result)) self.old.journal self.new.journal }
     {
-        self.lone.take(session)
+        self.cell.take(session)
     }
 
     /// Opens a session and gives its number.
     pub(crate) fn attach(&mut self) -> Result<u64, NotAttached>
         ensures step { WentOr {A = I.Alloc} self.old self.new Step.Attach (attach_said result) }
         ensures memory { WantsMemory self.old result }
+        ensures journal { JournalMove {A = I.Alloc} self.old.part.terms Step.Attach (attach_said result) self.old.journal self.new.journal }
     {
-        if let Err(refusal) = self.lone.may_attach() {
-            return Err(NotAttached::Refused(refusal));
-        }
-        self.lone.attach()
+        self.cell.attach()
+    }
+
+    /// The export with its journal.
+    pub(crate) fn cell(&self) -> &ExportCell<I>
+        ensures terms { result.now.live.terms ≡ self.now.part.terms }
+        ensures inflight { result.now.live.inflight ≡ self.now.inflight }
+        ensures live { result.now.live.state ≡ alone_of self.now.part }
+        ensures journal { result.now.journal ≡ self.now.journal }
+        ensures kept { IsJournal result.now.live result.now.journal }
+    {
+        self.cell.laws();
+        &self.cell
     }
 
     /// The slot in which the request of this number is in service.
@@ -115,21 +132,21 @@ impl<I: Image> Member<I> {
         ensures slot { result ≡ slot_in self.now.seats number }
         ensures out { is_some result ≡ is_some (find (λ entry. entry.number == number) self.now.part.out) }
     {
-        self.lone.slot_of(number)
+        self.cell.live().slot_of(number)
     }
 
     /// How many steps were counted.
     pub(crate) fn steps(&self) -> u64
         ensures { result ≡ self.now.part.count }
     {
-        self.lone.steps()
+        self.cell.steps()
     }
 
     /// How many requests wait.
     pub(crate) fn waiting(&self) -> usize
         ensures { result ≡ length self.now.part.waiting }
     {
-        self.lone.waiting()
+        self.cell.live().waiting()
     }
 
     /// The tags of the request that waits at this place, from 0 for the first, with its number.
@@ -139,7 +156,7 @@ impl<I: Image> Member<I> {
         let Some(tags) = tags_in(&self.waiting, place) else {
             return None;
         };
-        let Some(number) = self.lone.number_at(place) else {
+        let Some(number) = self.cell.live().number_at(place) else {
             return None;
         };
         Some((number, tags))
@@ -164,24 +181,46 @@ impl<I: Image> Member<I> {
     pub(crate) fn admits(&self, session: u64, request: &Request<I::Alloc>) -> bool
         ensures { IsTrue result ↔ AdmitsAt self.now session request.now }
     {
-        self.lone.admits(session, request)
+        self.cell.live().admits(session, request)
     }
 
-    /// A request of a session arrives at a moment. One that is refused is handed back.
+    /// Makes room in the log for a request of a session, and for all the steps that it can bring.
+    ///
+    /// The answer is the copy of the request that the log will keep. It is None where the export refuses the request.
+    pub(crate) fn reserve(
+        &mut self,
+        session: u64,
+        request: &Request<I::Alloc>,
+    ) -> Result<Option<Request<I::Alloc>>, NoMemory>
+        ensures standing { self.new ≡ logged_as self.new self.old }
+        ensures reserved { IfOk result (λ kept. IsReservedAt self.new session request.now kept) }
+        ensures journal { IfOk result (λ kept. self.new.journal ≡ reserved self.old.part.terms kept self.old.journal) }
+        ensures no_memory { OnErr result (IsLetIn self.old session
+            × IsAdvanced self.old.part.terms (surplus (length request.now.payload) self.old.journal.log) self.old.journal self.new.journal) }
+    {
+        self.cell.reserve(session, request)
+    }
+
+    /// A request for which there is room arrives at a moment; it is refused where there is no copy of it. One that is
+    /// refused is handed back.
     pub(crate) fn arrive(
         &mut self,
         session: u64,
         moment: Moment,
         request: Request<I::Alloc>,
+        kept: Option<Request<I::Alloc>>,
     ) -> Result<Arrived, NotArrived<I::Alloc>>
         requires in_range { TagsInRange self.old.part }
         requires short { AreShort self.old.part.terms }
+        requires reserved { IsReservedAt self.old session request kept }
         ensures arrives { Arrives {A = I.Alloc} self.old self.new session moment request result }
+        ensures entered { is_ok result ≡ is_some kept }
+        ensures journal { self.new.journal ≡ noted_as {A = I.Alloc} (arrived_said result) (Step.Arrive session moment request) self.old.journal }
         ensures back { IfErr result (λ e. e.request ≡ request) }
     {
         // Asked for what its contract tells: a moment is below 2^62.
         let _ = moment.nanoseconds();
-        match self.lone.arrive(session, moment, request) {
+        match self.cell.enter(session, moment, request, kept) {
             Ok(Arrived::Accepted { number, limit_tag }) => {
                 let (r, p) = self.shares.admit(moment);
                 self.waiting.push_back_reserved(Tags { r, l: limit_tag, p });
@@ -218,12 +257,13 @@ impl<I: Image> Member<I> {
         requires numbered { IsNumbered (self.old.part.out ++ self.old.part.waiting) }
         requires in_range { TagsInRange (part_picked phase self.old.part) }
         ensures picked { IfSome result (λ picked. Picks self.old self.new phase (record { number = picked.number; slot = picked.slot })) }
+        ensures journal { IfSome result (λ picked. JournalMove {A = I.Alloc} self.old.part.terms Step.Pick (Some (StepAnswer.Picked picked.number)) self.old.journal self.new.journal) }
         ensures some { IsSome result }
     {
         let Some(tags) = self.waiting.pop_front() else {
             return None;
         };
-        let Some(picked) = self.lone.pick() else {
+        let Some(picked) = self.cell.pick() else {
             return None;
         };
         self.out.push_reserved(Sent {
@@ -238,9 +278,11 @@ impl<I: Image> Member<I> {
     /// tells whether memory was there for it; None where the slot doesn't hold that number.
     pub(crate) fn perform(&mut self, slot: usize, number: u64) -> Option<bool>
         ensures some { IfSome result (λ memory. (slot_in self.old.seats number ≡ Some slot) × Performs I.Alloc self.old self.new number memory) }
+        ensures journal { IfSome result (λ memory.
+            JournalMove {A = I.Alloc} self.old.part.terms (Step.Perform number memory) (Some (Performed memory)) self.old.journal self.new.journal) }
         ensures none { IfNone result ((slot_in self.old.seats number ≢ Some slot) × (self.new ≡ self.old)) }
     {
-        let Some(memory) = self.lone.perform(slot, number) else {
+        let Some(memory) = self.cell.perform(slot, number) else {
             return None;
         };
         forget(&mut self.out, number);

@@ -56,6 +56,9 @@ pub enum ArriveRefusal {
     /// As many requests of the session as the window are under way, or replies of it not yet taken.
     #[error("hold")]
     Hold,
+    /// No memory was there for its place in the export's log, or for the steps that it can bring.
+    #[error("no memory")]
+    NoMemory,
 }
 
 /// A request that was refused before it was looked at, handed back.

@@ -1,5 +1,7 @@
 //! The server.
-ghost use Rattle.std.specs.Prelude.{◌≡◌, ◌↔◌, ◌+◌, ◌≤◌, ◌<◌, ◌^◌, not, filter, map, length, find, is_some, slice_set, IfOk, IfErr, IfSome, IfNone, OnSome};
+mod due;
+
+ghost use Rattle.std.specs.Prelude.{◌≡◌, ◌↔◌, ◌+◌, ◌≤◌, ◌<◌, ◌^◌, not, filter, map, length, find, is_some, IsTrue, slice_set, IfOk, IfErr, IfSome, IfNone, OnSome};
 ghost use Rattle.eligibility.specs.Choice.{IsActive, IsSlotInRange};
 ghost use Rattle.nbd_base.specs.Words.{change_at};
 ghost use Rattle.server_table.specs.Steps.{is_out_row};
@@ -18,6 +20,7 @@ use crate::session::SessionId;
 use crate::ticket::{Chosen, Ticket};
 use crate::way::{make_way, put_first};
 use eligibility::Eligibility;
+use export_cell::ExportCell;
 use export_store::Image;
 use lone_export::{
     ArriveRefusal as ArriveRefusalAlone, Arrived, AttachRefusal, NotArrived as NotArrivedAlone,
@@ -128,6 +131,13 @@ fn arrive_refusal(refusal: ArriveRefusalAlone) -> ArriveRefusal
     }
 }
 
+fn not_arrived<A: Allocator>(refusal: ArriveRefusal, request: Request<A>) -> NotArrived<A>
+    ensures refusal { result.refusal ≡ refusal }
+    ensures request { result.request ≡ request }
+{
+    NotArrived { refusal, request }
+}
+
 /// What an arrival was answered, as the server answers it.
 fn arrived<A: Allocator>(
     said: Result<Arrived, NotArrivedAlone<A>>,
@@ -146,6 +156,7 @@ fn arrived<A: Allocator>(
 impl<I: Image, E: Eligibility<Alloc = I::Alloc>> Server<I, E> {
     ghost use Rattle.server_core.specs.Served.{Holds, Stepped, attach_says, leave_says, gone_says, take_says, arrive_says, dispatch_says, perform_says, seats_chosen, opening_served, setup_for, waiting_tags};
     ghost use Rattle.server_core.specs.Counted.{counted_steps, rise, IsSound};
+    ghost use Rattle.server_core.specs.Journals.{EventMoves, IsCellOf};
 
     /// A server of the exports of a configuration, each in its opening state.
     pub fn new(alloc: I::Alloc, config: &Config<I::Alloc>) -> Result<Self, NoMemory>
@@ -199,9 +210,21 @@ impl<I: Image, E: Eligibility<Alloc = I::Alloc>> Server<I, E> {
         }
     }
 
+    /// An export as it is, as it was at the start of its kept history, and the log of the steps between. It takes no memory.
+    pub fn journal(&self, export: u32) -> Option<&ExportCell<I>>
+        ensures cell { IfSome result (λ cell. IsCellOf self.now export cell.now) }
+        ensures there { IsTrue (is_some result) ↔ (export < length self.now.setup.exports) }
+    {
+        if export as usize >= self.members.len() {
+            return None;
+        }
+        Some(self.members[export as usize].cell())
+    }
+
     /// Nothing more arrives on a session that is open. It takes no memory.
     pub fn leave(&mut self, session: SessionId) -> Result<(), SessionRefusal>
         ensures step { Stepped {A = I.Alloc} self.old (event.Leave session.export session.number) self.new (leave_says result) }
+        ensures journals { EventMoves {A = I.Alloc} self.old (event.Leave session.export session.number) self.new (leave_says result) }
         ensures counted { counted_steps self.new ≡ counted_steps self.old + rise {A = I.Alloc} (leave_says result) }
         ensures seats { self.new.seats ≡ self.old.seats }
     {
@@ -215,6 +238,7 @@ impl<I: Image, E: Eligibility<Alloc = I::Alloc>> Server<I, E> {
     /// A session that isn't gone is dropped with its replies; its requests are still served. It takes no memory.
     pub fn gone(&mut self, session: SessionId) -> Result<(), SessionRefusal>
         ensures step { Stepped {A = I.Alloc} self.old (event.Gone session.export session.number) self.new (gone_says result) }
+        ensures journals { EventMoves {A = I.Alloc} self.old (event.Gone session.export session.number) self.new (gone_says result) }
         ensures counted { counted_steps self.new ≡ counted_steps self.old + rise {A = I.Alloc} (gone_says result) }
         ensures seats { self.new.seats ≡ self.old.seats }
     {
@@ -228,6 +252,7 @@ impl<I: Image, E: Eligibility<Alloc = I::Alloc>> Server<I, E> {
     /// The oldest reply of a session that isn't gone is taken. It takes no memory.
     pub fn take_reply(&mut self, session: SessionId) -> Result<Taken<I::Alloc>, SessionRefusal>
         ensures step { Stepped {A = I.Alloc} self.old (event.Take session.export session.number) self.new (take_says result) }
+        ensures journals { EventMoves {A = I.Alloc} self.old (event.Take session.export session.number) self.new (take_says result) }
         ensures counted { counted_steps self.new ≡ counted_steps self.old + rise {A = I.Alloc} (take_says result) }
         ensures seats { self.new.seats ≡ self.old.seats }
     {
@@ -238,9 +263,11 @@ impl<I: Image, E: Eligibility<Alloc = I::Alloc>> Server<I, E> {
         here(member.take(session.number))
     }
 
-    /// Opens a session of an export.
+    /// Opens a session of an export. The oldest steps of its log go into its base, as many as have to; without memory some
+    /// of these.
     pub fn attach(&mut self, export: u32) -> Result<SessionId, NotAttached>
         ensures step { Stepped {A = I.Alloc} self.old (event.Attach export) self.new (attach_says result) }
+        ensures journals { EventMoves {A = I.Alloc} self.old (event.Attach export) self.new (attach_says result) }
         ensures counted { counted_steps self.new ≡ counted_steps self.old + rise {A = I.Alloc} (attach_says result) }
         ensures seats { self.new.seats ≡ self.old.seats }
         ensures export { IfOk result (λ session. session.export ≡ export) }
@@ -276,6 +303,7 @@ impl<I: Image, E: Eligibility<Alloc = I::Alloc>> Server<I, E> {
         ensures some { IfSome result (λ memory. Holds self.old ticket
             × Stepped {A = I.Alloc} self.old (event.Perform ticket.export ticket.number) self.new (answer.Performed memory)) }
         ensures none { IfNone result ((Holds self.old ticket → ⊥) × (self.new ≡ self.old)) }
+        ensures journals { EventMoves {A = I.Alloc} self.old (event.Perform ticket.export ticket.number) self.new (perform_says result) }
         ensures counted { counted_steps self.new ≡ counted_steps self.old + rise {A = I.Alloc} (perform_says result) }
         ensures seats { OnSome result (self.new.seats ≡ change_at (seats_without ticket.number) ticket.export self.old.seats) }
     {
@@ -290,8 +318,11 @@ impl<I: Image, E: Eligibility<Alloc = I::Alloc>> Server<I, E> {
         Some(memory)
     }
 
-    /// A request of a session arrives at a moment, which needn't be later than the moments of others. One that is refused
-    /// is handed back. It takes no memory.
+    /// A request of a session arrives at a moment, which needn't be later than the moments of others. One that is refused,
+    /// or for which no memory is there, is handed back.
+    ///
+    /// All memory that it and its service want of the log is obtained first. The oldest steps of the log go into the
+    /// export's base, as many as have to; without memory some of these.
     pub fn arrive(
         &mut self,
         session: SessionId,
@@ -299,28 +330,30 @@ impl<I: Image, E: Eligibility<Alloc = I::Alloc>> Server<I, E> {
         request: Request<I::Alloc>,
     ) -> Result<Arrived, NotArrived<I::Alloc>>
         ensures step { Stepped {A = I.Alloc} self.old (event.Arrive session.export session.number moment request) self.new (arrive_says result) }
+        ensures journals { EventMoves {A = I.Alloc} self.old (event.Arrive session.export session.number moment request) self.new (arrive_says result) }
         ensures counted { counted_steps self.new ≡ counted_steps self.old + rise {A = I.Alloc} (arrive_says result) }
         ensures seats { self.new.seats ≡ self.old.seats }
         ensures back { IfErr result (λ e. e.request ≡ request) }
     {
         if session.export as usize >= self.members.len() {
-            return Err(NotArrived {
-                refusal: ArriveRefusal::NoExport,
-                request,
-            });
+            return Err(not_arrived(ArriveRefusal::NoExport, request));
         }
+        let member = &mut self.members[session.export as usize];
+        let Ok(kept) = member.reserve(session.number, &request) else {
+            return Err(not_arrived(ArriveRefusal::NoMemory, request));
+        };
         let member = &self.members[session.export as usize];
         let waiting = member.waiting();
         let was = member.first();
         if !member.admits(session.number, &request) {
             let member = &mut self.members[session.export as usize];
-            return arrived(member.arrive(session.number, moment, request));
+            return arrived(member.arrive(session.number, moment, request, kept));
         }
         // Asked for what its contract tells: a moment is below 2^62.
         let _ = moment.nanoseconds();
         make_way(&mut self.members, &mut self.eligible, waiting, moment);
         let member = &mut self.members[session.export as usize];
-        let said = member.arrive(session.number, moment, request);
+        let said = member.arrive(session.number, moment, request, kept);
         let first = member.first();
         put_first(&mut self.eligible, session.export, was, first);
         arrived(said)
@@ -330,6 +363,7 @@ impl<I: Image, E: Eligibility<Alloc = I::Alloc>> Server<I, E> {
     /// request scheduling). It takes no memory.
     pub fn dispatch(&mut self, moment: Moment) -> Option<Chosen>
         ensures step { Stepped {A = I.Alloc} self.old (event.Dispatch moment) self.new (dispatch_says result) }
+        ensures journals { EventMoves {A = I.Alloc} self.old (event.Dispatch moment) self.new (dispatch_says result) }
         ensures counted { counted_steps self.new ≡ counted_steps self.old + rise {A = I.Alloc} (dispatch_says result) }
         ensures ticket { IfSome result (λ chosen. Holds self.new chosen.ticket) }
         ensures seats { self.new.seats ≡ seats_chosen result self.old.seats }

@@ -14,6 +14,9 @@ use std::alloc::Global;
 use std::test::Fail;
 use tag_clock::{Moment, Phase};
 
+mod due;
+mod journals;
+
 type Tried<E> = Server<Paged<Global>, E>;
 
 /// What a script shows; its exports, each by its reservation, limit, weight, depth and window; how many requests may be in
@@ -375,7 +378,7 @@ fn new_wants_memory(rt: HostRuntime) -> Result<(), Fail> {
     Ok(())
 }
 
-// An attach that finds no memory opens no session; what follows takes none.
+// An attach that finds no memory opens no session, and a request that finds none comes back; what follows takes none.
 #[test]
 fn sessions_want_memory(rt: HostRuntime) -> Result<(), Fail> {
     let memory = Refusing::new(rt.alloc(), 0);
@@ -386,7 +389,13 @@ fn sessions_want_memory(rt: HostRuntime) -> Result<(), Fail> {
     let session = server.attach(0).ok().ok_or("a session")?;
     assert_eq!(rt; session.number, 0);
     memory.arm(1);
-    assert!(rt; server.arrive(session, at(0), flush_in()).is_ok());
+    let back = server
+        .arrive(session, at(0), flush_in())
+        .err()
+        .ok_or("back")?;
+    assert!(rt; back.refusal == ArriveRefusal::NoMemory && back.request.head().cookie == 7);
+    assert!(rt; server.waiting() == 0 && server.arrive(session, at(0), back.request).is_ok());
+    memory.arm(1);
     assert!(rt; matches!(server.tags(&memory, 0), Err(NoTags::NoMemory)));
     assert!(rt; server.tags(&memory, 0).is_ok());
     memory.arm(1);

@@ -146,6 +146,11 @@ impl<L: Ledger, I: Image, E: Eligibility<Alloc = I::Alloc>> Shared<L, I, E> {
         self.booked.lock(rt).server().waiting()
     }
 
+    /// The least moment at which a dispatch chooses a request, while no turn is made: `Server::next_due`.
+    pub fn next_due<R: Wait>(&self, rt: &R) -> Option<Moment> {
+        self.booked.lock(rt).server().next_due()
+    }
+
     /// Tells the workers to end once nothing waits. It wakes nobody.
     pub fn stop(&self) {
         self.stopping.store(true, Ordering::SeqCst);

@@ -10,13 +10,13 @@ use nbd_wire::protocol::{FLUSH, READ, WRITE};
 use nbd_wire::{Request, RequestHead};
 use refusing::Refusing;
 use reply_box::Taken;
-use server_core::{Chosen, Server, SessionId, SessionRefusal};
+use server_core::{Chosen, NotAttached, Server, SessionId, SessionRefusal};
 use std::alloc::{Allocator, Global};
 use std::marker::Brand;
 use std::sync::Wait;
 use std::sync::ledger::{Blank, Ledger};
 use std::test::Fail;
-use tag_clock::Moment;
+use tag_clock::{Moment, Tags};
 
 type Tried<L> = Shared<L, Flat<Global>, Heaped<Global>>;
 
@@ -223,21 +223,37 @@ fn seen<A: Allocator + Copy>(server: &Server<Flat<A>, Listed<A>>) -> (u128, usiz
     (server.steps(), server.waiting(), found)
 }
 
-fn opened_and_ended<L: Ledger>(alloc: Global, blank: Blank) -> Option<[bool; 3]>
+// Whether the tags of what waits in such a server are those of the third of three arrivals at the first moment.
+fn has_tags<A: Allocator + Copy>(alloc: A, server: &Server<Flat<A>, Listed<A>>) -> bool {
+    let third = Tags {
+        r: None,
+        l: 0,
+        p: 2_000_000_000,
+    };
+    match server.tags(alloc, 0) {
+        Ok(told) => told.as_slice() == [(2, third)].as_slice(),
+        Err(_) => false,
+    }
+}
+
+fn opened_and_ended<L: Ledger>(alloc: Global, blank: Blank) -> Option<[bool; 5]>
     requires name { blank.name ≡ L.name }
     requires parts { blank.parts ≡ L.parts }
     requires three { blank.parts ≡ 3 }
 {
     let server = served(alloc)?;
     let before = seen(&server) == (7, 1, [false, true, false]);
+    let had_tags = has_tags(alloc, &server);
     let made = Shared::<L, Flat<Global>, Listed<Global>>::new(alloc, server, blank, 3);
     let (shared, passes) = made.ok()?;
     let booked = shared.end();
     let same = seen(booked.server()) == (7, 1, [false, true, false]);
+    let same_tags = has_tags(alloc, booked.server());
     if passes.len() as u64 != booked.passes() {
         return None;
     }
-    Some([before, same, settle(booked, passes) == 7])
+    let settled = settle(booked, passes) == 7;
+    Some([before, had_tags, same, same_tags, settled])
 }
 
 // The steps counted so far are the first pass's share, and nothing else changes.
@@ -245,7 +261,7 @@ fn opened_and_ended<L: Ledger>(alloc: Global, blank: Blank) -> Option<[bool; 3]>
 fn earlier_steps_are_settled(rt: HostRuntime) -> Result<(), Fail> {
     assert_eq!(rt;
         opened_and_ended::<Brand>(rt.alloc(), Blank::new(3)),
-        Some([true; 3])
+        Some([true; 5])
     );
     Ok(())
 }
@@ -283,5 +299,67 @@ fn refused_memory_hands_back(rt: HostRuntime) -> Result<(), Fail> {
         refused_then_opened::<Brand>(&memory, Blank::new(2)),
         Some([true; 4])
     );
+    Ok(())
+}
+
+// An export has 64 sessions at once. The 65th is refused, and had once another is gone.
+fn sixty_five<L: Ledger, R: Wait>(rt: &R, alloc: Global, blank: Blank) -> Option<[bool; 5]>
+    requires name { blank.name ≡ L.name }
+    requires parts { blank.parts ≡ L.parts }
+    requires one { blank.parts ≡ 1 }
+{
+    let server = Server::new(alloc, &config_of(alloc)?).ok()?;
+    let (shared, mut passes) = Tried::<L>::new(alloc, server, blank, 1).ok()?;
+    let mut pass = passes.pop()?;
+    let first = shared.turn_attach(rt, &mut pass, 0).ok()?;
+    for _ in 1..64u64 {
+        shared.turn_attach(rt, &mut pass, 0).ok()?;
+    }
+    let full = shared.turn_attach(rt, &mut pass, 0) == Err(NotAttached::Full);
+    let event = EventTrace::Attach { export: 0 };
+    let answer = AnswerTrace::Full;
+    let told = pass.last() == Some(Trace { event, answer });
+    let turns = pass.turns() == 65;
+    shared.turn_gone(rt, &mut pass, first).ok()?;
+    let session = shared.turn_attach(rt, &mut pass, 0).ok()?;
+    let next = session.export == 0 && session.number == 64;
+    passes.push(pass).ok()?;
+    let booked = shared.end();
+    if passes.len() as u64 != booked.passes() {
+        return None;
+    }
+    let settled = settle(booked, passes) == 66;
+    Some([full, told, turns, next, settled])
+}
+
+#[test]
+fn one_session_too_many(rt: HostRuntime) -> Result<(), Fail> {
+    let told = sixty_five::<Brand, _>(&rt, rt.alloc(), Blank::new(1)).ok_or("memory")?;
+    assert_eq!(rt; told, [true; 5]);
+    Ok(())
+}
+
+// What is due next is told through the lock: nothing at first, then what waits.
+fn told_due<L: Ledger, R: Wait>(rt: &R, alloc: Global, blank: Blank) -> Option<[bool; 2]>
+    requires name { blank.name ≡ L.name }
+    requires parts { blank.parts ≡ L.parts }
+    requires one { blank.parts ≡ 1 }
+{
+    let server = Server::new(alloc, &config_of(alloc)?).ok()?;
+    let (shared, mut passes) = Tried::<L>::new(alloc, server, blank, 1).ok()?;
+    let mut pass = passes.pop()?;
+    let session = shared.turn_attach(rt, &mut pass, 0).ok()?;
+    let nothing = shared.next_due(rt).is_none();
+    let late = Moment::new(9)?;
+    shared
+        .turn_arrive(rt, &mut pass, session, late, read_of(1))
+        .ok()?;
+    Some([nothing, shared.next_due(rt) == Some(late)])
+}
+
+#[test]
+fn what_is_due_is_told(rt: HostRuntime) -> Result<(), Fail> {
+    let told = told_due::<Brand, _>(&rt, rt.alloc(), Blank::new(1)).ok_or("memory")?;
+    assert_eq!(rt; told, [true; 2]);
     Ok(())
 }

@@ -142,6 +142,7 @@ pub(crate) fn told_arrive<A: Allocator>(answer: &Result<Arrived, NotArrived<A>>)
             ArriveRefusal::NotOpen => AnswerTrace::NotOpen,
             ArriveRefusal::Worn => AnswerTrace::Worn,
             ArriveRefusal::Hold => AnswerTrace::Hold,
+            ArriveRefusal::NoMemory => AnswerTrace::NoMemory,
         },
     }
 }

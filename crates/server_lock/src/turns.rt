@@ -7,6 +7,7 @@ ghost use Rattle.server_table.specs.declared.event.Event.TheVariants as event;
 ghost use Rattle.server_table.specs.declared.event.Answer.TheVariants as answer;
 ghost use Rattle.server_core.specs.Counted.{counted_steps, IsSound};
 ghost use Rattle.server_core.specs.Members.{seats_without};
+ghost use Rattle.server_core.specs.Journals.{EventMoves};
 ghost use Rattle.server_core.specs.Served.{Holds, Stepped, seats_chosen, attach_says, arrive_says, dispatch_says, perform_says, take_says, leave_says, gone_says};
 ghost use Rattle.server_lock.specs.Traces.{rise_of_trace};
 ghost use Rattle.server_lock.specs.Scores.{noted, scored, opened, unused, holding, without, chosen_by};
@@ -259,6 +260,7 @@ pub fn turn_attach<L: Ledger, I: Image, E: Eligibility<Alloc = I::Alloc>>(
     export: u32,
 ) -> Result<SessionId, NotAttached>
     ensures step { Stepped {A = I.Alloc} booked.old (event.Attach export) booked.new (attach_says result) }
+    ensures journals { EventMoves {A = I.Alloc} booked.old (event.Attach export) booked.new (attach_says result) }
     ensures seats { booked.new.seats ≡ booked.old.seats }
     ensures export { IfOk result (λ session. session.export ≡ export) }
     ensures pass { pass.new ≡ noted {A = I.Alloc} pass.old (event.Attach export) (attach_says result) }
@@ -278,6 +280,7 @@ pub fn turn_arrive<L: Ledger, I: Image, E: Eligibility<Alloc = I::Alloc>>(
     request: Request<I::Alloc>,
 ) -> Result<Arrived, NotArrived<I::Alloc>>
     ensures step { Stepped {A = I.Alloc} booked.old (event.Arrive session.export session.number moment request) booked.new (arrive_says result) }
+    ensures journals { EventMoves {A = I.Alloc} booked.old (event.Arrive session.export session.number moment request) booked.new (arrive_says result) }
     ensures seats { booked.new.seats ≡ booked.old.seats }
     ensures back { IfErr result (λ e. e.request ≡ request) }
     ensures pass { pass.new ≡ noted {A = I.Alloc} pass.old (event.Arrive session.export session.number moment request) (arrive_says result) }
@@ -303,6 +306,7 @@ pub fn turn_dispatch<L: Ledger, I: Image, E: Eligibility<Alloc = I::Alloc>>(
     moment: Moment,
 ) -> Option<Chosen>
     ensures step { Stepped {A = I.Alloc} booked.old (event.Dispatch moment) booked.new (dispatch_says result) }
+    ensures journals { EventMoves {A = I.Alloc} booked.old (event.Dispatch moment) booked.new (dispatch_says result) }
     ensures ticket { IfSome result (λ chosen. Holds booked.new chosen.ticket) }
     ensures seats { booked.new.seats ≡ seats_chosen result booked.old.seats }
     ensures pass { pass.new ≡ chosen_by (noted {A = I.Alloc} pass.old (event.Dispatch moment) (dispatch_says result)) result }
@@ -327,6 +331,7 @@ pub fn turn_perform<L: Ledger, I: Image, E: Eligibility<Alloc = I::Alloc>>(
     ensures some { IfSome result (λ memory. Holds booked.old ticket
         × Stepped {A = I.Alloc} booked.old (event.Perform ticket.export ticket.number) booked.new (answer.Performed memory)) }
     ensures none { IfNone result ((Holds booked.old ticket → ⊥) × (booked.new ≡ booked.old)) }
+    ensures journals { EventMoves {A = I.Alloc} booked.old (event.Perform ticket.export ticket.number) booked.new (perform_says result) }
     ensures seats { OnSome result (booked.new.seats ≡ change_at (seats_without ticket.number) ticket.export booked.old.seats) }
     ensures pass { pass.new ≡ without (noted {A = I.Alloc} pass.old (event.Perform ticket.export ticket.number) (perform_says result)) ticket }
 {
@@ -348,6 +353,7 @@ pub fn turn_take<L: Ledger, I: Image, E: Eligibility<Alloc = I::Alloc>>(
     session: SessionId,
 ) -> Result<Taken<I::Alloc>, SessionRefusal>
     ensures step { Stepped {A = I.Alloc} booked.old (event.Take session.export session.number) booked.new (take_says result) }
+    ensures journals { EventMoves {A = I.Alloc} booked.old (event.Take session.export session.number) booked.new (take_says result) }
     ensures seats { booked.new.seats ≡ booked.old.seats }
     ensures pass { pass.new ≡ noted {A = I.Alloc} pass.old (event.Take session.export session.number) (take_says result) }
 {
@@ -369,6 +375,7 @@ pub fn turn_leave<L: Ledger, I: Image, E: Eligibility<Alloc = I::Alloc>>(
     session: SessionId,
 ) -> Result<(), SessionRefusal>
     ensures step { Stepped {A = I.Alloc} booked.old (event.Leave session.export session.number) booked.new (leave_says result) }
+    ensures journals { EventMoves {A = I.Alloc} booked.old (event.Leave session.export session.number) booked.new (leave_says result) }
     ensures seats { booked.new.seats ≡ booked.old.seats }
     ensures pass { pass.new ≡ noted {A = I.Alloc} pass.old (event.Leave session.export session.number) (leave_says result) }
 {
@@ -390,6 +397,7 @@ pub fn turn_gone<L: Ledger, I: Image, E: Eligibility<Alloc = I::Alloc>>(
     session: SessionId,
 ) -> Result<(), SessionRefusal>
     ensures step { Stepped {A = I.Alloc} booked.old (event.Gone session.export session.number) booked.new (gone_says result) }
+    ensures journals { EventMoves {A = I.Alloc} booked.old (event.Gone session.export session.number) booked.new (gone_says result) }
     ensures seats { booked.new.seats ≡ booked.old.seats }
     ensures pass { pass.new ≡ noted {A = I.Alloc} pass.old (event.Gone session.export session.number) (gone_says result) }
 {

@@ -1,5 +1,6 @@
 //! How the log is kept short, and how it gets its room.
-ghost use Rattle.std.specs.Prelude.{◌≡◌, ◌+◌, ◌<◌, ◌≤◌, length, OnOk, OnErr};
+ghost use Rattle.std.specs.Prelude.{◌≡◌, ◌+◌, ◌*◌, ◌<◌, ◌≤◌, min, length, OnOk, OnErr};
+ghost use Rattle.std.specs.VecDeque.{deque_capacity};
 ghost use Rattle.lone_export.specs.Calls.{to_come};
 ghost use Rattle.export_cell.specs.Journal.{kept_step, payload_of, fits, surplus, advanced_cell, trimmed_cell, HasRoom, IsAdvanced, IsTrimming};
 
@@ -8,6 +9,7 @@ use export_store::Image;
 use lone_export::{Lone, Step};
 use nbd_base::NoMemory;
 use std::alloc::Allocator;
+use std::collections::VecDeque;
 
 /// Before an attach or an arrival the log has fewer steps.
 const ENTRIES: usize = 4096;
@@ -36,6 +38,24 @@ fn payload_of<A: Allocator>(step: &Step<A>) -> usize
     }
 }
 
+/// Room for so many elements more. Where it has to grow it at least doubles, so that the elements are seldom moved.
+fn widen<T, A: Allocator>(log: &mut VecDeque<T, A>, more: usize) -> Result<(), NoMemory>
+    ensures items { log.new.items ≡ log.old.items }
+    ensures room { OnOk result (length log.new.items + more ≤ deque_capacity log.new) }
+    ensures capacity { deque_capacity log.old ≤ deque_capacity log.new }
+    ensures doubles { OnOk result (deque_capacity log.old < length log.old.items + more → min (deque_capacity log.old * 2) 18446744073709551615 ≤ deque_capacity log.new) }
+{
+    let (room, len) = (log.capacity(), log.len());
+    if more <= room - len {
+        return Ok(());
+    }
+    let twice = room.saturating_mul(2);
+    if log.reserve(more.max(twice - len)).is_err() {
+        return Err(NoMemory);
+    }
+    Ok(())
+}
+
 impl<I: Image> ExportCell<I> {
     // Room for a step that brings so many bytes of payload, and for all the steps that it can bring.
     pub(super) fn make_room(&mut self, bytes: usize) -> Result<(), NoMemory>
@@ -49,8 +69,8 @@ impl<I: Image> ExportCell<I> {
             return Err(error);
         }
         let more = steps_brought(&self.live);
-        if let Err(_) = self.log.reserve(more) {
-            return Err(NoMemory);
+        if let Err(error) = widen(&mut self.log, more) {
+            return Err(error);
         }
         Ok(())
     }
@@ -85,14 +105,14 @@ impl<I: Image> ExportCell<I> {
         ensures err { OnErr result (self.new ≡ self.old) }
     {
         let Some(step) = self.log.front() else {
-            return Ok(());
+            unreachable!();
         };
         let bytes = payload_of(step);
         if let Err(error) = self.base.replay(step) {
             return Err(error);
         }
         let Some(_step) = self.log.pop_front() else {
-            return Ok(());
+            unreachable!();
         };
         self.payload -= bytes;
         Ok(())

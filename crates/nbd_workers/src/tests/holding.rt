@@ -64,7 +64,7 @@ impl Gate for HoldsUntil {
         self.performed.fetch_add(1, Ordering::SeqCst);
     }
 
-    fn idle(&self) -> bool {
+    fn idle(&self, _due: Option<Moment>) -> bool {
         thread::yield_now();
         true
     }

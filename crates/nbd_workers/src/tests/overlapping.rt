@@ -37,7 +37,7 @@ impl Gate for HoldsFirst {
         }
     }
 
-    fn idle(&self) -> bool {
+    fn idle(&self, _due: Option<Moment>) -> bool {
         thread::yield_now();
         true
     }

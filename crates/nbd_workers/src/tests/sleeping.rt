@@ -7,7 +7,6 @@ use std::marker::Brand;
 use std::sync::ledger::Blank;
 use std::test::Fail;
 use std::thread::Threads;
-use std::time::Duration;
 
 const ROUNDS: u64 = 200;
 
@@ -40,7 +39,7 @@ fn slept<L: Ledger, R: Wait>(
         let heard = replies.heard();
         match shared.turn_take(rt, pass, session) {
             Ok(Taken::Reply(reply)) => return Some(reply.cookie()),
-            Ok(Taken::Empty) => replies.wait(rt, heard, Duration::from_secs(1)),
+            Ok(Taken::Empty) => replies.wait(rt, heard, None),
             _ => return None,
         }
     }
@@ -79,13 +78,7 @@ fn asleep<L: Ledger, R: Wait>(
     clock: &Still,
     bells: &Bells,
 ) -> Pass<L> {
-    let gate = Sleeper::new(
-        rt,
-        clock,
-        &bells.work,
-        &bells.replies,
-        Duration::from_secs(1),
-    );
+    let gate = Sleeper::new(rt, clock, &bells.work, &bells.replies);
     work(rt, shared, &gate, pass)
 }
 

@@ -5,7 +5,7 @@ use nbd_commands::{Config, ExportConfig};
 use nbd_workers::Bell;
 use server_core::{SessionId, Ticket};
 use std::alloc::Global;
-use std::sync::atomic::{AtomicU64, Ordering};
+use std::sync::atomic::{AtomicBool, AtomicU64, Ordering};
 
 /// How many bells the sessions of one export have: as many as may be open at a time.
 const SESSIONS: u64 = 64;
@@ -15,6 +15,8 @@ const SESSIONS: u64 = 64;
 pub struct Bells {
     /// Rung where something waits that no thread is about to choose.
     pub work: Bell,
+    // Whether something waits until fewer are in service.
+    crowded: AtomicBool,
     desks: Vec<Desk>,
 }
 
@@ -36,8 +38,22 @@ impl Bells {
         }
         Ok(Bells {
             work: Bell::new(),
+            crowded: AtomicBool::new(false),
             desks,
         })
+    }
+
+    /// A worker found as many in service as may be, while something waits. It looks once more after this, before it sleeps.
+    pub fn note_crowd(&self) {
+        self.crowded.store(true, Ordering::SeqCst);
+    }
+
+    /// A request was performed: wakes a worker, where something waits for that.
+    pub fn make_way(&self) {
+        if self.crowded.load(Ordering::SeqCst) {
+            self.crowded.store(false, Ordering::SeqCst);
+            self.work.ring_one();
+        }
     }
 
     /// The bell that is rung where a session has a reply, or has left.

@@ -2,7 +2,7 @@
 
 use super::service::Service;
 use nbd_session::{Counted, Door, Entry, FrameReader, Turn, haggle, offer, read_turn, write_turn};
-use nbd_wire::protocol::READ;
+use nbd_wire::protocol::{READ, WRITE};
 use nbd_workers::Bell;
 use server_core::SessionId;
 use server_lock::{AnswerTrace, EventTrace, Pass, Trace};
@@ -20,16 +20,13 @@ use tag_clock::Clock;
 /// How many bytes of replies are kept before they are sent.
 const OUTLET: usize = 65_536;
 
-/// The longest data, in bytes, of a reply that a reader writes itself. It fits into what a socket holds, so a client that
-/// doesn't read yet is still read.
+/// The longest data, in bytes, of a READ or WRITE that a reader performs itself. The reply fits into what a socket holds, so a
+/// client that doesn't read yet is still read; a longer WRITE is performed while the next is read.
 const SHORT: u32 = 16_384;
 
 /// How many seconds a writer sleeps whose session has requests under way. Each reply rings its bell, so this is for a
 /// request that was so long in service that who asked for it was forgotten.
 const PATIENCE: u64 = 1;
-
-/// How many seconds a writer sleeps whose session has none.
-const LONG: u64 = 3_600;
 
 /// A session, and what its two threads share.
 #[derive(Drop)]
@@ -68,6 +65,15 @@ impl<'a> Line<'a> {
     fn note_taken(&self) {
         self.taken.fetch_add(1, Ordering::SeqCst);
         self.room.ring();
+    }
+
+    /// How long the writer sleeps without a ring: without end where nothing is under way.
+    fn patience(&self) -> Option<Duration> {
+        if self.under_way() == 0 {
+            None
+        } else {
+            Some(Duration::from_secs(PATIENCE))
+        }
     }
 
     /// How many requests were handed in whose replies weren't taken.
@@ -149,20 +155,20 @@ fn hold<L: Ledger + Send + Sync, R: Wait + Threads + Sync + time::Clock>(
     });
 }
 
-/// Writes replies until the session is over, and ends the connection.
-fn write_replies<L: Ledger, R: Wait>(rt: &R, service: &Service<L>, line: &Line<'_>) {
+/// Writes replies until the session is over, and ends the connection. In between it serves what waits, so that a long reply
+/// is written by who has just made it.
+fn write_replies<L: Ledger, R: Wait + time::Clock>(rt: &R, service: &Service<L>, line: &Line<'_>) {
     if let Some(mut pass) = service.passes.borrow(rt) {
         for _ in rt.forever() {
             let heard = line.replies.heard();
             if !write_ready(rt, service, line, &mut pass) {
                 break;
             }
-            let patience = if line.under_way() == 0 {
-                LONG
-            } else {
-                PATIENCE
-            };
-            line.replies.wait(rt, heard, Duration::from_secs(patience));
+            if has_served(rt, service, line, &mut pass) {
+                continue;
+            }
+            leave_to_workers(rt, service);
+            line.replies.wait(rt, heard, line.patience());
         }
         service.passes.give_back(rt, pass);
     }
@@ -199,7 +205,8 @@ fn write_ready<L: Ledger, R: Wait>(
     unreachable!()
 }
 
-/// Reads requests until there are no more, and serves what may be served in between.
+/// Reads requests until there are no more. After one whose data is short it serves one that waits, and leaves what else waits to
+/// the workers; one whose data is long it leaves to the writer.
 fn read_requests<L: Ledger, R: Wait + time::Clock>(
     rt: &R,
     service: &Service<L>,
@@ -215,13 +222,14 @@ fn read_requests<L: Ledger, R: Wait + time::Clock>(
         if !is_handed_in(rt, service, line, pass, turn, heard) {
             break;
         }
-        let is_short = note_arrival(service, line, pass.last());
-        serve_one(rt, service, line, pass);
-        // While more requests are there, short replies go out together.
-        if frames.is_ready() && is_short {
+        if !note_arrival(service, line, pass.last()) {
+            line.replies.ring();
             continue;
         }
-        if !(is_short && write_own(rt, service, line, pass)) {
+        has_served(rt, service, line, pass);
+        leave_to_workers(rt, service);
+        // While more requests are there, short replies go out together.
+        if !frames.is_ready() && !write_own(rt, service, line, pass) {
             line.replies.ring();
         }
     }
@@ -243,7 +251,8 @@ fn is_handed_in<L: Ledger, R: Wait + time::Clock>(
             Turn::Going => return true,
             Turn::Held(request) => {
                 line.replies.ring();
-                line.room.wait(rt, heard, Duration::from_secs(PATIENCE));
+                line.room
+                    .wait(rt, heard, Some(Duration::from_secs(PATIENCE)));
                 heard = line.room.heard();
                 turn = offer(rt, &service.shared, pass, line.session, request, &clock);
             }
@@ -253,7 +262,7 @@ fn is_handed_in<L: Ledger, R: Wait + time::Clock>(
     unreachable!()
 }
 
-/// Notes a request that was handed in, and tells whether its reply is short.
+/// Notes a request that was handed in, and tells whether its data is short.
 fn note_arrival<L: Ledger>(service: &Service<L>, line: &Line<'_>, last: Option<Trace>) -> bool {
     line.arrived.fetch_add(1, Ordering::SeqCst);
     let Some(Trace { event, answer }) = last else {
@@ -263,26 +272,36 @@ fn note_arrival<L: Ledger>(service: &Service<L>, line: &Line<'_>, last: Option<T
         service.bells.note_asker(line.session, number);
     }
     match event {
-        EventTrace::Arrive { head, .. } => head.kind != READ || head.length <= SHORT,
+        EventTrace::Arrive { head, .. } => match head.kind {
+            READ | WRITE => head.length <= SHORT,
+            _ => true,
+        },
         _ => false,
     }
 }
 
-/// Chooses a request and performs it, whoever asked for it, and leaves what else waits to the workers.
-fn serve_one<L: Ledger, R: Wait + time::Clock>(
+/// Chooses a request and performs it, whoever asked for it. False where there is none to choose.
+fn has_served<L: Ledger, R: Wait + time::Clock>(
     rt: &R,
     service: &Service<L>,
     line: &Line<'_>,
     pass: &mut Pass<L>,
-) {
+) -> bool {
     let now = service.clock(rt).now();
-    if let Some(chosen) = service.shared.turn_dispatch(rt, pass, now) {
-        service.shared.turn_perform(rt, pass, chosen.ticket);
-        match service.bells.asker(&chosen.ticket) {
-            Some(session) if session == line.session => {}
-            _ => service.bells.ring_asker(&chosen.ticket),
-        }
+    let Some(chosen) = service.shared.turn_dispatch(rt, pass, now) else {
+        return false;
+    };
+    service.shared.turn_perform(rt, pass, chosen.ticket);
+    service.bells.make_way();
+    match service.bells.asker(&chosen.ticket) {
+        Some(session) if session == line.session => {}
+        _ => service.bells.ring_asker(&chosen.ticket),
     }
+    true
+}
+
+/// Wakes a worker where something waits.
+fn leave_to_workers<L: Ledger, R: Wait>(rt: &R, service: &Service<L>) {
     if service.shared.waiting(rt) > 0 {
         service.bells.work.ring_one();
     }

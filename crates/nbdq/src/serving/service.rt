@@ -6,7 +6,7 @@ use super::running_clock::RunningClock;
 use eligibility::Heaped;
 use export_store::Paged;
 use nbd_options::ExportTable;
-use nbd_workers::Gate;
+use nbd_workers::{Gate, until};
 use server_core::Ticket;
 use server_lock::Shared;
 use std::alloc::Global;
@@ -15,11 +15,8 @@ use std::sync::Wait;
 use std::sync::atomic::AtomicBool;
 use std::sync::ledger::Ledger;
 use std::time;
-use std::time::{Duration, Instant};
+use std::time::Instant;
 use tag_clock::{Clock, Moment};
-
-/// How many seconds a worker sleeps that only a bell can give something to do.
-const LONG: u64 = 3_600;
 
 /// A server of disks in pages, and all that its threads share besides.
 #[derive(Drop)]
@@ -42,8 +39,8 @@ impl<L: Ledger> Service<L> {
     }
 }
 
-/// A worker's gate. It holds up no request, wakes the session whose request was performed, and sleeps until there may be
-/// something to choose.
+/// A worker's gate. It holds up no request, wakes the session whose request was performed, and where there is nothing to do
+/// sleeps until something is due, or the bell for work rings.
 #[derive(Drop)]
 pub struct ServiceGate<'a, L: Ledger, R: Wait + time::Clock> {
     rt: &'a R,
@@ -62,6 +59,17 @@ impl<'a, L: Ledger, R: Wait + time::Clock> ServiceGate<'a, L, R> {
     }
 }
 
+impl<'a, L: Ledger, R: Wait + time::Clock> ServiceGate<'a, L, R> {
+    /// Looks once more where something waits and nothing is due: from here on who performs a request rings.
+    fn due_after_all(&self) -> Option<Moment> {
+        if self.service.shared.waiting(self.rt) == 0 {
+            return None;
+        }
+        self.service.bells.note_crowd();
+        self.service.shared.next_due(self.rt)
+    }
+}
+
 impl<'a, L: Ledger, R: Wait + time::Clock> Clock for ServiceGate<'a, L, R> {
     fn now(&self) -> Moment {
         self.heard.set(self.service.bells.work.heard());
@@ -76,11 +84,17 @@ impl<'a, L: Ledger, R: Wait + time::Clock> Gate for ServiceGate<'a, L, R> {
         self.service.bells.ring_asker(ticket);
     }
 
-    fn idle(&self) -> bool {
+    fn idle(&self, due: Option<Moment>) -> bool {
+        let due = match due {
+            Some(due) => Some(due),
+            None => self.due_after_all(),
+        };
+        let now = self.service.clock(self.rt).now();
+        let at_most = due.map(|due| until(now, due));
         self.service
             .bells
             .work
-            .wait(self.rt, self.heard.get(), Duration::from_secs(LONG));
+            .wait(self.rt, self.heard.get(), at_most);
         true
     }
 }

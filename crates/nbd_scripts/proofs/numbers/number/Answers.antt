@@ -1,7 +1,7 @@
-use Rattle.std.proofs.Common.{◌≡◌, ◌^◌, Option, Some, None, refl, sym, ◌∙◌, ap, ℕ, rules}
+use Rattle.std.proofs.Common.{◌^◌, Option, refl, sym, ◌∙◌, ap, ℕ, rules}
 use Rattle.std.specs.Prelude.{IfSome, ◌≤◌}
 use Rattle.std.specs.Option.{ok_or}
-use Rattle.nbd_scripts.specs.Numbers.{below, written_number, number_below}
+use Rattle.nbd_scripts.specs.Numbers.{written_number}
 use Rattle.nbd_scripts.specs.declared.fault.LineFault.TheVariants.{Form}
 use Rattle.nbd_scripts.proofs.NumberLemmas.{written_whole, number_end, number_more, number_too_great, below_fits, below_great}
 use Rattle.nbd_scripts.proofs.numbers.number.Goals as goal

@@ -27,7 +27,7 @@ loop-event-preserved g c =
     let first : Served = opening_served (setup_for c.args.config.now) in
     let i = c.loop-event.invariant in
     let had : Going A first c.loop-event.yielded c.loop-event.told.items c.loop-event.server = record { told = i.told; table = i.table; setup = i.setup; long = i.long } in
-    let has = one_more A first c.loop-event.server c.event-answer.new.self c.loop-event.yielded c.loop-event.told.items c.push.new.self.items c.in-Some.event c.event-answer.result had c.event-answer.ensures c.in_ok-push.ensures.items in
+    let has = one_more A first c.loop-event.server c.event-answer.new.self c.loop-event.yielded c.loop-event.told.items c.push.new.self.items c.in-Some.event c.event-answer.result had c.event-answer.ensures.step c.in_ok-push.ensures.items in
     record { told = has.told; table = has.table; setup = has.setup; long = has.long }
 
 pub returns : goal.returns

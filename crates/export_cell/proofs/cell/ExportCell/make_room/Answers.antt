@@ -9,8 +9,8 @@ use Rattle.export_cell.proofs.cell.ExportCell.make_room.Goals as goal
 pub returns-clause-room : goal.returns-clause-room
 returns-clause-room g c =
     let i = c.self.inside in
-    let more = c.reserve.new.self in
+    let more = c.widen.new.log in
     let room : length (kept_log more.items) + (to_come i.live.state + 4) ≤ deque_capacity more =
-    (let a = c.in_default-reserve.ensures.ok in let b = c.steps_brought-more.ensures in let d = more.ok.0 in let e = kept_length more.items in omega arith) in
+    (let a = c.in_default-widen.ensures.room in let b = c.steps_brought-more.ensures in let e = kept_length more.items in omega arith) in
     has-room c.args.self.now i.live i.base (kept_log i.log.items) (kept_log more.items) c.args.bytes (deque_capacity i.log) (deque_capacity more)
-    c.requires (c.self.view_is ∙ c.in_default.ensures.ok) (ap (λ (l : List (Step g.row.I-Alloc.Denot)). kept_log l) c.reserve.ensures.items) room
+    c.requires (c.self.view_is ∙ c.in_default.ensures.ok) (ap (λ (l : List (Step g.row.I-Alloc.Denot)). kept_log l) c.widen.ensures.items) room

@@ -1,4 +1,4 @@
-use Rattle.std.proofs.Common.{◌≡◌, ℕ, zero, suc, ◌<◌, ◌==◌, Bool, List, length, subst, ap, arith}
+use Rattle.std.proofs.Common.{◌≡◌, ℕ, ◌<◌, ◌==◌, Bool, List, length, subst, ap, ◌∙◌, arith}
 use Rattle.std.specs.Prelude.{IsTrue, not}
 use Rattle.std.proofs.lemmas.Bool.Decides.{nat_tests}
 use Rattle.nbd_wire.specs.Grammar.{BeginsWhole, RequestMessage}
@@ -6,11 +6,16 @@ use Rattle.nbd_session.specs.Frames.{Reading}
 use Rattle.nbd_session.proofs.FrameLemmas.{begins_ready}
 use Rattle.nbd_session.proofs.frames.Frames.is_ready.Goals as goal
 
-some_there : (n : ℕ) (none : Bool) → none ≡ (n == 0) → IsTrue (not none) → 0 < n
-some_there n none is t = grind (arith, nat_tests)
+some_there : (n m : ℕ) (none : Bool) → none ≡ (n == 0) → n ≡ m → (IsTrue (not none) → 0 < m) × (0 < m → IsTrue (not none))
+some_there n m none t is = (grind (arith, nat_tests), grind (arith, nat_tests))
 
-pub returns : goal.returns
-returns g c = λ t.
+pub returns-clause-ready : goal.returns-clause-ready
+returns-clause-ready g c =
+    some_there (length c.as_slice.result.now) c.args.self.now.ready c.is_empty.result c.is_empty.ensures
+    (ap (λ (l : List RequestMessage). length l) c.as_slice.ensures.value ∙ ap (λ (r : Reading). r.ready) c.self.view_is)
+
+pub returns-clause-first : goal.returns-clause-first
+returns-clause-first g c = λ t.
     let ready = c.self.inside.ready.items in
-    let some : 0 < length ready = subst (λ (l : List RequestMessage). 0 < length l) c.as_slice.ensures.value (some_there (length c.as_slice.result.now) c.is_empty.result c.is_empty.ensures t) in
+    let some : 0 < length ready = (some_there (length c.as_slice.result.now) (length ready) c.is_empty.result c.is_empty.ensures (ap (λ (l : List RequestMessage). length l) c.as_slice.ensures.value)).0 t in
     subst BeginsWhole (ap (λ (r : Reading). r.kept) c.self.view_is) (begins_ready ready c.self.inside.decoder.held c.self.invariant.each some)

@@ -7,4 +7,4 @@ use Rattle.server_core.proofs.member.Member.first.Goals as goal
 pub returns : goal.returns
 returns g c =
     let i = c.self.inside in
-    c.tags_in.ensures ∙ sym (head_is i.lone.state.waiting i.waiting.items c.self.invariant.tagged) ∙ ap (λ (v : Standing). head_tags v.part.waiting) c.self.view_is
+    c.tags_in.ensures ∙ sym (head_is i.cell.live.state.waiting i.waiting.items c.self.invariant.tagged) ∙ ap (λ (v : Standing). head_tags v.part.waiting) c.self.view_is

@@ -1,6 +1,8 @@
-use Rattle.std.proofs.Common.{◌<◌, ◌≤◌, ◌+◌, ◌∷◌, ◌++◌, [], length, set, Option, List, sym, ◌∙◌, ap, subst, arith, rules}
+use Rattle.std.proofs.Common.{◌<◌, ◌≤◌, ◌+◌, ◌∷◌, ◌++◌, [], length, set, refl, Option, List, sym, ◌∙◌, ap, subst, arith, rules}
 use Rattle.std.specs.Prelude.{pos}
 use Rattle.nbd_base.specs.Words.{change_at}
+use Rattle.lone_export.specs.declared.step.Step.TheVariants as own
+use Rattle.lone_export.specs.declared.step.StepAnswer.TheVariants as alone
 use Rattle.tag_clock.specs.declared.Tags.{Tags}
 use Rattle.eligibility.specs.Choice.{choice, IsActive, IsSlotInRange}
 use Rattle.server_table.specs.declared.event.Event.TheVariants.{Dispatch}
@@ -8,6 +10,8 @@ use Rattle.server_table.specs.declared.event.Answer.TheVariants.{Picked, Nothing
 use Rattle.server_core.specs.Members.{Seat}
 use Rattle.server_core.specs.Served.{Served, served_of, Stepped, IsServed}
 use Rattle.server_core.proofs.Dispatched.{chosen, chosen_within, stepped_full, stepped_none, stepped_picked, pick_waiting, pick_room, pick_numbered, pick_range, active, first_range, kept_chosen, seats_picked, held_picked}
+use Rattle.server_core.specs.Journals.{CellMoves}
+use Rattle.server_core.proofs.Journals.{moves_own}
 use Rattle.server_core.proofs.Counted.{counted}
 use Rattle.server_core.proofs.server.Server.dispatch.Goals as goal
 
@@ -247,3 +251,30 @@ pub returns-clause-counted : goal.returns-clause-counted
 returns-clause-counted g c =
     let i = c.self.inside in
     counted {A = g.row.I-Alloc.Denot} i.members.items i.latest i.inflight c.args.self.now _ _ _ c.self.view_is (returns-clause-step g c)
+
+pub returns-then-self-clause-journals : goal.returns-then-self-clause-journals
+returns-then-self-clause-journals g c = ap (λ (v : Served). v.journals) c.self.view_is
+
+pub returns-in_default-clause-journals : goal.returns-in_default-clause-journals
+returns-in_default-clause-journals g c = ap (λ (v : Served). v.journals) c.self.view_is
+
+pub returns-clause-journals : goal.returns-clause-journals
+returns-clause-journals g c =
+    let i = c.self.inside in
+    let A = g.row.I-Alloc.Denot in
+    let ms = i.members.items in
+    let slots = g.E.Eligibility.contents i.eligible in
+    let asked = g.E.Eligibility.asked i.eligible in
+    let t = c.args.moment in
+    let e = c.in-Some.export in
+    let phase = c.in-Some.phase in
+    let ch = chosen A ms slots asked i.latest t i.inflight i.served e phase c.self.invariant c.if-self.false (ap (λ n. choice (pos n) slots) (sym c.later-self-inside.ensures) ∙ sym c.choose.ensures.chosen ∙ c.in-Some.is) in
+    let lt : e < length ms = chosen_within A ms i.latest t i.inflight e phase ch in
+    let m = c.index_mut-member.result.now in
+    let at = c.index_mut-member.ensures.value in
+    let m' = c.pick.new.self in
+    let seat : Seat = record { number = c.in-Some-pick.picked.number; slot = c.in-Some-pick.picked.slot } in
+    let picks = c.in-Some-pick.ensures.picked in
+    let new = served_of (set ms e m') c.later-self-inside.result i.inflight in
+    let one = moves_own {A = A} ms i.latest c.later-self-inside.result i.inflight e phase m m' own.Pick (alone.Picked seat.number) (Picked e seat.number phase) refl lt at c.in-Some-pick.ensures.journal in
+    subst (λ (v : Served). CellMoves {A = A} v e own.Pick new (Picked e seat.number phase)) c.self.view_is one
