@@ -1,6 +1,6 @@
 -- The journals of a server's exports, from the calls of one export.
 use Rattle.std.proofs.Common.{◌≡◌, ℕ, zero, suc, ◌<◌, ◌≤◌, Bool, true, false, Option, Some, None, Result, Ok, Err, List, [], ◌∷◌, ◌++◌, ◌+◌, map, filter, length, set, get_or, refl, sym, ◌∙◌, ap, subst, arith}
-use Rattle.std.specs.Prelude.{slice_get, is_ok, is_some, pos}
+use Rattle.std.specs.Prelude.{slice_get, is_ok, is_some}
 use Rattle.std.proofs.lemmas.List.{map-set, append-nil}
 use Rattle.std.proofs.lemmas.List.Elements.{filter-append}
 use Rattle.std.proofs.lemmas.Bool.Decides.{nat_tests}
@@ -12,7 +12,7 @@ use Rattle.tag_clock.specs.declared.Phase.TheVariants.{Weight}
 use Rattle.reply_box.specs.declared.fault.NotOpen.{NotOpen}
 use Rattle.reply_box.specs.declared.seat.Taken.{Taken}
 use Rattle.lone_export.specs.Alone.{Job}
-use Rattle.lone_export.specs.Lone.{Whole, attach_said, leave_said, gone_said, take_said, arrived_said, refusal_said}
+use Rattle.lone_export.specs.Lone.{attach_said, leave_said, gone_said, take_said, arrived_said, refusal_said}
 use Rattle.lone_export.specs.declared.refusal.NotAttached.{NotAttached}
 use Rattle.lone_export.specs.declared.refusal.NotAttached.TheVariants.{Refused, NoMemory}
 use Rattle.lone_export.specs.declared.refusal.AttachRefusal.TheVariants as attaching
@@ -25,17 +25,17 @@ use Rattle.lone_export.specs.declared.step.Step.{Step}
 use Rattle.lone_export.specs.declared.step.Step.TheVariants as own
 use Rattle.lone_export.specs.declared.step.StepAnswer.{StepAnswer}
 use Rattle.lone_export.specs.declared.step.StepAnswer.TheVariants as alone
-use Rattle.export_cell.specs.Journal.{Journal, Cell, JournalMove, IsJournal, IsAdvanced, IsReserved, surplus, reserved, noted, noted_as}
+use Rattle.export_cell.specs.Journal.{Journal, Cell, JournalMove, IsJournal, reserved, noted, noted_as}
 use Rattle.server_table.specs.declared.event.Answer.{Answer}
 use Rattle.server_table.specs.declared.event.Answer.TheVariants as said
 use Rattle.server_table.specs.Answers.{as_answer}
 use Rattle.server_table.specs.Shares.{as_alone}
-use Rattle.server_table.specs.Table.{Row, Side, job_of, part, waits_in, is_out_in}
+use Rattle.server_table.specs.Table.{Side, job_of, part, waits_in, is_out_in}
 use Rattle.server_table.specs.Parts.{Entry, Part, row_of, rows_from, table_of, alone_of, job_of_entry}
 use Rattle.server_table.proofs.Arrive.{waiting_rows}
 use Rattle.server_table.proofs.Rows.{side_at, filter_only, filter_entries, filter_all, filter_no}
 use Rattle.server_core.specs.Here.{here, attached, arrived}
-use Rattle.server_core.specs.Members.{Standing, with_log, IsReservedAt}
+use Rattle.server_core.specs.Members.{Standing, IsReservedAt}
 use Rattle.server_core.specs.Served.{Served, parts, journals_of, served_of, attach_says, leave_says, gone_says, take_says, arrive_says}
 use Rattle.server_core.specs.Journals.{CellMoves, IsCellOf}
 use Rattle.server_core.proofs.Served.{within_parts, part_there, leave_told, gone_told, take_told}
@@ -167,12 +167,12 @@ module _ {A : Type 0} where
       is ∙ ap (noted (own.Arrive s t q)) (room_is ∙ ap (λ (k : RequestMessage). reserved terms (Some k) old) room.1)
 
 -- ---- the cell of an export
-terms_at : (ms : List Standing) (e : ℕ) (m : Standing) → e < length ms → m ≡ get_or ms e m → slice_get (map (λ (p : Part). p.terms) (parts ms)) e ≡ Some m.part.terms
+pub terms_at : (ms : List Standing) (e : ℕ) (m : Standing) → e < length ms → m ≡ get_or ms e m → slice_get (map (λ (p : Part). p.terms) (parts ms)) e ≡ Some m.part.terms
 terms_at [] e m lt at = absurd (omega arith)
 terms_at (y ∷ ys) zero m lt at = ap (λ (z : Standing). Some z.part.terms) (sym at)
 terms_at (y ∷ ys) (suc e) m lt at = terms_at ys e m (omega arith) at
 
-journal_at : (ms : List Standing) (e : ℕ) (m : Standing) → e < length ms → m ≡ get_or ms e m → slice_get (journals_of ms) e ≡ Some m.journal
+pub journal_at : (ms : List Standing) (e : ℕ) (m : Standing) → e < length ms → m ≡ get_or ms e m → slice_get (journals_of ms) e ≡ Some m.journal
 journal_at [] e m lt at = absurd (omega arith)
 journal_at (y ∷ ys) zero m lt at = ap (λ (z : Standing). Some z.journal) (sym at)
 journal_at (y ∷ ys) (suc e) m lt at = journal_at ys e m (omega arith) at
@@ -190,7 +190,7 @@ out_rows ps e k i p is lt at =
     ∙ append-nil (map (row_of e true) p.out)
 
 -- the state of an export is what the table has of it
-live_is : (ps : List Part) (now e : ℕ) (p : Part) → e < length ps → p ≡ get_or ps e p → alone_of p ≡ part e (table_of ps now)
+pub live_is : (ps : List Part) (now e : ℕ) (p : Part) → e < length ps → p ≡ get_or ps e p → alone_of p ≡ part e (table_of ps now)
 live_is ps now e p lt at =
     let w : map job_of_entry p.waiting ≡ map job_of (filter (waits_in e) (rows_from 0 ps)) = sym (ap (map job_of) (waiting_rows ps e 0 e p (omega arith) lt at) ∙ jobs_again e false p.waiting) in
     let o : map job_of_entry p.out ≡ map job_of (filter (is_out_in e) (rows_from 0 ps)) = sym (ap (map job_of) (out_rows ps e 0 e p (omega arith) lt at) ∙ jobs_again e true p.out) in

@@ -21,3 +21,4 @@ pub mod Counted
 pub mod Tagged
 pub mod NextDue
 pub mod Journals
+pub mod Cells

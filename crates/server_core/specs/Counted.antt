@@ -4,6 +4,7 @@ use Rattle.std.specs.List.{AllByRecursion, sum_by}
 use Rattle.server_table.specs.declared.event.Answer.{Answer}
 use Rattle.server_table.specs.declared.event.Answer.TheVariants.{Session, Accepted, Answered, Picked, Nothing, Performed, Reply, Empty, End, Left, Dropped, NoExport, NotOpen, Worn, Full, Hold, NotOut, NoMemory}
 use Rattle.server_core.specs.Served.{Served}
+use Rattle.server_core.specs.Journals.{EachComesOfJournal}
 
 -- the counted steps of all exports together
 abbrev pub counted_steps : Served → ℕ
@@ -35,9 +36,11 @@ module _ {A : Type 0} where
   abbrev pub rise : Answer A → ℕ
   rise said = if is_counted said then 1 else 0
 
--- no more requests are out than may be; each export of the setup has its side and its journal, and each row is of an export that is there
+-- no more requests are out than may be; each export of the setup has its side and its journal, and comes of that; each row is of an
+-- export that is there
 pub record IsSound (served : Served) : Type 0 where
   pub within : length (filter (λ row. row.out) served.table.rows) ≤ served.setup.inflight
   pub sides : length served.table.sides ≡ length served.setup.exports
   pub journals : length served.journals ≡ length served.setup.exports
+  pub comes : EachComesOfJournal served
   pub rows : AllByRecursion (λ row. row.export < length served.setup.exports) served.table.rows

@@ -1,6 +1,7 @@
 -- How the journals of a server's exports move.
-use Rattle.std.specs.Prelude.{◌≡◌, ℕ, List, slice_get, Some}
+use Rattle.std.specs.Prelude.{◌≡◌, ℕ, [], slice_get, Some}
 use Rattle.nbd_commands.specs.Terms.{Terms}
+use Rattle.lone_export.specs.Lone.{Whole}
 use Rattle.lone_export.specs.declared.step.Step.{Step}
 use Rattle.lone_export.specs.declared.step.Step.TheVariants as own
 use Rattle.export_cell.specs.Journal.{Journal, Cell, JournalMove, IsJournal}
@@ -10,6 +11,7 @@ use Rattle.server_table.specs.declared.event.Answer.{Answer}
 use Rattle.server_table.specs.declared.event.Answer.TheVariants.{Picked}
 use Rattle.server_table.specs.Shares.{as_alone, mark_of}
 use Rattle.server_table.specs.Table.{part}
+use Rattle.server_core.specs.Members.{Standing, cell_at}
 use Rattle.server_core.specs.Served.{Served}
 
 module _ {A : Type 0} where
@@ -41,3 +43,16 @@ pub record IsCellOf (served : Served) (e : ℕ) (cell : Cell) : Type 0 where
   pub live : cell.live.state ≡ part e served.table
   pub journal : slice_get served.journals e ≡ Some cell.journal
   pub kept : IsJournal cell.live cell.journal
+
+-- an export comes of its journal's base by its journal's log
+abbrev pub ComesOfJournal : Standing → Type 0
+ComesOfJournal standing = IsJournal (cell_at standing).live standing.journal
+
+-- export e as the table has it, with these terms; its slots stand in the seats
+abbrev pub whole_of : Served → ℕ → Terms → Whole
+whole_of served e terms = record { terms = terms; inflight = served.setup.inflight; state = part e served.table; slots = [] }
+
+-- so does each export of a server, as the table has it
+abbrev pub EachComesOfJournal : Served → Type 0
+EachComesOfJournal served = (e : ℕ) (terms : Terms) (journal : Journal) → slice_get served.setup.exports e ≡ Some terms → slice_get served.journals e ≡ Some journal →
+    IsJournal (whole_of served e terms) journal

@@ -57,6 +57,7 @@ impl<I: Image> Member<I> {
     ghost use Rattle.server_table.specs.Order.{IsNumbered, head_tags};
     ghost use Rattle.server_table.specs.Picks.{part_picked};
     ghost use Rattle.server_core.specs.Kept.{AreShort, TagsInRange};
+    ghost use Rattle.server_core.specs.Journals.{ComesOfJournal};
 
     /// An export in its opening state. All the room that its requests will want is taken here.
     pub(crate) fn new(
@@ -125,6 +126,13 @@ impl<I: Image> Member<I> {
     {
         self.cell.laws();
         &self.cell
+    }
+
+    /// Does nothing: its contract says what is true of every member.
+    pub(crate) fn kept(&self)
+        ensures { ComesOfJournal self.now }
+    {
+        self.cell.laws();
     }
 
     /// The slot in which the request of this number is in service.

@@ -11,6 +11,8 @@ ghost use Rattle.nbd_commands.specs.Exports.{IsWithin};
 ghost use Rattle.std.specs.List.{All, sum_by};
 ghost use Rattle.server_core.specs.Kept.{AreShort};
 ghost use Rattle.server_core.specs.Members.{opening_standing, seats_without};
+ghost use Rattle.server_core.specs.Served.{AllMembers};
+ghost use Rattle.server_core.specs.Journals.{ComesOfJournal};
 ghost use Rattle.server_core.specs.Here.{here as told_here, attached as told_attached, arrived as told_arrived, refusal_here};
 ghost use Rattle.server_table.specs.declared.event.Event.TheVariants as event;
 
@@ -97,6 +99,15 @@ fn steps_of<I: Image>(members: &[Member<I>]) -> u128
         total += u128::from(member.steps());
     }
     total
+}
+
+/// Asks each of these exports what is true of it.
+fn kept_each<I: Image>(members: &[Member<I>])
+    ensures { AllMembers ComesOfJournal members.now }
+{
+    for member in members {
+        member.kept();
+    }
 }
 
 /// A refusal of an export alone, as one of the server.
@@ -189,11 +200,11 @@ impl<I: Image, E: Eligibility<Alloc = I::Alloc>> Server<I, E> {
         steps_of(&self.members)
     }
 
-    /// Tells what is true of every server.
+    /// Changes nothing: its contract says what is true of every server.
     pub fn kept(&self)
         ensures { IsSound self.now }
     {
-        let _ = &self.served;
+        kept_each(&self.members);
     }
 
     /// The tags of an export's requests that wait, each with its number, in the order of their numbers.
