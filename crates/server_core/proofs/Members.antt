@@ -7,7 +7,7 @@ use Rattle.nbd_commands.specs.Terms.{Terms}
 use Rattle.tag_clock.specs.declared.Tags.{Tags}
 use Rattle.reply_box.specs.Sessions.{is_open_at, is_left_at, is_here, is_here_at, outbox_at}
 use Rattle.lone_export.specs.Alone.{Alone, Job, Moved, own_step, outstanding}
-use Rattle.lone_export.specs.Lone.{Whole, Does, DoesOr, MayArrive, MayAttach, attach_said}
+use Rattle.lone_export.specs.Lone.{Whole, Does, DoesOr, MayArrive, MayAttach}
 use Rattle.lone_export.specs.declared.refusal.NotAttached.{NotAttached}
 use Rattle.lone_export.specs.declared.refusal.NotAttached.TheVariants.{Refused, NoMemory}
 use Rattle.lone_export.specs.declared.step.Step.{Step}
@@ -17,7 +17,7 @@ use Rattle.lone_export.proofs.Cases.{if_one, some_one}
 use Rattle.export_cell.specs.Journal.{Journal, Cell, IsReserved}
 use Rattle.server_table.specs.Parts.{alone_of, job_of_entry}
 use Rattle.server_core.specs.declared.member.Sent.{Sent}
-use Rattle.server_core.specs.Members.{Kept, entries_of, sent_tags, part_of, standing_of, IsMember, with_state, with_log, cell_at, IsReservedAt, IsLetIn, MayOpen, WantsMemory, own, Went, WentOr}
+use Rattle.server_core.specs.Members.{Kept, entries_of, sent_tags, part_of, standing_of, IsMember, with_state, with_log, IsReservedAt, IsLetIn, WantsMemory, own, Went, WentOr}
 
 -- ---- the requests with their tags, and without
 pub jobs_back : (jobs : List Job) (tags : List Tags) → length tags ≡ length jobs → map job_of_entry (entries_of jobs tags) ≡ jobs

@@ -1,12 +1,12 @@
 -- The tags of the requests that wait, as they are told.
-use Rattle.std.proofs.Common.{◌≡◌, ℕ, zero, suc, ◌+◌, ◌<◌, false, List, [], ◌∷◌, ◌++◌, map, length, filter, take, get_or, slice_get, Option, Some, None, refl, sym, ◌∙◌, ap, arith}
+use Rattle.std.proofs.Common.{◌≡◌, ℕ, zero, suc, ◌<◌, false, List, [], ◌∷◌, ◌++◌, map, length, take, get_or, slice_get, Option, Some, None, refl, sym, ◌∙◌, ap, arith}
 use Rattle.std.specs.Prelude.{option_map}
 use Rattle.std.proofs.lemmas.Option.{same_Some}
 use Rattle.tag_clock.specs.declared.Tags.{Tags}
 use Rattle.lone_export.specs.Alone.{Job}
 use Rattle.std.proofs.lemmas.List.{length-map}
 use Rattle.server_table.specs.Parts.{Entry, Part, row_of}
-use Rattle.server_table.specs.Table.{Row, waits_in}
+use Rattle.server_table.specs.Table.{Row}
 use Rattle.server_table.specs.Order.{tags_of}
 use Rattle.server_table.proofs.Arrive.{waiting_rows}
 use Rattle.server_core.specs.Members.{Standing, entries_of, told_tags}

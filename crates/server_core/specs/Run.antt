@@ -5,7 +5,7 @@ use Rattle.server_table.specs.declared.event.Answer.{Answer}
 use Rattle.server_table.specs.Table.{Setup}
 use Rattle.server_table.specs.Steps.{last_table, run_answers}
 use Rattle.server_table.specs.Shares.{marks_of}
-use Rattle.core_laws.specs.Statements.{IsToldAsAlone, EndsAsAlone, QueuesCountTheirOwn, WeightsWait, HasUnrolledTags, ChoosesNoneBefore, ChoosesByLimit, ChoosesByReservation}
+use Rattle.core_laws.specs.Statements.{IsToldAsAlone, EndsAsAlone, QueuesCountTheirOwn, WeightsWait, ChoosesNoneBefore, ChoosesByLimit, ChoosesByReservation}
 
 module _ {A : Type 0} where
   -- the answers are those of the definition, with memory there for each event as its answer tells

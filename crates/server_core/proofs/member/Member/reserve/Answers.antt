@@ -4,8 +4,8 @@ use Rattle.std.specs.Vec.{vec_capacity}
 use Rattle.std.specs.VecDeque.{deque_capacity}
 use Rattle.nbd_wire.specs.Grammar.{RequestMessage}
 use Rattle.lone_export.specs.Lone.{MayArrive}
-use Rattle.export_cell.specs.Journal.{Journal, IsReserved, IsAdvanced, surplus, reserved}
-use Rattle.server_core.specs.Members.{Kept, Standing, standing_of, logged_as, with_log, IsReservedAt, IsLetIn}
+use Rattle.export_cell.specs.Journal.{IsReserved, IsAdvanced, surplus, reserved}
+use Rattle.server_core.specs.Members.{Kept, Standing, standing_of, with_log, IsReservedAt, IsLetIn}
 use Rattle.server_core.proofs.Members.{if_ok, on_err, same_kept, logged_standing, reserved_at, let_in_at}
 use Rattle.server_core.proofs.member.Member.reserve.Goals as goal
 

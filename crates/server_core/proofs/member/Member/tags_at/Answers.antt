@@ -1,4 +1,4 @@
-use Rattle.std.proofs.Common.{Some, None, slice_get, sym, ◌∙◌, ap}
+use Rattle.std.proofs.Common.{sym, ◌∙◌, ap}
 use Rattle.lone_export.specs.Lone.{Whole}
 use Rattle.server_core.specs.Members.{Standing}
 use Rattle.server_core.proofs.Tagged.{number_in, told_at, told_in, none_without_tags, none_without_number}

@@ -1,9 +1,8 @@
-use Rattle.std.proofs.Common.{◌≡◌, ◌<◌, ◌≤◌, length, sym, subst, rules}
+use Rattle.std.proofs.Common.{◌≡◌, ◌<◌, length, subst, rules}
 use Rattle.server_core.specs.Members.{Standing}
 use Rattle.server_core.specs.Served.{Served}
 use Rattle.server_core.specs.Journals.{IsCellOf}
 use Rattle.server_core.proofs.Served.{member_at}
-use Rattle.server_core.proofs.Tagged.{exports_there}
 use Rattle.server_core.proofs.Journals.{cell_of_export}
 use Rattle.server_core.proofs.server.Server.journal.Goals as goal
 

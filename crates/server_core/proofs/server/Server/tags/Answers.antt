@@ -1,4 +1,4 @@
-use Rattle.std.proofs.Common.{◌≡◌, ◌<◌, length, sym, ◌∙◌, ap, subst, rules}
+use Rattle.std.proofs.Common.{◌<◌, length, sym, ◌∙◌, ap, subst, rules}
 use Rattle.server_core.specs.Served.{Served, waiting_tags}
 use Rattle.server_core.proofs.Tagged.{tags_there, exports_there}
 use Rattle.server_core.proofs.server.Server.tags.Goals as goal
