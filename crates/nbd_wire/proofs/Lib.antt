@@ -5,3 +5,4 @@ pub mod OneSpelling
 pub mod Places
 pub mod OptionPlaces
 pub mod PieceLemmas
+pub mod BegunLemmas

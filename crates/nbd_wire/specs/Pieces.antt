@@ -1,9 +1,9 @@
 -- A stream of requests that comes in pieces.
-use Rattle.std.specs.Prelude.{◌≡◌, ◌⊎◌, ℕ, Bool, true, false, List, ◌++◌, Option, Some, None, Result, Ok, Err, is_err}
+use Rattle.std.specs.Prelude.{◌≡◌, ◌<◌, ◌≤◌, ◌⊎◌, ℕ, length, [], Bool, true, false, List, ◌++◌, Option, Some, None, Result, Ok, Err, is_err}
 use Rattle.std.specs.List.{flat_map, AllByRecursion}
 use Rattle.nbd_wire.specs.declared.fault.FeedFault.{FeedFault}
 use Rattle.nbd_wire.specs.declared.fault.FeedFault.TheVariants as faults
-use Rattle.nbd_wire.specs.Grammar.{request_text, RequestMessage, IsRequest, IsUnfinished, BeginsOther, BeginsTooLong}
+use Rattle.nbd_wire.specs.Grammar.{request_text, RequestMessage, IsHead, IsTooLong, IsRequest, IsUnfinished, BeginsOther, BeginsTooLong}
 
 abbrev pub texts : List RequestMessage → List ℕ
 texts requests = flat_map request_text requests
@@ -50,3 +50,29 @@ abbrev pub Feeds : {T : Type 0} → Decoding → List ℕ → Decoding → List 
 Feeds old piece new before after result =
     ((old.failed ≡ false) × (new.failed ≡ is_err result) × Gathers old.held piece new.held before after result)
     ⊎ ((old.failed ≡ true) × (result ≡ Err faults.Failed) × (new ≡ old) × (after ≡ before))
+
+-- ---- a WRITE whose payload came in part
+
+-- at least the last byte of its payload is missing
+pub record IsBegun (m : RequestMessage) : Type 0 where
+  pub fits : IsHead m.head
+  pub short : IsTooLong m.head → ⊥
+  pub write : m.head.kind ≡ 1
+  pub part : length m.payload < m.head.length
+
+-- the bytes are no WRITE of so many bytes of which a part is missing
+abbrev pub NoneBegins : ℕ → List ℕ → Type 0
+NoneBegins least bytes = (m : RequestMessage) → IsBegun m → bytes ≡ request_text m → m.head.length < least
+
+-- the bytes are a WRITE of so many bytes, or of more, of which a part is missing
+abbrev pub IsLong : ℕ → List ℕ → RequestMessage → Type 0
+IsLong least bytes m = (bytes ≡ request_text m) × IsBegun m × (least ≤ m.head.length)
+
+abbrev pub BeginsLong : ℕ → List ℕ → Option RequestMessage → Type 0
+BeginsLong least bytes (Some m) = IsLong least bytes m
+BeginsLong least bytes None = NoneBegins least bytes
+
+-- A decoder hands over the long WRITE that it holds, and then holds nothing.
+abbrev pub HandsOver : ℕ → Decoding → Decoding → Option RequestMessage → Type 0
+HandsOver least old new (Some m) = IsLong least old.held m × (new ≡ record { held = []; failed = false })
+HandsOver least old new None = (old.failed ≡ false → NoneBegins least old.held) × (new ≡ old)

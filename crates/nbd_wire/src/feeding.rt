@@ -1,6 +1,8 @@
+use crate::begun::{BegunWrite, begin_write};
 use crate::fault::FeedFault;
 use crate::pieces::gather;
 use crate::requests::Request;
+use nbd_base::NoMemory;
 use std::alloc::Allocator;
 use std::marker::Model;
 
@@ -27,9 +29,9 @@ impl<A: Allocator + Copy> Model for Decoder<A> {
 }
 
 impl<A: Allocator + Copy> Decoder<A> {
-    ghost use Rattle.std.specs.Prelude.{◌≡◌, [], length, false, if◌then◌else◌};
+    ghost use Rattle.std.specs.Prelude.{◌≡◌, [], length, false, if◌then◌else◌, IfOk, OnErr};
     ghost use Rattle.nbd_wire.specs.Grammar.{IsUnfinished};
-    ghost use Rattle.nbd_wire.specs.Pieces.{Feeds};
+    ghost use Rattle.nbd_wire.specs.Pieces.{Feeds, HandsOver};
 
     /// A decoder that was fed nothing.
     pub fn new(alloc: A) -> Decoder<A>
@@ -65,5 +67,20 @@ impl<A: Allocator + Copy> Decoder<A> {
         let outcome = gather(self.alloc, &mut self.held, piece, out);
         self.failed = outcome.is_err();
         outcome
+    }
+    /// Hands over the WRITE that is held, where it is one of `least` bytes or more, so that the rest of its payload can be read
+    /// straight into its place. The next piece is to begin behind it. Where memory is refused nothing changes.
+    pub fn take_begun(&mut self, least: usize) -> Result<Option<BegunWrite<A>>, NoMemory>
+        ensures taken { IfOk result (HandsOver least self.old self.new) }
+        ensures kept { OnErr result (self.new ≡ self.old) }
+    {
+        if self.failed {
+            return Ok(None);
+        }
+        let begun = begin_write(self.alloc, self.held.as_slice(), least)?;
+        if begun.is_some() {
+            self.held.clear();
+        }
+        Ok(begun)
     }
 }

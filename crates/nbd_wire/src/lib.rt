@@ -3,6 +3,7 @@
 #![tactic(auto)]
 
 mod appending;
+mod begun;
 mod fault;
 mod feeding;
 mod fields;
@@ -15,6 +16,7 @@ mod requests;
 #[cfg(test)]
 mod tests;
 
+pub use begun::{BegunWrite, begin_write};
 pub use fault::{FeedFault, WireFault};
 pub use feeding::Decoder;
 pub use laws::{one_head, one_option_head, one_option_reply, one_reply, one_request};

@@ -1,4 +1,4 @@
-ghost use Rattle.std.specs.Prelude.{◌≡◌, ◌≤◌, ◌++◌, length, drop, vec_len};
+ghost use Rattle.std.specs.Prelude.{◌≡◌, ◌≤◌, ◌++◌, [], length, drop, vec_len};
 ghost use Rattle.nbd_wire.specs.Grammar.{head_text, IsHead, IsTooLong};
 ghost use Rattle.nbd_wire.specs.Pieces.{IsFirst, IsBehind, Takes, Gathers};
 
@@ -19,12 +19,35 @@ pub fn gather<A: Allocator + Copy, B: Allocator>(
 ) -> Result<(), FeedFault>
     ensures { Gathers held.old.items piece.now held.new.items out.old.items out.new.items result }
 {
+    if held.is_empty() {
+        return gather_alone(alloc, held, piece, out);
+    }
     if held.extend_from_slice(piece).is_err() {
         return Err(FeedFault::NoMemory);
     }
     let (at, outcome) = split(alloc, held.as_slice(), out);
     drop_front(held, at);
     outcome
+}
+
+/// The same where none are held: only what is behind the piece's requests is copied.
+fn gather_alone<A: Allocator + Copy, B: Allocator>(
+    alloc: A,
+    held: &mut Vec<u8, A>,
+    piece: &[u8],
+    out: &mut Vec<Request<A>, B>,
+) -> Result<(), FeedFault>
+    requires none { held.old.items ≡ [] }
+    ensures { Gathers [] piece.now held.new.items out.old.items out.new.items result }
+{
+    if held.try_reserve(piece.len()).is_err() {
+        return Err(FeedFault::NoMemory);
+    }
+    let (at, outcome) = split(alloc, piece, out);
+    match held.extend_from_slice(&piece[at..]) {
+        Ok(()) => outcome,
+        Err(_) => unreachable!(),
+    }
 }
 
 /// Takes the requests at the front of some bytes, and tells where they end.
@@ -57,8 +80,11 @@ fn drop_front<A: Allocator>(held: &mut Vec<u8, A>, at: usize)
     requires { at ≤ vec_len held.old }
     ensures { held.new.items ≡ drop at held.old.items }
 {
+    if at == 0 {
+        return;
+    }
     let rest = held.len() - at;
-    held.rotate_left(at);
+    held.copy_within(at.., 0);
     held.truncate(rest);
 }
 

@@ -163,6 +163,74 @@ fn feed_with_each_growth_refused(rt: HostRuntime) {
     assert!(rt; refused >= 3);
 }
 
+// A READ, and the head of a WRITE of `length` bytes with the first 60 of its payload.
+fn long_write(heap: &Refusing<Global>, length: u32) -> Result<Vec<u8, &Refusing<Global>>, Fail> {
+    let mut bytes = Vec::new(heap);
+    bytes.extend_from_slice(STREAM.get(32..60).unwrap_or_default())?;
+    bytes.extend_from_slice(&write_head(&RequestHead {
+        length,
+        ..WRITE_HEAD
+    }))?;
+    bytes.extend_from_slice(&[7; 60])?;
+    Ok(bytes)
+}
+
+#[test]
+fn a_long_write_is_handed_over(rt: HostRuntime) -> Result<(), Fail> {
+    let heap = Refusing::new(rt.alloc(), 0);
+    let mut requests = Vec::new(&heap);
+    let mut decoder = Decoder::new(&heap);
+    decoder.feed(&long_write(&heap, 100)?, &mut requests)?;
+    assert_eq!(rt; (requests.len(), decoder.rest()), (1, 88));
+    assert!(rt; decoder.take_begun(101)?.is_none());
+    heap.arm(1);
+    assert!(rt; decoder.take_begun(100).is_err());
+    assert_eq!(rt; decoder.rest(), 88);
+    let (head, payload) = decoder.take_begun(100)?.ok_or("none")?.into_parts();
+    assert_eq!(rt;
+        (head.length, payload.as_slice()),
+        (100, [7; 60].as_slice())
+    );
+    assert_eq!(rt; decoder.rest(), 0);
+    decoder.feed(STREAM, &mut requests)?;
+    assert_eq!(rt; (requests.len(), decoder.rest()), (4, 0));
+    assert!(rt; are_first(requests.as_slice().get(1..).unwrap_or_default()));
+    assert!(rt; decoder.feed(&[0; 28], &mut requests).is_err());
+    assert!(rt; decoder.take_begun(0)?.is_none());
+    Ok(())
+}
+
+#[test]
+fn only_a_part_of_a_long_write_begins(rt: HostRuntime) -> Result<(), Fail> {
+    let heap = Refusing::new(rt.alloc(), 0);
+    for (from, to, length, least) in [
+        (28, 55, 100, 0),
+        (28, 116, 60, 0),
+        (28, 116, 99, 100),
+        (29, 116, 100, 0),
+        (0, 116, 100, 0),
+        (28, 116, 33_554_433, 0),
+    ] {
+        let bytes = long_write(&heap, length)?;
+        let part = bytes.as_slice().get(from..to).unwrap_or_default();
+        assert!(rt;
+            begin_write(&heap, part, least)?.is_none(),
+            "{from}, {to}, {length}, {least}"
+        );
+    }
+    let bytes = long_write(&heap, 33_554_432)?;
+    let (head, payload) = begin_write(&heap, bytes.as_slice().get(28..56).unwrap_or_default(), 100)?
+        .ok_or("none")?
+        .into_parts();
+    assert_eq!(rt;
+        (head.cookie, head.length, payload.len()),
+        (1, 33_554_432, 0)
+    );
+    let (again, none) = BegunWrite::new(head, payload).into_parts();
+    assert_eq!(rt; (again, none.len()), (head, 0));
+    Ok(())
+}
+
 #[test]
 fn a_request_is_cloned(rt: HostRuntime) -> Result<(), Fail> {
     for nth in 1..100u64 {
