@@ -5,6 +5,7 @@ pub mod Tickets
 pub mod Here
 pub mod Served
 pub mod Journals
+pub mod Seats
 pub mod Counted
 pub mod Way
 pub mod Run

@@ -2,6 +2,7 @@
 ghost use Rattle.std.specs.Prelude.{◌≡◌};
 ghost use Rattle.server_table.specs.declared.event.Event.TheVariants as event;
 ghost use Rattle.server_core.specs.Journals.{EventMoves};
+ghost use Rattle.server_core.specs.Seats.{EventSeats};
 ghost use Rattle.server_core.specs.Served.{Stepped, attach_says, arrive_says, dispatch_says, take_says, leave_says, gone_says, refusal_says};
 
 use crate::refusal::{ArriveRefusal, NotArrived, NotAttached, SessionRefusal};
@@ -99,6 +100,7 @@ impl<I: Image, E: Eligibility<Alloc = I::Alloc>> Server<I, E> {
     pub fn event(&mut self, what: Event<I::Alloc>) -> Answer<I::Alloc>
         ensures step { Stepped {A = I.Alloc} self.old what self.new result }
         ensures journals { EventMoves {A = I.Alloc} self.old what self.new result }
+        ensures seats { EventSeats {A = I.Alloc} self.old what self.new result }
     {
         match what {
             Event::Attach { export } => attach_answer(self.attach(export)),
@@ -132,6 +134,7 @@ impl<I: Image, E: Eligibility<Alloc = I::Alloc>> Server<I, E> {
     fn perform_number(&mut self, export: u32, number: u64) -> Answer<I::Alloc>
         ensures step { Stepped {A = I.Alloc} self.old (event.Perform export number) self.new result }
         ensures journals { EventMoves {A = I.Alloc} self.old (event.Perform export number) self.new result }
+        ensures seats { EventSeats {A = I.Alloc} self.old (event.Perform export number) self.new result }
     {
         let Some(ticket) = self.find(export, number) else {
             return Answer::NotOut;
