@@ -1,5 +1,10 @@
+pub mod BodyLemmas
+pub mod HeadLemmas
+pub mod LineLemmas
 pub mod NumberLemmas
 pub mod OutputLemmas
 pub mod ReplayLemmas
+pub mod ScriptLemmas
+pub mod SettingsLemmas
 pub mod TagsLemmas
 pub mod ToldLemmas

@@ -1,5 +1,5 @@
--- The lines of a body of `replay`: what the fields behind an event's name say.
-use Rattle.std.specs.Prelude.{ℕ, ◌^◌, ◌==◌, Bool, ◌&&◌, nat_lt, nat_le, if◌then◌else◌, List, [], ◌∷◌, length, Option, Some, None, option_map, option_and_then, Result, Ok, Err}
+-- The lines of a body of `replay`: what the fields behind an event's name say, and what all lines ask for.
+use Rattle.std.specs.Prelude.{◌≡◌, ℕ, ◌+◌, ◌^◌, ◌==◌, Bool, ◌&&◌, nat_lt, nat_le, if◌then◌else◌, List, [], ◌∷◌, ◌++◌, length, Option, Some, None, option_map, Result, Ok, Err}
 use Rattle.hex.specs.Hex.{decode_of}
 use Rattle.hex.specs.declared.FromHexError.{FromHexError}
 use Rattle.nbd_wire.specs.Grammar.{RequestMessage}
@@ -11,11 +11,9 @@ use Rattle.nbd_scripts.specs.declared.replay_line.ReplayLine.TheVariants as aske
 use Rattle.nbd_scripts.specs.declared.verbs.Verb.{Verb}
 use Rattle.nbd_scripts.specs.declared.verbs.Verb.TheVariants as verbs
 use Rattle.nbd_scripts.specs.Numbers.{number_below}
-use Rattle.nbd_scripts.specs.Lines.{only}
-
-infixl 10 ◌>>=◌
-abbrev pub ◌>>=◌ : {A B : Type 0} → Option A → (A → Option B) → Option B
-option >>= next = option_and_then next option
+use Rattle.nbd_scripts.specs.Lines.{fields_in, is_comment, lines_in, only}
+use Rattle.nbd_scripts.specs.Steps.{◌>>=◌}
+use Rattle.nbd_scripts.specs.Verbs.{verb_of}
 
 -- an export, and a number of it, and no more
 abbrev pub pair_of : List (List ℕ) → Option (ℕ × ℕ)
@@ -94,3 +92,37 @@ module _ {A : Type 0} where
   abbrev pub asked_by : Verb → List (List ℕ) → Option (ReplayLine A)
   asked_by verbs.Tags fields = option_map asked.Tags (export_of fields)
   asked_by verb fields = option_map asked.Event (event_of verb fields)
+
+  -- what fields ask for: nothing where there are none
+  abbrev pub asked_in : List (List ℕ) → Option (List (ReplayLine A))
+  asked_in [] = Some []
+  asked_in (name ∷ fields) = do
+    verb ← verb_of name
+    line ← asked_by verb fields
+    Some (line ∷ [])
+
+  -- what a line asks for
+  unfoldable pub line_asks : List ℕ → Option (List (ReplayLine A))
+  line_asks line = if is_comment line then Some [] else asked_in (fields_in line)
+
+  -- a line was taken: what it asks for comes behind the rest
+  pub record Takes (line : List ℕ) (old new : List (ReplayLine A)) : Type 0 where
+    pub these : List (ReplayLine A)
+    pub asks : line_asks line ≡ Some these
+    pub taken : new ≡ old ++ these
+
+  -- what lines ask for, in order
+  pub data Asks : List (List ℕ) → List (ReplayLine A) → Type 0 where
+    nothing : Asks [] []
+    behind_line : (lines : List (List ℕ)) (line : List ℕ) (asked these : List (ReplayLine A)) → Asks lines asked → line_asks line ≡ Some these → Asks (lines ++ line ∷ []) (asked ++ these)
+
+-- the line of this number has none of the forms, and those between it and the lines above have
+pub record MissesLine (A : Type 0) (above : ℕ) (text : List ℕ) (number : ℕ) : Type 0 where
+  pub lines : List (List ℕ)
+  pub line : List ℕ
+  pub more : List (List ℕ)
+  pub asked : List (ReplayLine A)
+  pub are : lines_in text ≡ lines ++ line ∷ more
+  pub asks : Asks lines asked
+  pub missed : line_asks {A = A} line ≡ None
+  pub counted : number ≡ above + length lines + 1

@@ -1,5 +1,5 @@
 -- Why a line isn't taken.
-use Rattle.std.specs.Prelude.{◌≡◌, Option, None}
+use Rattle.std.specs.Prelude.{◌≡◌, Option, None, Result, Err}
 use Rattle.nbd_commands.specs.declared.settings.ConfigError.{ConfigError}
 use Rattle.nbd_commands.specs.declared.settings.ConfigError.TheVariants as config
 use Rattle.nbd_scripts.specs.declared.fault.LineFault.{LineFault}
@@ -15,3 +15,9 @@ abbrev pub IsMissed : {X : Type 0} → Option X → LineFault → Type 0
 IsMissed read fault.Form = read ≡ None
 IsMissed read (fault.Value refusal) = ⊥
 IsMissed read fault.NoMemory = Unit {0}
+
+-- this is told of what is refused for it. Want of memory may be told of anything
+abbrev pub IsRefused : {X : Type 0} → Result X LineFault → LineFault → Type 0
+IsRefused read fault.Form = read ≡ Err fault.Form
+IsRefused read (fault.Value refusal) = read ≡ Err (fault.Value refusal)
+IsRefused read fault.NoMemory = Unit {0}

@@ -1,10 +1,16 @@
 pub mod Answers
+pub mod Bodies
 pub mod Events
 pub mod Faults
+pub mod Head
+pub mod Heads
 pub mod Lines
 pub mod Numbers
 pub mod Output
 pub mod Replayed
+pub mod Scripts
+pub mod Settings
+pub mod Steps
 pub mod Told
 pub mod Verbs
 pub mod Waiting

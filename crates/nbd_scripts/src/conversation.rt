@@ -3,6 +3,7 @@
 ghost use Rattle.std.specs.Prelude.{◌≡◌, ◌≢◌, IfOk, IsErr, codes};
 ghost use Rattle.std.specs.Io.KnownBytes.{Appends};
 ghost use Rattle.hex.specs.Hex.{decode_of};
+ghost use Rattle.nbd_scripts.specs.Scripts.{TellsTalk};
 ghost use Rattle.nbd_scripts.specs.Output.{is_gap, digits_of, printed, word_of, Prints};
 
 use crate::head::{Head, read_head};
@@ -23,7 +24,7 @@ pub fn talk_script<A: Allocator + Copy, R: Read, W: Write>(
     input: &mut R,
     output: &mut W,
 ) -> Outcome
-    ensures { result ≡ Outcome.ReadFailed → W.contents output.new ≡ W.contents output.old }
+    ensures { TellsTalk (record { unread = R.remaining input.old; left = R.remaining input.new; old = W.contents output.old; new = W.contents output.new }) result }
 {
     let script = match read_script(alloc, input) {
         Ok(script) => script,

@@ -1,13 +1,14 @@
 //! The body of a script of `replay`: an event of the server a line, or a question for its tags.
 
-ghost use Rattle.std.specs.Prelude.{◌≡◌, true, false, [], ◌∷◌, IfOk, IfErr};
+ghost use Rattle.std.specs.Prelude.{◌≡◌, true, false, [], ◌∷◌, IfOk, IfErr, OnOk};
 ghost use Rattle.std.specs.Option.{ok_or};
+ghost use Rattle.nbd_scripts.specs.Bodies.{IsBody};
 ghost use Rattle.nbd_scripts.specs.Faults.{IsMissed};
 ghost use Rattle.nbd_scripts.specs.Lines.{texts_of};
-ghost use Rattle.nbd_scripts.specs.Events.{arrival_of, asked_by, brings_payload, event_of, export_of, head_read, moment_of, pair_of, payload_of, request_of};
+ghost use Rattle.nbd_scripts.specs.Events.{arrival_of, asked_by, brings_payload, event_of, export_of, head_read, line_asks, moment_of, pair_of, payload_of, request_of, Takes};
 
+use crate::body::Body;
 use crate::fault::LineFault;
-use crate::head::Body;
 use crate::lines::{fields_of, first_line, is_comment, only};
 use crate::numbers::{half_word, moment, number, word};
 use crate::replay_line::ReplayLine;
@@ -29,27 +30,33 @@ pub enum Lines<A: Allocator> {
 }
 
 /// Reads all lines of a body.
-pub fn read_lines<A: Allocator + Copy>(alloc: A, body: Body<'_>) -> Lines<A> {
+pub fn read_lines<A: Allocator + Copy>(alloc: A, body: Body<'_>) -> Lines<A>
+    ensures { IsBody body.entry.above body.entry.text.now result }
+{
     let mut lines = Vec::new(alloc);
     let mut rest = body.text;
-    let mut count = body.above;
+    let mut above = body.above;
     while !rest.is_empty() {
         let (line, after) = first_line(rest);
         rest = after;
-        count = count.saturating_add(1);
+        above += 1;
         if let Err(fault) = take_line(alloc, line, &mut lines) {
-            return Lines::Refused(count, fault);
+            return Lines::Refused(above, fault);
         }
     }
     Lines::Read(lines)
 }
 
 /// Takes one line. One without fields, or that begins with `#`, is passed over.
+#[tactic(auto, unfolding(crate::specs::Events::line_asks))]
 fn take_line<A: Allocator + Copy>(
     alloc: A,
     line: &[u8],
     lines: &mut Vec<ReplayLine<A>, A>,
-) -> Result<(), LineFault> {
+) -> Result<(), LineFault>
+    ensures taken { OnOk result (Takes {A = A} line.now lines.old.items lines.new.items) }
+    ensures missed { IfErr result (IsMissed (line_asks {A = A} line.now)) }
+{
     if is_comment(line) {
         return Ok(());
     }

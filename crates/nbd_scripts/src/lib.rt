@@ -2,6 +2,7 @@
 #![tactic(auto)]
 
 mod answers;
+mod body;
 mod conversation;
 mod events;
 mod fault;
@@ -12,6 +13,7 @@ mod outcome;
 mod refused;
 mod replay_line;
 mod replaying;
+mod settings;
 mod tags;
 mod verbs;
 

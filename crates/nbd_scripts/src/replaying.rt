@@ -3,6 +3,7 @@
 ghost use Rattle.std.specs.Prelude.{◌≡◌, ◌⊎◌, OnOk};
 ghost use Rattle.server_core.specs.Served.{setup_for};
 ghost use Rattle.nbd_scripts.specs.Replayed.{IsMade, Replays, steps_line};
+ghost use Rattle.nbd_scripts.specs.Scripts.{TellsReplay};
 ghost use Rattle.nbd_scripts.specs.Told.{Writes};
 
 use crate::answers::write_answer;
@@ -26,7 +27,7 @@ pub fn replay_script<A: Allocator + Copy, R: Read, W: Write>(
     input: &mut R,
     output: &mut W,
 ) -> Outcome
-    ensures { result ≡ Outcome.ReadFailed → W.contents output.new ≡ W.contents output.old }
+    ensures { TellsReplay A (record { unread = R.remaining input.old; left = R.remaining input.new; old = W.contents output.old; new = W.contents output.new }) result }
 {
     let script = match read_script(alloc, input) {
         Ok(script) => script,

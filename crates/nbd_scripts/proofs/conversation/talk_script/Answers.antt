@@ -1,0 +1,23 @@
+use Rattle.std.proofs.Common.{◌≡◌, codes, rules}
+use Rattle.std.specs.Prelude.{IsErr}
+use Rattle.std.specs.Io.KnownBytes.{Appends}
+use Rattle.hex.specs.Hex.{decode_of}
+use Rattle.nbd_scripts.specs.declared.outcome.Outcome.TheVariants as outcome
+use Rattle.nbd_scripts.specs.Head.{HasHead}
+use Rattle.nbd_scripts.specs.Output.{digits_of, Prints}
+use Rattle.nbd_scripts.specs.Scripts.{Streams}
+use Rattle.nbd_scripts.proofs.ScriptLemmas.{talk_read}
+use Rattle.nbd_scripts.proofs.conversation.talk_script.Goals as goal
+
+pub returns-in-Read : goal.returns-in-Read
+returns-in-Read g c =
+    let old = g.W.Write.contents c.args.output.now in
+    let new = g.W.Write.contents c.converse.new.output in
+    let streams : Streams = record { unread = g.R.Read.remaining c.args.input.now; left = g.R.Read.remaining c.read_script.new.input; old = old; new = new } in
+    let offer = c.in-Read.config in
+    let body = c.in-Read.body.text.now in
+    let head : HasHead c.in-Ok.script.items offer c.in-Read.body.above body = search rules in
+    let done : c.converse.result ≡ outcome.Done → Prints offer.exports body old new = search rules in
+    let refused : c.converse.result ≡ outcome.Refused → IsErr (decode_of (digits_of body)) × Appends old new (codes "hex refused\n") = search rules in
+    talk_read streams offer c.in-Read.body.above body (record { script = c.in-Ok.script.items; whole = c.in-Ok.ensures.whole; head = head })
+    c.converse.result done refused c.converse.ensures.unread
