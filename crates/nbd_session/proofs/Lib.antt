@@ -1,6 +1,7 @@
 pub mod KnownLemmas
 pub mod BufferLemmas
 pub mod FrameLemmas
+pub mod IntakeLemmas
 pub mod OutcomeLemmas
 pub mod Turns
 pub mod ServingLemmas

@@ -3,7 +3,8 @@
 use crate::counted::Counted;
 use crate::ending::{Ending, Frame};
 use crate::fetch::advance;
-use nbd_wire::{Decoder, FeedFault, Request};
+use crate::intake::Intake;
+use nbd_wire::{FeedFault, Request};
 use std::alloc::Allocator;
 use std::io::Read;
 use std::marker::Model;
@@ -11,7 +12,7 @@ use std::marker::Model;
 /// The requests of one client, out of the reader that each call is handed: it is to be the same one.
 #[derive(Drop)]
 pub struct Frames<A: Allocator + Copy> {
-    decoder: Decoder<A>,
+    intake: Intake<A>,
     // The requests that are ready, the last first.
     ready: Vec<Request<A>, A>,
     // What was met behind them.
@@ -27,9 +28,9 @@ impl<A: Allocator + Copy> Model for Frames<A> {
 
     ghost Value = { Reading };
 
-    ghost view = { λ f. record { kept = kept_of f.ready.items f.decoder.held; ready = length f.ready.items; ended = f.ended } };
+    ghost view = { λ f. record { kept = kept_of f.ready.items f.intake.held; ready = length f.ready.items; ended = f.ended } };
 
-    ghost invariant = { λ f. IsFraming f.ready.items f.fault f.decoder };
+    ghost invariant = { λ f. IsFraming f.ready.items f.fault f.intake };
 }
 
 impl<A: Allocator + Copy> Frames<A> {
@@ -44,7 +45,7 @@ impl<A: Allocator + Copy> Frames<A> {
         ensures { result ≡ record { kept = []; ready = 0; ended = None } }
     {
         Frames {
-            decoder: Decoder::new(alloc),
+            intake: Intake::new(alloc),
             ready: Vec::new(alloc),
             fault: None,
             ended: None,
@@ -70,7 +71,7 @@ impl<A: Allocator + Copy> Frames<A> {
             self.alloc,
             reader,
             &mut self.buffer,
-            &mut self.decoder,
+            &mut self.intake,
             &mut self.ready,
             &mut self.fault,
         ) {

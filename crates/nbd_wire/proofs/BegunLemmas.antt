@@ -1,11 +1,10 @@
 -- WRITEs whose payload came in part.
-use Rattle.std.proofs.Common.{◌≡◌, ◌≢◌, ℕ, ◌-◌, ◌<◌, ◌≤◌, List, ◌++◌, length, take, drop, refl, sym, ap, subst, ◌∙◌, arith, append-nil, append_assoc}
-use Rattle.std.specs.Prelude.{Result, Err, IsErrOf}
+use Rattle.std.proofs.Common.{◌≡◌, ◌≢◌, ℕ, ◌-◌, ◌<◌, ◌≤◌, List, ◌++◌, length, take, drop, refl, sym, ap, subst, ◌∙◌, arith}
 use Rattle.std.proofs.lemmas.List.{take-take, length-append, length-drop}
 use Rattle.nbd_wire.specs.declared.requests.RequestHead.{RequestHead}
 use Rattle.nbd_wire.specs.declared.fault.WireFault.{WireFault}
 use Rattle.nbd_wire.specs.declared.fault.WireFault.TheVariants as faults
-use Rattle.nbd_wire.specs.Grammar.{head_text, request_text, request_magic, RequestMessage, IsHead, IsTooLong, IsPartOfWrite, BeginsOther, BeginsTooLong}
+use Rattle.nbd_wire.specs.Grammar.{head_text, request_text, request_magic, RequestMessage, IsHead, IsTooLong, IsPartOfWrite}
 use Rattle.nbd_wire.specs.Pieces.{IsBegun, IsLong, NoneBegins}
 use Rattle.nbd_wire.proofs.HeadLemmas.{length-head_text}
 use Rattle.nbd_wire.proofs.OneSpelling.{one_head}

@@ -18,4 +18,4 @@ pub returns-clause-first : goal.returns-clause-first
 returns-clause-first g c = λ t.
     let ready = c.self.inside.ready.items in
     let some : 0 < length ready = (some_there (length c.as_slice.result.now) (length ready) c.is_empty.result c.is_empty.ensures (ap (λ (l : List RequestMessage). length l) c.as_slice.ensures.value)).0 t in
-    subst BeginsWhole (ap (λ (r : Reading). r.kept) c.self.view_is) (begins_ready ready c.self.inside.decoder.held c.self.invariant.each some)
+    subst BeginsWhole (ap (λ (r : Reading). r.kept) c.self.view_is) (begins_ready ready c.self.inside.intake.held c.self.invariant.each some)

@@ -1,0 +1,184 @@
+//! The bytes of a reader that stand in no request yet.
+ghost use Rattle.std.specs.Prelude.{◌≡◌, ◌<◌, ◌==◌, [], length, false, None, IfOk, if◌then◌else◌};
+ghost use Rattle.nbd_session.specs.Frames.{IsBehindReady, TakesIn, Fetches};
+ghost use Rattle.nbd_session.specs.Intake.{taken_in, IsTakenIn};
+ghost use Rattle.nbd_session.specs.declared.ending.Ending.{Ending};
+
+use crate::counted::Counted;
+use crate::ending::Ending;
+use crate::long_write::read_on;
+use nbd_wire::{BegunWrite, Decoder, FeedFault, Request, begin_write};
+use std::alloc::Allocator;
+use std::io::Read;
+use std::marker::Model;
+
+/// The least payload, in bytes, that is read straight into its place. It costs one more read where further requests wait behind
+/// it, and saves its copies.
+const LONG: usize = 4096;
+
+/// The bytes that stand in no request yet: what a decoder holds, or a long WRITE whose payload is read straight into its place.
+#[derive(Drop)]
+pub struct Intake<A: Allocator + Copy> {
+    decoder: Decoder<A>,
+    begun: Option<BegunWrite<A>>,
+    alloc: A,
+}
+
+impl<A: Allocator + Copy> Model for Intake<A> {
+    ghost use Rattle.nbd_wire.specs.Pieces.{Decoding};
+    ghost use Rattle.nbd_session.specs.Intake.{taken_in, IsTakenIn};
+
+    ghost Value = { Decoding };
+
+    ghost view = { λ i. taken_in i.begun i.decoder };
+
+    ghost invariant = { λ i. IsTakenIn i.begun i.decoder };
+}
+
+impl<A: Allocator + Copy> Intake<A> {
+    ghost use Rattle.std.specs.Prelude.{◌≡◌, ◌<◌, [], length, false, None, IfOk};
+    ghost use Rattle.nbd_session.specs.Frames.{IsBehindReady, Fetches};
+
+    /// Nothing was read yet.
+    pub fn new(alloc: A) -> Intake<A>
+        ensures { result ≡ record { held = []; failed = false } }
+    {
+        Intake {
+            decoder: Decoder::new(alloc),
+            begun: None,
+            alloc,
+        }
+    }
+
+    /// Reads once: a piece into the buffer, or the next bytes of a long WRITE straight into their place.
+    pub fn fetch<R: Read>(
+        &mut self,
+        reader: &mut Counted<R>,
+        buffer: &mut [u8],
+        ready: &mut Vec<Request<A>, A>,
+    ) -> Result<Option<FeedFault>, Ending>
+        requires room { 0 < length buffer.old }
+        requires none { ready.old.items ≡ [] }
+        requires well { IsBehindReady None self.old }
+        ensures fetched { Fetches (R.remaining reader.old.inner) (R.remaining reader.new.inner) reader.old.failures reader.new.failures
+            self.old.held ready.new.items self.new result }
+        ensures more { IfOk result (λ fault. fault ≡ None → ready.new.items ≡ [] → length self.old.held < length self.new.held) }
+    {
+        match self.begun.take() {
+            Some(write) => read_on(reader, write, &mut self.begun, ready),
+            None => read_afresh(
+                self.alloc,
+                reader,
+                buffer,
+                &mut self.decoder,
+                &mut self.begun,
+                ready,
+            ),
+        }
+    }
+}
+
+/// Reads once where no long WRITE was taken out of the decoder so far.
+fn read_afresh<A: Allocator + Copy, R: Read>(
+    alloc: A,
+    reader: &mut Counted<R>,
+    buffer: &mut [u8],
+    decoder: &mut Decoder<A>,
+    begun: &mut Option<BegunWrite<A>>,
+    ready: &mut Vec<Request<A>, A>,
+) -> Result<Option<FeedFault>, Ending>
+    requires room { 0 < length buffer.old }
+    requires none { ready.old.items ≡ [] }
+    requires well { IsBehindReady None decoder.old }
+    requires not_begun { begun.old ≡ None }
+    ensures fetched { Fetches (R.remaining reader.old.inner) (R.remaining reader.new.inner) reader.old.failures reader.new.failures
+        decoder.old.held ready.new.items (taken_in begun.new decoder.new) result }
+    ensures more { IfOk result (λ fault. fault ≡ None → ready.new.items ≡ []
+        → length decoder.old.held < length (taken_in begun.new decoder.new).held) }
+    ensures intake { IsTakenIn begun.new decoder.new }
+{
+    match decoder.take_begun(LONG) {
+        Ok(Some(write)) => read_on(reader, write, begun, ready),
+        Ok(None) => read_piece(alloc, reader, buffer, decoder, begun, ready),
+        Err(_) => Err(Ending::NoMemory),
+    }
+}
+
+/// Reads one piece.
+fn read_piece<A: Allocator + Copy, R: Read>(
+    alloc: A,
+    reader: &mut Counted<R>,
+    buffer: &mut [u8],
+    decoder: &mut Decoder<A>,
+    begun: &mut Option<BegunWrite<A>>,
+    ready: &mut Vec<Request<A>, A>,
+) -> Result<Option<FeedFault>, Ending>
+    requires room { 0 < length buffer.old }
+    requires none { ready.old.items ≡ [] }
+    requires well { IsBehindReady None decoder.old }
+    requires not_begun { begun.old ≡ None }
+    ensures fetched { Fetches (R.remaining reader.old.inner) (R.remaining reader.new.inner) reader.old.failures reader.new.failures
+        decoder.old.held ready.new.items (taken_in begun.new decoder.new) result }
+    ensures more { IfOk result (λ fault. fault ≡ None → ready.new.items ≡ []
+        → length decoder.old.held < length (taken_in begun.new decoder.new).held) }
+    ensures intake { IsTakenIn begun.new decoder.new }
+{
+    let held = decoder.rest();
+    match reader.read(buffer) {
+        Ok(0) => Err(over(held)),
+        Ok(count) => Ok(take_in(alloc, decoder, begun, &buffer[..count], ready)),
+        Err(_) => Err(Ending::ReadFailed),
+    }
+}
+
+/// How the input ends, where so many bytes are in no request.
+fn over(held: usize) -> Ending
+    ensures { result ≡ (if held == 0 then Ending.Over else Ending.Cut) }
+{
+    if held == 0 { Ending::Over } else { Ending::Cut }
+}
+
+/// Takes in one piece. The requests that it makes whole are ready, the last first.
+fn take_in<A: Allocator + Copy>(
+    alloc: A,
+    decoder: &mut Decoder<A>,
+    begun: &mut Option<BegunWrite<A>>,
+    piece: &[u8],
+    ready: &mut Vec<Request<A>, A>,
+) -> Option<FeedFault>
+    requires none { ready.old.items ≡ [] }
+    requires well { decoder.old.failed ≡ false }
+    requires not_begun { begun.old ≡ None }
+    ensures taken { TakesIn decoder.old.held piece.now ready.new.items (taken_in begun.new decoder.new) result }
+    ensures intake { IsTakenIn begun.new decoder.new }
+{
+    if decoder.rest() != 0 {
+        return feed(decoder, piece, ready);
+    }
+    match begin_write(alloc, piece, LONG) {
+        Ok(Some(write)) => {
+            *begun = Some(write);
+            None
+        }
+        Ok(None) => feed(decoder, piece, ready),
+        Err(_) => Some(FeedFault::NoMemory),
+    }
+}
+
+/// Feeds one piece to a decoder. The requests that it makes whole are ready, the last first.
+fn feed<A: Allocator + Copy>(
+    decoder: &mut Decoder<A>,
+    piece: &[u8],
+    ready: &mut Vec<Request<A>, A>,
+) -> Option<FeedFault>
+    requires none { ready.old.items ≡ [] }
+    requires well { decoder.old.failed ≡ false }
+    ensures { TakesIn decoder.old.held piece.now ready.new.items decoder.new result }
+{
+    let outcome = decoder.feed(piece, ready);
+    ready.reverse();
+    match outcome {
+        Ok(()) => None,
+        Err(fault) => Some(fault),
+    }
+}
