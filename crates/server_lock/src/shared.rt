@@ -1,5 +1,6 @@
 //! A booked server that threads share.
 ghost use Rattle.std.specs.Prelude.{◌≡◌, ◌≤◌, IfOk, IfErr, vec_len};
+ghost use Rattle.std.specs.Sync.Mutex.{mutex_guard_value};
 ghost use Rattle.server_table.specs.declared.event.Event.TheVariants as event;
 ghost use Rattle.server_core.specs.Counted.{counted_steps, IsSound};
 ghost use Rattle.server_core.specs.Served.{attach_says, arrive_says, dispatch_says, perform_says, take_says, leave_says, gone_says};
@@ -16,12 +17,13 @@ use reply_box::Taken;
 use server_core::{Chosen, NotArrived, NotAttached, Server, SessionId, SessionRefusal, Ticket};
 use std::sync::atomic::{AtomicBool, Ordering};
 use std::sync::ledger::{Blank, Ledger};
-use std::sync::{Mutex, Wait};
+use std::sync::{Mutex, MutexGuard, Wait};
 use tag_clock::Moment;
 
 /// A booked server under a lock, and a stop flag beside it, of which nothing is claimed.
 ///
-/// Each call that takes the lock makes one turn and lets it go. Who comes first is not promised, nor that a call returns.
+/// `hold` takes the lock for as many turns as its caller likes; each call that makes a turn takes it for that one alone. Who
+/// comes first is not promised, nor that a call returns.
 #[derive(Drop)]
 pub struct Shared<L: Ledger, I: Image, E: Eligibility<Alloc = I::Alloc>> {
     booked: Mutex<Booked<L, I, E>>,
@@ -57,6 +59,17 @@ impl<L: Ledger, I: Image, E: Eligibility<Alloc = I::Alloc>> Shared<L, I, E> {
         }
     }
 
+    /// The server, which nobody else has until the guard is dropped. All that may be changed by it is what the turns change.
+    ///
+    /// Hold it for no longer than turns take: neither read nor write, nor wait for anything else, in between.
+    pub fn hold<R: Wait>(&self, rt: &R) -> MutexGuard<'_, Booked<L, I, E>>
+        ensures { IsSound (mutex_guard_value result) }
+    {
+        let held = self.booked.lock(rt);
+        held.kept();
+        held
+    }
+
     /// Opens a session of an export.
     pub fn turn_attach<R: Wait>(
         &self,
@@ -67,7 +80,7 @@ impl<L: Ledger, I: Image, E: Eligibility<Alloc = I::Alloc>> Shared<L, I, E> {
         ensures pass { pass.new ≡ noted {A = I.Alloc} pass.old (event.Attach export) (attach_says result) }
         ensures export { IfOk result (λ session. session.export ≡ export) }
     {
-        turns::turn_attach(&mut *self.booked.lock(rt), pass, export)
+        turns::turn_attach(&mut *self.hold(rt), pass, export)
     }
 
     /// A request of a session arrives at a moment. One that is refused is handed back.
@@ -82,7 +95,7 @@ impl<L: Ledger, I: Image, E: Eligibility<Alloc = I::Alloc>> Shared<L, I, E> {
         ensures pass { pass.new ≡ noted {A = I.Alloc} pass.old (event.Arrive session.export session.number moment request) (arrive_says result) }
         ensures back { IfErr result (λ e. e.request ≡ request) }
     {
-        turns::turn_arrive(&mut *self.booked.lock(rt), pass, session, moment, request)
+        turns::turn_arrive(&mut *self.hold(rt), pass, session, moment, request)
     }
 
     /// Chooses the request that is served next, where one may be. The pass holds its ticket.
@@ -94,7 +107,7 @@ impl<L: Ledger, I: Image, E: Eligibility<Alloc = I::Alloc>> Shared<L, I, E> {
     ) -> Option<Chosen>
         ensures { pass.new ≡ chosen_by (noted {A = I.Alloc} pass.old (event.Dispatch moment) (dispatch_says result)) result }
     {
-        turns::turn_dispatch(&mut *self.booked.lock(rt), pass, moment)
+        turns::turn_dispatch(&mut *self.hold(rt), pass, moment)
     }
 
     /// The request in service is done: whether memory was there for it, or None where the ticket is stale. Where the ticket
@@ -102,7 +115,7 @@ impl<L: Ledger, I: Image, E: Eligibility<Alloc = I::Alloc>> Shared<L, I, E> {
     pub fn turn_perform<R: Wait>(&self, rt: &R, pass: &mut Pass<L>, ticket: Ticket) -> Option<bool>
         ensures { pass.new ≡ without (noted {A = I.Alloc} pass.old (event.Perform ticket.export ticket.number) (perform_says result)) ticket }
     {
-        turns::turn_perform(&mut *self.booked.lock(rt), pass, ticket)
+        turns::turn_perform(&mut *self.hold(rt), pass, ticket)
     }
 
     /// The oldest reply of a session that isn't gone is taken.
@@ -114,7 +127,7 @@ impl<L: Ledger, I: Image, E: Eligibility<Alloc = I::Alloc>> Shared<L, I, E> {
     ) -> Result<Taken<I::Alloc>, SessionRefusal>
         ensures { pass.new ≡ noted {A = I.Alloc} pass.old (event.Take session.export session.number) (take_says result) }
     {
-        turns::turn_take(&mut *self.booked.lock(rt), pass, session)
+        turns::turn_take(&mut *self.hold(rt), pass, session)
     }
 
     /// Nothing more arrives on a session that is open.
@@ -126,7 +139,7 @@ impl<L: Ledger, I: Image, E: Eligibility<Alloc = I::Alloc>> Shared<L, I, E> {
     ) -> Result<(), SessionRefusal>
         ensures { pass.new ≡ noted {A = I.Alloc} pass.old (event.Leave session.export session.number) (leave_says result) }
     {
-        turns::turn_leave(&mut *self.booked.lock(rt), pass, session)
+        turns::turn_leave(&mut *self.hold(rt), pass, session)
     }
 
     /// A session that isn't gone is dropped with its replies; its requests are still served.
@@ -138,17 +151,17 @@ impl<L: Ledger, I: Image, E: Eligibility<Alloc = I::Alloc>> Shared<L, I, E> {
     ) -> Result<(), SessionRefusal>
         ensures { pass.new ≡ noted {A = I.Alloc} pass.old (event.Gone session.export session.number) (gone_says result) }
     {
-        turns::turn_gone(&mut *self.booked.lock(rt), pass, session)
+        turns::turn_gone(&mut *self.hold(rt), pass, session)
     }
 
     /// How many requests wait, of all exports together, while no turn is made.
     pub fn waiting<R: Wait>(&self, rt: &R) -> usize {
-        self.booked.lock(rt).server().waiting()
+        self.hold(rt).server().waiting()
     }
 
     /// The least moment at which a dispatch chooses a request, while no turn is made: `Server::next_due`.
     pub fn next_due<R: Wait>(&self, rt: &R) -> Option<Moment> {
-        self.booked.lock(rt).server().next_due()
+        self.hold(rt).server().next_due()
     }
 
     /// Tells the workers to end once nothing waits. It wakes nobody.

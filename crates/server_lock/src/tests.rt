@@ -100,7 +100,7 @@ fn written<L: Ledger, R: Wait>(
     Some([accepted, held, gone, performed, let_go, again])
 }
 
-// The second session reads what the first wrote, and leaves.
+// The second session reads what the first wrote, takes replies under one hold of the server, and leaves.
 fn read_back<L: Ledger, R: Wait>(
     rt: &R,
     shared: &Tried<L>,
@@ -119,7 +119,8 @@ fn read_back<L: Ledger, R: Wait>(
         });
     let chosen = chosen(rt, shared, pass, 1)?;
     let performed = shared.turn_perform(rt, pass, chosen.ticket) == Some(true);
-    let read = match shared.turn_take(rt, pass, session).ok()? {
+    let mut held = shared.hold(rt);
+    let read = match turn_take(&mut *held, pass, session).ok()? {
         Taken::Reply(reply) => {
             reply.cookie() == 2
                 && reply.error() == 0
@@ -127,14 +128,15 @@ fn read_back<L: Ledger, R: Wait>(
         }
         _ => false,
     };
-    let empty = match shared.turn_take(rt, pass, session).ok()? {
+    let empty = match turn_take(&mut *held, pass, session).ok()? {
         Taken::Empty => true,
         _ => false,
     };
-    let not_open = match shared.turn_take(rt, pass, gone) {
+    let not_open = match turn_take(&mut *held, pass, gone) {
         Err(refusal) => refusal == SessionRefusal::NotOpen,
         Ok(_) => false,
     };
+    drop(held);
     let left = shared.turn_leave(rt, pass, session).is_ok();
     let end = match shared.turn_take(rt, pass, session).ok()? {
         Taken::End => true,
