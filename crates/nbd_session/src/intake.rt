@@ -14,7 +14,7 @@ use std::marker::Model;
 
 /// The least payload, in bytes, that is read straight into its place. It costs one more read where further requests wait behind
 /// it, and saves its copies.
-const LONG: usize = 4096;
+const LONG: usize = 32_768;
 
 /// The bytes that stand in no request yet: what a decoder holds, or a long WRITE whose payload is read straight into its place.
 #[derive(Drop)]
