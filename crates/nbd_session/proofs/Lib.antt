@@ -19,3 +19,4 @@ pub mod TalkLemmas
 pub mod HaggledLemmas
 pub mod Worked
 pub mod SessionTurnLemmas
+pub mod TakingLemmas

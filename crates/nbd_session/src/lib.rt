@@ -10,7 +10,11 @@ mod fetch;
 mod fill;
 mod frames;
 mod haggling;
+<<<<<<< HEAD
 mod intake;
+=======
+mod held_turns;
+>>>>>>> 4db1073d36725543e530bca4c8725cc629d25f49
 mod laws;
 mod long_write;
 mod offers;
@@ -23,10 +27,12 @@ pub use conversing::{table_of, talk};
 pub use counted::Counted;
 pub use door::Door;
 pub use ending::{Ending, Frame};
+pub use fill::WriteFailed;
 pub use frames::FrameReader;
 pub use haggling::haggle;
+pub use held_turns::{Stop, hand_in, offer_held, read_ready, take_replies};
 pub use laws::{handshake_is_haggled, one_conversation, requests_are_plain, worked_conversations};
-pub use session_turns::{Turn, offer, read_turn, write_turn};
+pub use session_turns::{Turn, offer, put_reply, read_turn, write_turn};
 pub use talking::{End, Entry, TalkFault};
 
 #[cfg(test)]
