@@ -71,6 +71,7 @@ impl<W: Write> Write for Counted<W> {
         ensures failed { OnErr result (Rises self.old.failures self.new.failures) }
         ensures idle { IfOk result (λ n. n ≡ 0 → 0 < length buf.now → Rises self.old.failures self.new.failures) }
         ensures kept { IfOk result (λ n. 0 < n → self.new.failures ≡ self.old.failures) }
+        ensures empty { OnOk result (length buf.now ≡ 0 → self.new.failures ≡ self.old.failures) }
     {
         let outcome = self.inner.write(buf);
         let failed = match &outcome {
