@@ -10,11 +10,8 @@ mod fetch;
 mod fill;
 mod frames;
 mod haggling;
-<<<<<<< HEAD
-mod intake;
-=======
 mod held_turns;
->>>>>>> 4db1073d36725543e530bca4c8725cc629d25f49
+mod intake;
 mod laws;
 mod long_write;
 mod offers;
