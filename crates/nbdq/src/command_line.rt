@@ -1,6 +1,12 @@
 //! The words that the program is called with.
 
+ghost use Rattle.std.specs.Prelude.{◌≡◌, false, map, option_map, string_bytes, IfOk};
+ghost use Rattle.clap.specs.Words.{app_of, found_of, rows_of, rule_of, subcommand_name_of, subcommand_rows_of, with_subcommand, FailsBy};
+ghost use Rattle.nbdq.specs.Asked.{faults_in, AsksFor, IsJob, IsServe};
+ghost use Rattle.nbdq.specs.Commands.{number_rule, numbers_up_to, option_rule, program, serve_command};
+
 use crate::serving::Crew;
+use clap::builder::ValueParser;
 use clap::error::ErrorKind;
 use clap::{Arg, ArgMatches, Command, Error, value_parser};
 use std::alloc::{AllocError, Global};
@@ -60,8 +66,18 @@ pub fn read_command_line(rt: &(impl Env + AllocGlobal)) -> Result<Job, Error> {
 }
 
 /// What the words ask for, of which the first is the program's name.
-pub fn asked_job<S: AsStr>(alloc: Global, words: &[S]) -> Result<Job, Error> {
+pub fn asked_job<S: AsStr>(alloc: Global, words: &[S]) -> Result<Job, Error>
+    ensures asked { IfOk result (AsksFor (map S.text words.now)) }
+    ensures refused { FailsBy (faults_in (map S.text words.now)) result }
+{
     let matches = command(alloc)?.try_get_matches_from(words)?;
+    Ok(job_of(alloc, &matches)?)
+}
+
+/// What a command and its options ask for.
+fn job_of(alloc: Global, matches: &ArgMatches<'_>) -> Result<Job, AllocError>
+    ensures { IfOk result (IsJob (subcommand_name_of matches.now) (option_map (λ said. said.1) (subcommand_rows_of matches.now))) }
+{
     match matches.subcommand() {
         Some(("check", _)) => Ok(Job::Task(Task::Check)),
         Some(("replay", _)) => Ok(Job::Task(Task::Replay)),
@@ -71,7 +87,9 @@ pub fn asked_job<S: AsStr>(alloc: Global, words: &[S]) -> Result<Job, Error> {
 }
 
 /// What follows the word `serve`.
-fn serve_task(alloc: Global, given: &ArgMatches<'_>) -> Result<ServeTask, AllocError> {
+fn serve_task(alloc: Global, given: &ArgMatches<'_>) -> Result<ServeTask, AllocError>
+    ensures { IfOk result (IsServe (rows_of (found_of given.now))) }
+{
     Ok(ServeTask {
         tcp: kept(alloc, given.get_str("tcp"))?,
         unix: kept(alloc, given.get_str("unix"))?,
@@ -82,36 +100,62 @@ fn serve_task(alloc: Global, given: &ArgMatches<'_>) -> Result<ServeTask, AllocE
     })
 }
 
-fn kept(alloc: Global, word: Option<&str>) -> Result<Option<String>, AllocError> {
+fn kept(alloc: Global, word: Option<&str>) -> Result<Option<String>, AllocError>
+    ensures { IfOk result (λ kept. option_map string_bytes kept ≡ option_map (λ text. text.now) word.entry) }
+{
     match word {
         Some(word) => Ok(Some(String::from_str(alloc, word)?)),
         None => Ok(None),
     }
 }
 
-fn command<'a>(alloc: Global) -> Result<Command<'a>, AllocError> {
-    Command::new(alloc, "nbdq")
+fn command<'a>(alloc: Global) -> Result<Command<'a>, AllocError>
+    ensures { IfOk result (λ command. app_of command ≡ program) }
+{
+    let program = Command::new(alloc, "nbdq")
         .subcommand_required(true)
         .subcommand(Command::new(alloc, "check"))?
         .subcommand(Command::new(alloc, "talk"))?
-        .subcommand(Command::new(alloc, "replay"))?
-        .subcommand(serve_command(alloc)?)
+        .subcommand(Command::new(alloc, "replay"))?;
+    with_serve(alloc, program)
 }
 
-fn serve_command<'a>(alloc: Global) -> Result<Command<'a>, AllocError> {
-    let tcp = Arg::new(alloc, "tcp").long("tcp").value_name("ADDR");
-    let unix = Arg::new(alloc, "unix").long("unix").value_name("PATH");
-    let workers = Arg::new(alloc, "workers")
-        .long("workers")
-        .value_name("N")
-        .value_parser(value_parser!(u64).range(1..=64));
-    let sessions = Arg::new(alloc, "sessions")
-        .long("sessions")
-        .value_name("N")
-        .value_parser(value_parser!(u64).range(1..=1_000_000));
-    Command::new(alloc, "serve")
-        .arg(tcp)?
-        .arg(unix)?
-        .arg(workers)?
-        .arg(sessions)
+/// The program with its command `serve`.
+fn with_serve<'a>(alloc: Global, program: Command<'a>) -> Result<Command<'a>, AllocError>
+    ensures { IfOk result (λ command. app_of command ≡ with_subcommand (app_of program.entry) serve_command.top) }
+{
+    let serve = Command::new(alloc, "serve")
+        .arg(option(alloc, "tcp", "ADDR"))?
+        .arg(option(alloc, "unix", "PATH"))?
+        .arg(number(alloc, "workers", workers()))?
+        .arg(number(alloc, "sessions", sessions()))?;
+    program.subcommand(serve)
+}
+
+/// `--NAME VALUE`.
+fn option<'a>(alloc: Global, name: &'a str, value: &'a str) -> Arg<'a>
+    ensures rule { rule_of result ≡ option_rule name.entry.now }
+    ensures local { result.global ≡ false }
+{
+    Arg::new(alloc, name).long(name).value_name(value)
+}
+
+/// `--NAME N`, of a number that this parser takes.
+fn number<'a>(alloc: Global, name: &'a str, parser: ValueParser<'a>) -> Arg<'a>
+    ensures rule { rule_of result ≡ number_rule name.entry.now parser.entry }
+    ensures local { result.global ≡ false }
+{
+    option(alloc, name, "N").value_parser(parser)
+}
+
+fn workers<'a>() -> ValueParser<'a>
+    ensures { result ≡ numbers_up_to 64 }
+{
+    value_parser!(u64).range(1..=64)
+}
+
+fn sessions<'a>() -> ValueParser<'a>
+    ensures { result ≡ numbers_up_to 1000000 }
+{
+    value_parser!(u64).range(1..=1_000_000)
 }

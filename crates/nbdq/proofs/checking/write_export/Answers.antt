@@ -1,4 +1,4 @@
-use Rattle.std.proofs.Common.{◌≡◌, List, ◌++◌, rules, codes}
+use Rattle.std.proofs.Common.{◌++◌, codes}
 use Rattle.std.specs.Io.KnownBytes.{Appends}
 use Rattle.nbd_session.proofs.KnownLemmas.{Appends-then}
 use Rattle.nbdq.specs.Checked.{disk_text, rates_text, queue_text}
