@@ -10,7 +10,7 @@ use nbd_wire::{Request, RequestHead};
 use refusing::Refusing;
 use server_core::{Server, SessionId};
 use server_lock::{AnswerTrace, EventTrace, Pass, Shared, Trace, settle};
-use std::alloc::{Allocator, Global};
+use std::alloc::{AllocError, Allocator, Global};
 use std::io;
 use std::io::{Read, Write};
 use std::marker::Brand;
@@ -22,6 +22,7 @@ use tag_clock::{Clock, Moment};
 mod ending;
 mod entering;
 mod going;
+mod long;
 
 type Heap<'a> = &'a Refusing<Global>;
 
