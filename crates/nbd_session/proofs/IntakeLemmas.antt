@@ -1,5 +1,5 @@
 -- What is taken in by pieces and straight into a payload.
-use Rattle.std.proofs.Common.{◌≡◌, ℕ, ◌+◌, ◌-◌, ◌<◌, ◌≤◌, ◌⊎◌, false, List, [], ◌∷◌, ◌++◌, Option, Some, None, Result, Ok, Err, reverse, length, take, drop, get_or, refl, sym, ap, subst, ◌∙◌, inl, inr, arith, append_assoc}
+use Rattle.std.proofs.Common.{◌≡◌, ℕ, ◌+◌, ◌<◌, ◌≤◌, ◌⊎◌, false, List, [], ◌∷◌, ◌++◌, Option, Some, None, Ok, Err, reverse, length, take, drop, get_or, refl, sym, ap, subst, ◌∙◌, inl, inr, arith, append_assoc}
 use Rattle.std.specs.List.{AllByRecursion}
 use borrow.Rule.Slice.PartMut.{put_mid}
 use Rattle.std.proofs.lemmas.List.{append-nil, length-append, length-take, take_all, take_at, take-take, take-append-le, get_or-append-add, get_or_past}
@@ -8,12 +8,12 @@ use Rattle.std.specs.Io.KnownBytes.{Consumes}
 use Rattle.nbd_wire.specs.declared.requests.RequestHead.{RequestHead}
 use Rattle.nbd_wire.specs.declared.fault.FeedFault.{FeedFault}
 use Rattle.nbd_wire.specs.declared.fault.FeedFault.TheVariants as faults
-use Rattle.nbd_wire.specs.Grammar.{head_text, request_text, RequestMessage, IsRequest, IsUnfinished, IsPartOfWrite}
-use Rattle.nbd_wire.specs.Pieces.{Decoding, IsBegun, texts}
+use Rattle.nbd_wire.specs.Grammar.{head_text, request_text, RequestMessage, IsRequest, IsPartOfWrite}
+use Rattle.nbd_wire.specs.Pieces.{Decoding, IsBegun}
 use Rattle.nbd_wire.proofs.HeadLemmas.{length-head_text}
 use Rattle.nbd_session.specs.declared.ending.Ending.{Ending}
 use Rattle.nbd_session.specs.Conversation.{AreBytes}
-use Rattle.nbd_session.specs.Frames.{kept_of, IsBehindReady, IsFraming, TakesIn, Fetches, IsEnded, EndsReader}
+use Rattle.nbd_session.specs.Frames.{kept_of, IsBehindReady, TakesIn, Fetches, IsEnded}
 use Rattle.nbd_session.specs.Intake.{taken_in, nothing_held, IsPartly, Lengthens, EndsWithin}
 use Rattle.nbd_session.proofs.BufferLemmas.{put_more, put_long}
 

@@ -13,7 +13,7 @@ use server_lock::{
     AnswerTrace, Booked, EventTrace, Pass, Shared, Trace, settle, turn_dispatch, turn_gone,
     turn_perform,
 };
-use std::alloc::{Allocator, Global};
+use std::alloc::{AllocError, Allocator, Global};
 use std::io;
 use std::io::{Read, Write};
 use std::marker::Brand;
@@ -26,6 +26,7 @@ mod ending;
 mod entering;
 mod going;
 mod holding;
+mod long;
 
 type Heap<'a> = &'a Refusing<Global>;
 

@@ -1,4 +1,4 @@
-use Rattle.std.proofs.Common.{Option, Err, subst, sym}
+use Rattle.std.proofs.Common.{Err, subst, sym}
 use Rattle.nbd_wire.specs.Grammar.{request_text}
 use Rattle.nbd_wire.specs.Pieces.{Decoding}
 use Rattle.nbd_session.specs.Frames.{Fetches}
