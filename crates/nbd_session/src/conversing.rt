@@ -1,4 +1,4 @@
-ghost use Rattle.std.specs.Prelude.{◌≡◌, ◌≤◌, map, length, IfOk, IsErrOf};
+ghost use Rattle.std.specs.Prelude.{◌≡◌, ◌≤◌, map, length, IfOk, OnOk, IsErrOf};
 ghost use Rattle.nbd_commands.specs.Exports.{flags_of};
 ghost use Rattle.nbd_session.specs.Streams.{Rises};
 ghost use Rattle.nbd_session.specs.Outcomes.{Converses, IsTold};
@@ -27,6 +27,7 @@ pub fn talk<A: Allocator + Copy, R: Read, W: Write>(
         (W.contents writer.old.inner) (W.contents writer.new.inner) result }
     ensures read_failed { IsErrOf result TalkFault.ReadFailed → Rises reader.old.failures reader.new.failures }
     ensures write_failed { IsErrOf result TalkFault.WriteFailed → Rises writer.old.failures writer.new.failures }
+    ensures written { OnOk result (writer.new.failures ≡ writer.old.failures) }
 {
     let table = table_of(alloc, config.exports())?;
     match haggle(alloc, &table, reader, writer, &mut Always)? {

@@ -1,11 +1,21 @@
-use Rattle.std.proofs.Common.{ℕ, arith, refl, ap, subst, ◌∙◌}
+use Rattle.std.proofs.Common.{ℕ, Result, Ok, Err, arith, refl, ap, subst, ◌∙◌}
+use Rattle.std.specs.Result.{OnOk}
 use Rattle.std.proofs.lemmas.Result.{err_from_is_err_and}
+use Rattle.nbd_session.specs.declared.talking.End.{End}
+use Rattle.nbd_session.specs.declared.talking.TalkFault.{TalkFault}
 use Rattle.nbd_session.specs.Frames.{Reading}
 use Rattle.nbd_session.specs.Streams.{Rises}
 use Rattle.nbd_session.specs.Requests.{opened}
 use Rattle.nbd_session.proofs.ServeLemmas.{served_by, still_idle, still_terms, still_few, few_at_first, worn_by_count}
 use Rattle.nbd_session.proofs.KeptLemmas.{keeps_nothing, is_ended, is_without_memory, read_rises, is_disc, disc_by, no_disc_by, is_worn, is_part, keeps_on, gives}
 use Rattle.nbd_session.proofs.transmission.requests.Goals as goal
+
+on_any : (P : Type 0) (answer : Result End TalkFault) → P → OnOk answer P
+on_any P (Ok end) holds = holds
+on_any P (Err fault) holds = tt
+
+pub returns-in-Ended-clause-written : goal.returns-in-Ended-clause-written
+returns-in-Ended-clause-written g c = on_any _ c.end_of.result c.loop-request.invariant.write_kept
 
 pub loop-request-init : goal.loop-request-init
 loop-request-init g c =
