@@ -18,12 +18,12 @@ use std::time::Duration;
 /// How many bytes of replies are kept before they are sent.
 const OUTLET: usize = 65_536;
 
-/// How many replies are taken in a row.
-const TAKEN: usize = 16;
+/// How many replies are taken in a row: twice as many as a reader hands in requests, so that it mostly takes all.
+const TAKEN: usize = 32;
 
-/// How many bytes of data the replies may have that a reader writes: what a socket mostly holds, so that a client that
+/// How many bytes of data the replies may have together that a reader writes: what a socket mostly holds, so that a client that
 /// doesn't read yet is still read.
-const BRIEF: usize = 65_536;
+const BRIEF: usize = 131_072;
 
 /// How many seconds a writer sleeps whose session has requests under way. Each reply rings its bell, so this is for a
 /// request that was so long in service that who asked for it was forgotten.

@@ -2,7 +2,7 @@
 
 use super::line::{Line, Outlet, PATIENCE};
 use super::service::{Disks, Service};
-use super::shift::{IN_A_ROW, Shift};
+use super::shift::Shift;
 use nbd_session::{Counted, Frame, FrameReader, Stop, Turn, hand_in, offer_held, read_ready};
 use nbd_wire::Request;
 use nbd_wire::protocol::{READ, WRITE};
@@ -18,6 +18,9 @@ use tag_clock::Clock;
 /// The longest data, in bytes, of a READ or WRITE that a reader performs itself. A longer WRITE is performed while the next is
 /// read.
 const SHORT: u32 = 16_384;
+
+/// How many requests a reader hands in under one hold of the server.
+const IN_A_ROW: usize = 16;
 
 /// What a reader has at hand.
 #[derive(Drop)]
@@ -63,7 +66,7 @@ impl<'a> Intake<'a> {
     }
 
     /// Hands in what is offered and the requests that were read besides, some at most and none behind one whose data is long.
-    /// Performs as many as it handed in, whoever asked for those, but for the long.
+    /// Performs requests until as many of the session's own are performed as it handed in, but for the long.
     fn come_in<L: Ledger, C: Clock>(
         &mut self,
         disks: &mut Disks<L>,

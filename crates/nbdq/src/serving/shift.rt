@@ -14,8 +14,8 @@ use tag_clock::Clock;
 /// How many microseconds requests are performed in a row: nothing new is begun under the same hold after that.
 const LONGEST: u64 = 500;
 
-/// How many requests are handed in, or performed, under one hold.
-pub const IN_A_ROW: usize = 16;
+/// How many requests are performed under one hold at most.
+const IN_A_ROW: usize = 32;
 
 /// The sessions that are to be woken once the server is let go.
 #[derive(Drop)]
@@ -33,8 +33,23 @@ impl Shift {
         })
     }
 
-    /// Chooses requests and performs them, whoever asked for them, until there is none to choose, so many were performed or
-    /// the time for it has passed.
+    /// Chooses a request and performs it, whoever asked for it, where there is one to choose.
+    pub fn serve_one<L: Ledger, C: Clock>(
+        &mut self,
+        disks: &mut Disks<L>,
+        bells: &Bells,
+        pass: &mut Pass<L>,
+        session: SessionId,
+        clock: &C,
+    ) {
+        if let Some(chosen) = turn_dispatch(disks, pass, clock.now()) {
+            turn_perform(disks, pass, chosen.ticket);
+            self.note(bells, session, &chosen.ticket);
+        }
+    }
+
+    /// Chooses requests and performs them, whoever asked for them, until so many of the session's own are performed. It ends
+    /// sooner where there is none to choose, or the time for it has passed.
     pub fn serve<L: Ledger, C: Clock>(
         &mut self,
         disks: &mut Disks<L>,
@@ -42,37 +57,41 @@ impl Shift {
         pass: &mut Pass<L>,
         session: SessionId,
         clock: &C,
-        most: usize,
+        own: usize,
     ) {
         let begun = clock.now();
         let mut now = begun;
-        for _ in 0..most {
+        let mut left = own;
+        for _ in 0..IN_A_ROW {
+            if left == 0 || until(begun, now) > Duration::from_micros(LONGEST) {
+                return;
+            }
             let Some(chosen) = turn_dispatch(disks, pass, now) else {
                 return;
             };
             turn_perform(disks, pass, chosen.ticket);
-            self.note(bells, session, &chosen.ticket);
-            now = clock.now();
-            if until(begun, now) > Duration::from_micros(LONGEST) {
-                return;
+            if self.note(bells, session, &chosen.ticket) {
+                left = left.saturating_sub(1);
             }
+            now = clock.now();
         }
     }
 
-    /// A request was performed.
-    fn note(&mut self, bells: &Bells, session: SessionId, ticket: &Ticket) {
+    /// A request was performed. Tells whether the session itself asked for it.
+    fn note(&mut self, bells: &Bells, session: SessionId, ticket: &Ticket) -> bool {
         self.performed = true;
         let Some(asker) = bells.asker(ticket) else {
-            return;
+            return false;
         };
         if asker == session {
-            return;
+            return true;
         }
         if self.others.len() < self.others.capacity() {
             self.others.push_reserved(asker);
         } else {
             bells.replies(asker).ring();
         }
+        false
     }
 
     /// Wakes who waits for what was performed. The server isn't held any more. Tells whether anything was performed.

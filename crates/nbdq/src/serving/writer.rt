@@ -72,7 +72,7 @@ fn write_on<L: Ledger, R: Wait + time::Clock>(
     let mut disks = service.shared.hold(rt);
     let mut stop = outlet.take(&mut *disks, pass, line.session);
     if stop == Stop::Empty && outlet.unwritten() == 0 {
-        shift.serve(&mut *disks, &service.bells, pass, line.session, &clock, 1);
+        shift.serve_one(&mut *disks, &service.bells, pass, line.session, &clock);
         stop = outlet.take(&mut *disks, pass, line.session);
     }
     let waits = disks.server().waiting() > 0;
