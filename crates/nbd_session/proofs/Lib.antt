@@ -18,3 +18,4 @@ pub mod TalkLemmas
 pub mod HaggledLemmas
 pub mod Worked
 pub mod SessionTurnLemmas
+pub mod TakingLemmas

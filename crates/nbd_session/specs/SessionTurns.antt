@@ -99,7 +99,7 @@ module _ {A : Type 0} where
   IsOffered p s m Idle q = ⊥
   IsOffered p s m Ended q = OfferEnds p s m.head q
 
-  -- ---- a request is read and offered
+  -- ---- what was read is handed in
 
   -- what stands next in the client's bytes, as a reader tells it
   pub record Reads (old new : Stream) (frame : Frame A) : Type 0 where
@@ -107,21 +107,13 @@ module _ {A : Type 0} where
     pub ready : old.reading.ended ≡ None → 0 < old.reading.ready → IsWhole frame × (new.left ≡ old.left) × (new.failures ≡ old.failures)
     pub again : (e : Ending) → old.reading.ended ≡ Some e → (frame ≡ frames.Ended e) × (new ≡ old)
 
-  -- a request other than DISC was offered, and its session isn't open any more; DISC, and what isn't a request, makes the
-  -- session leave
-  abbrev pub ReadEnds : Score → SessionId → Frame A → Score → Type 0
-  ReadEnds p s (frames.Whole m) q = ((m.head.kind ≡ 2) × Leaves p s q) ⊎ ((m.head.kind ≢ 2) × OfferEnds p s m.head q)
-  ReadEnds p s (frames.Ended e) q = Leaves p s q
-
-  -- a request other than DISC was read and offered
-  abbrev pub Offers : Stream → Stream → Score → SessionId → Turn A → Score → Type 0
-  Offers old new p s turn q = (m : RequestMessage) × Reads old new (frames.Whole m) × (m.head.kind ≢ 2) × IsOffered p s m turn q
+  -- what was read was handed in: a request other than DISC was offered; else the session left
+  abbrev pub IsHandedIn : Score → SessionId → Frame A → Turn A → Score → Type 0
+  IsHandedIn p s (frames.Whole m) turn q = ((m.head.kind ≡ 2) × (turn ≡ Ended) × Leaves p s q) ⊎ ((m.head.kind ≢ 2) × IsOffered p s m turn q)
+  IsHandedIn p s (frames.Ended e) turn q = (turn ≡ Ended) × Leaves p s q
 
   abbrev pub IsReadTurn : Stream → Stream → Score → SessionId → Turn A → Score → Type 0
-  IsReadTurn old new p s Going q = Offers old new p s Going q
-  IsReadTurn old new p s (Held back) q = Offers old new p s (Held back) q
-  IsReadTurn old new p s Idle q = ⊥
-  IsReadTurn old new p s Ended q = (frame : Frame A) × Reads old new frame × ReadEnds p s frame q
+  IsReadTurn old new p s turn q = (frame : Frame A) × Reads old new frame × IsHandedIn p s frame turn q
 
   -- ---- a reply is taken and written
 

@@ -10,6 +10,7 @@ mod fetch;
 mod fill;
 mod frames;
 mod haggling;
+mod held_turns;
 mod laws;
 mod offers;
 mod serving;
@@ -21,10 +22,12 @@ pub use conversing::{table_of, talk};
 pub use counted::Counted;
 pub use door::Door;
 pub use ending::{Ending, Frame};
+pub use fill::WriteFailed;
 pub use frames::FrameReader;
 pub use haggling::haggle;
+pub use held_turns::{Stop, hand_in, offer_held, read_ready, take_replies};
 pub use laws::{handshake_is_haggled, one_conversation, requests_are_plain, worked_conversations};
-pub use session_turns::{Turn, offer, read_turn, write_turn};
+pub use session_turns::{Turn, offer, put_reply, read_turn, write_turn};
 pub use talking::{End, Entry, TalkFault};
 
 #[cfg(test)]

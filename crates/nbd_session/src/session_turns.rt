@@ -1,20 +1,20 @@
-//! The turns of a session's two threads: one reads requests and hands them in, the other takes replies and writes them.
+//! The turns of a session's two threads, each with a hold of the server of its own: one reads requests and hands them in,
+//! the other takes replies and writes them.
 ghost use Rattle.std.specs.Prelude.{◌≡◌, OnOk, OnErr};
 ghost use Rattle.std.specs.Io.KnownBytes.{Appends};
 ghost use Rattle.nbd_wire.specs.Grammar.{reply_text};
 ghost use Rattle.nbd_session.specs.Streams.{Rises, WritesPart};
-ghost use Rattle.nbd_session.specs.SessionTurns.{IsOffered, IsReadTurn, IsWriteTurn, Leaves, Drops};
+ghost use Rattle.nbd_session.specs.SessionTurns.{IsOffered, IsReadTurn, IsWriteTurn, Drops};
 
 use crate::counted::Counted;
-use crate::ending::Frame;
 use crate::fill::{WriteFailed, put};
 use crate::frames::FrameReader;
-use crate::transmission::is_disc;
+use crate::held_turns::{hand_in, offer_held};
 use eligibility::Eligibility;
 use export_store::Image;
 use nbd_wire::{Reply, Request, write_reply_head};
 use reply_box::Taken;
-use server_core::{ArriveRefusal, SessionId};
+use server_core::SessionId;
 use server_lock::{Pass, Shared};
 use std::alloc::Allocator;
 use std::io::{Read, Write};
@@ -37,7 +37,7 @@ pub enum Turn<A: Allocator> {
 }
 
 /// Reads the client's next request, and offers it. Where the client sent DISC, its input ended or was refused, or memory
-/// was, the session leaves.
+/// was, the session leaves. It holds the server only once the request was read.
 pub fn read_turn<L: Ledger, I: Image, E: Eligibility<Alloc = I::Alloc>, R: Read, C: Clock, W: Wait>(
     rt: &W,
     shared: &Shared<L, I, E>,
@@ -48,15 +48,8 @@ pub fn read_turn<L: Ledger, I: Image, E: Eligibility<Alloc = I::Alloc>, R: Read,
 ) -> Turn<I::Alloc>
     ensures { IsReadTurn reader.old reader.new pass.old session result pass.new }
 {
-    match reader.next() {
-        Frame::Whole(request) => {
-            if is_disc(request.head()) {
-                return leave(rt, shared, pass, session);
-            }
-            offer(rt, shared, pass, session, request, clock)
-        }
-        _ => leave(rt, shared, pass, session),
-    }
+    let frame = reader.next();
+    hand_in(&mut *shared.hold(rt), pass, session, frame, clock)
 }
 
 /// Hands a request in at the clock's moment. Where the export is worn, or no memory is there for it, the session leaves.
@@ -70,29 +63,7 @@ pub fn offer<L: Ledger, I: Image, E: Eligibility<Alloc = I::Alloc>, C: Clock, W:
 ) -> Turn<I::Alloc>
     ensures { IsOffered pass.old session request result pass.new }
 {
-    match shared.turn_arrive(rt, pass, session, clock.now(), request) {
-        Ok(_) => Turn::Going,
-        Err(refused) => match refused.refusal {
-            ArriveRefusal::Hold => Turn::Held(refused.request),
-            ArriveRefusal::Worn => leave(rt, shared, pass, session),
-            ArriveRefusal::NoMemory => leave(rt, shared, pass, session),
-            ArriveRefusal::NoExport | ArriveRefusal::NotOpen => Turn::Ended,
-        },
-    }
-}
-
-/// The session leaves.
-fn leave<L: Ledger, I: Image, E: Eligibility<Alloc = I::Alloc>, W: Wait>(
-    rt: &W,
-    shared: &Shared<L, I, E>,
-    pass: &mut Pass<L>,
-    session: SessionId,
-) -> Turn<I::Alloc>
-    ensures ended { result ≡ Turn.Ended }
-    ensures leaves { Leaves pass.old session pass.new }
-{
-    let _ = shared.turn_leave(rt, pass, session);
-    Turn::Ended
+    offer_held(&mut *shared.hold(rt), pass, session, request, clock)
 }
 
 /// Takes the session's oldest reply, and writes it. Where the session has left and got all its replies, or the write
@@ -132,7 +103,7 @@ fn drop_session<L: Ledger, I: Image, E: Eligibility<Alloc = I::Alloc>, W: Wait>(
 }
 
 /// Writes a reply. It takes no memory of its own.
-fn put_reply<A: Allocator, O: Write>(
+pub fn put_reply<A: Allocator, O: Write>(
     reply: &Reply<A>,
     writer: &mut Counted<O>,
 ) -> Result<(), WriteFailed>
