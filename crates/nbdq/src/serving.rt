@@ -3,12 +3,16 @@ ghost use Rattle.std.specs.Prelude.{◌≡◌, ◌≤◌};
 
 mod bells;
 mod connection;
+mod line;
 mod listener;
 mod passes;
+mod reader;
 mod running_clock;
 mod service;
+mod shift;
 #[cfg(test)]
 mod tests;
+mod writer;
 
 use bells::Bells;
 use connection::serve_client;

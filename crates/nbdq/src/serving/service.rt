@@ -7,8 +7,8 @@ use eligibility::Heaped;
 use export_store::Paged;
 use nbd_options::ExportTable;
 use nbd_workers::{Gate, until};
-use server_core::Ticket;
-use server_lock::Shared;
+use server_core::{SessionId, Ticket};
+use server_lock::{Booked, Pass, Shared};
 use std::alloc::Global;
 use std::cell::Cell;
 use std::sync::Wait;
@@ -17,6 +17,9 @@ use std::sync::ledger::Ledger;
 use std::time;
 use std::time::Instant;
 use tag_clock::{Clock, Moment};
+
+/// A server of disks in pages, while it is held.
+pub type Disks<L> = Booked<L, Paged<Global>, Heaped<Global>>;
 
 /// A server of disks in pages, and all that its threads share besides.
 #[derive(Drop)]
@@ -36,6 +39,11 @@ pub struct Service<L: Ledger> {
 impl<L: Ledger> Service<L> {
     pub fn clock<'a, R: time::Clock>(&self, rt: &'a R) -> RunningClock<'a, R> {
         RunningClock::since(rt, self.start)
+    }
+
+    /// The session is dropped. Where it is gone already, all stays.
+    pub fn give_up<R: Wait>(&self, rt: &R, session: SessionId, pass: &mut Pass<L>) {
+        let _ = self.shared.turn_gone(rt, pass, session);
     }
 }
 
