@@ -68,3 +68,11 @@ pub record Configures (in_old in_new out_old out_new : Option (List ℕ)) (offer
   pub end : IsAtEnd in_new
   pub unwritten : out_new ≡ out_old
   pub told : configured_by text ≡ Ok offer
+
+-- the whole input was read, and it is refused
+pub record Refuses (in_old in_new : Option (List ℕ)) : Type 0 where
+  pub text : List ℕ
+  pub refusal : FileRefusal
+  pub took : Consumes in_old in_new text
+  pub end : IsAtEnd in_new
+  pub told : configured_by text ≡ Err refusal

@@ -2,7 +2,7 @@
 
 ghost use Rattle.std.specs.Prelude.{◌≡◌, ◌⊎◌, IfOk, IfErr, OnOk, IsErrOf};
 ghost use Rattle.std.specs.Io.KnownBytes.{Appends, Consumes, IsAtEnd};
-ghost use Rattle.nbdq.specs.Checked.{disk_text, export_line, inflight_line, mode_word, offer_text, queue_text, rates_text, refusal_line, Checks, Configures};
+ghost use Rattle.nbdq.specs.Checked.{disk_text, export_line, inflight_line, mode_word, offer_text, queue_text, rates_text, refusal_line, Checks, Configures, Refuses};
 
 use nbd_commands::{Config, ExportConfig};
 use nbd_config::{FileError, FileRefusal, Place, read_config};
@@ -25,16 +25,9 @@ pub fn check_text<A: Allocator + Copy, R: Read, W: Write>(
     ensures unwritten { result ≡ Outcome.WriteFailed → IsAtEnd (R.remaining input.new) }
     ensures unread { result ≡ Outcome.ReadFailed → W.contents output.new ≡ W.contents output.old }
 {
-    let text = match read_whole(alloc, input) {
-        Ok(text) => text,
-        Err(outcome) => return outcome,
-    };
-    match read_config(heap, alloc, text.as_slice()) {
+    match read_offer(heap, alloc, input, output) {
         Ok(config) => Outcome::of_write(write_config(&config, output), Outcome::Done),
-        Err(FileError::Refused(refusal)) => {
-            Outcome::of_write(write_refusal(refusal, output), Outcome::Refused)
-        }
-        Err(FileError::NoMemory) => Outcome::NoMemory,
+        Err(outcome) => outcome,
     }
 }
 
@@ -51,6 +44,8 @@ pub fn read_offer<A: Allocator + Copy, R: Read, W: Write>(
     ensures refused { IsErrOf result Outcome.Refused → Checks (R.remaining input.old) (R.remaining input.new) (W.contents output.old) (W.contents output.new) Outcome.Refused }
     ensures unread { IsErrOf result Outcome.ReadFailed → W.contents output.new ≡ W.contents output.old }
     ensures undone { IsErrOf result Outcome.Done → ⊥ }
+    ensures unwritten { IsErrOf result Outcome.WriteFailed → Refuses (R.remaining input.old) (R.remaining input.new) }
+    ensures no_memory { IsErrOf result Outcome.NoMemory → (W.contents output.new ≡ W.contents output.old) ⊎ Refuses (R.remaining input.old) (R.remaining input.new) }
 {
     let text = read_whole(alloc, input)?;
     match read_config(heap, alloc, text.as_slice()) {
