@@ -84,7 +84,15 @@ impl<W: Write> Write for Counted<W> {
         outcome
     }
 
-    fn flush(&mut self) -> io::Result<()> {
-        self.inner.flush()
+    fn flush(&mut self) -> io::Result<()>
+        ensures bytes { Keeps (W.contents self.old.inner) (W.contents self.new.inner) }
+        ensures failed { OnErr result (Rises self.old.failures self.new.failures) }
+        ensures kept { OnOk result (self.new.failures ≡ self.old.failures) }
+    {
+        let flushed = self.inner.flush();
+        if flushed.is_err() {
+            self.failures = one_more(self.failures);
+        }
+        flushed
     }
 }

@@ -22,6 +22,7 @@ use std::sync::ledger::{Blank, Ledger};
 use std::test::Fail;
 use tag_clock::{Clock, Moment};
 
+mod counting;
 mod ending;
 mod entering;
 mod going;
