@@ -266,6 +266,11 @@ fn each_growth_for_a_script_is_refused(rt: HostRuntime) {
                 assert!(rt; well);
                 break;
             }
+            // Collecting the fields of a line first asks for room that it can do without.
+            let spared = outcome == most && output.as_slice() == written;
+            if spared {
+                continue;
+            }
             assert_eq!(rt; outcome, Outcome::NoMemory, "at {nth}");
             assert!(rt; output.is_empty(), "at {nth}");
             refused = nth;
