@@ -8,11 +8,8 @@ use nbd_commands::{Config, ExportList, ExportSettings};
 use nbd_options::Always;
 use nbd_wire::{Request, RequestHead};
 use refusing::Refusing;
-use server_core::{Server, SessionId, SessionRefusal};
-use server_lock::{
-    AnswerTrace, Booked, EventTrace, Pass, Shared, Trace, settle, turn_dispatch, turn_gone,
-    turn_perform,
-};
+use server_core::{Server, SessionId};
+use server_lock::{AnswerTrace, EventTrace, Pass, Shared, Trace, settle};
 use std::alloc::{AllocError, Allocator, Global};
 use std::io;
 use std::io::{Read, Write};
@@ -26,7 +23,6 @@ mod counting;
 mod ending;
 mod entering;
 mod going;
-mod holding;
 mod long;
 
 type Heap<'a> = &'a Refusing<Global>;
@@ -96,7 +92,7 @@ enum Came {
 
 type Seen = (Came, Option<Trace>);
 
-/// A session of an export of 4,096 bytes, and the pass that makes its turns.
+/// A session of an export of 4,096 bytes whose window is 1, and the pass that makes its turns.
 #[derive(Drop)]
 struct Seated<'a, L: Ledger> {
     shared: Tried<'a, L>,
@@ -105,25 +101,20 @@ struct Seated<'a, L: Ledger> {
     held: Option<Request<Heap<'a>>>,
 }
 
-fn config_of(heap: Heap<'_>, window: u64) -> Option<Config<Heap<'_>>> {
+fn config_of(heap: Heap<'_>) -> Option<Config<Heap<'_>>> {
     let mut settings = ExportSettings::new(b"a", 4096);
-    settings.window = window;
+    settings.window = 1;
     let mut list = ExportList::new(heap);
     list.add(&settings).ok()?;
     Config::new(list, 32).ok()
 }
 
-fn opened<'a, L: Ledger, R: Wait>(
-    rt: &R,
-    heap: Heap<'a>,
-    blank: Blank,
-    window: u64,
-) -> Option<Seated<'a, L>>
+fn opened<'a, L: Ledger, R: Wait>(rt: &R, heap: Heap<'a>, blank: Blank) -> Option<Seated<'a, L>>
     requires name { blank.name ≡ L.name }
     requires parts { blank.parts ≡ L.parts }
     requires one { blank.parts ≡ 1 }
 {
-    let server = Server::new(heap, &config_of(heap, window)?).ok()?;
+    let server = Server::new(heap, &config_of(heap)?).ok()?;
     let (shared, mut passes) = Tried::<'a, L>::new(heap, server, blank, 1).ok()?;
     let mut pass = passes.pop()?;
     let session = shared.turn_attach(rt, &mut pass, 0).ok()?;

@@ -39,7 +39,7 @@ fn sent<'a, L: Ledger, R: Wait>(
     requires parts { blank.parts ≡ L.parts }
     requires one { blank.parts ≡ 1 }
 {
-    let mut one: Seated<'a, L> = opened(rt, heap, blank, 1)?;
+    let mut one: Seated<'a, L> = opened(rt, heap, blank)?;
     let mut reader = FrameReader::new(heap, Counted::new(source));
     let mut writer = Counted::new(Vec::new(heap));
     heap.arm(nth);
@@ -109,7 +109,7 @@ fn unwritten<'a, L: Ledger, R: Wait>(
     requires parts { blank.parts ≡ L.parts }
     requires one { blank.parts ≡ 1 }
 {
-    let mut one: Seated<'a, L> = opened(rt, heap, blank, 1)?;
+    let mut one: Seated<'a, L> = opened(rt, heap, blank)?;
     let mut reader = FrameReader::new(heap, Counted::new(READ.as_slice()));
     let taken = Vec::new(heap);
     let mut writer = Counted::new(Sink { taken, room });

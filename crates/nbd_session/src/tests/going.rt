@@ -19,7 +19,7 @@ fn window_of_one<'a, L: Ledger, R: Wait>(
     sent.extend_from_slice(READ.as_slice()).ok()?;
     let mut reader = FrameReader::new(heap, Counted::new(sent.as_slice()));
     let mut writer = Counted::new(Vec::new(heap));
-    let mut one: Seated<'a, L> = opened(rt, heap, blank, 1)?;
+    let mut one: Seated<'a, L> = opened(rt, heap, blank)?;
     let first = one.read(rt, &mut reader);
     let held = one.read(rt, &mut reader);
     let idle = one.write(rt, &mut writer);

@@ -20,7 +20,7 @@ use tag_clock::Clock;
 const SHORT: u32 = 16_384;
 
 /// How many requests a reader hands in under one hold of the server.
-const IN_A_ROW: usize = 16;
+const IN_A_ROW: usize = 1;
 
 /// What a reader has at hand.
 #[derive(Drop)]

@@ -15,7 +15,7 @@ use tag_clock::Clock;
 const LONGEST: u64 = 500;
 
 /// How many requests are performed under one hold at most.
-const IN_A_ROW: usize = 32;
+const IN_A_ROW: usize = 2;
 
 /// The sessions that are to be woken once the server is let go.
 #[derive(Drop)]
