@@ -264,6 +264,11 @@ fn each_growth_is_refused(rt: HostRuntime) {
             assert!(rt; output.as_slice() == WRITTEN);
             break;
         }
+        // Collecting the fields of a line first asks for room that it can do without.
+        let spared = outcome == Outcome::Done && output.as_slice() == WRITTEN;
+        if spared {
+            continue;
+        }
         let told = outcome == Outcome::NoMemory || outcome == Outcome::Done;
         assert!(rt; told, "at {nth}");
         let differs = output.as_slice() != WRITTEN;
