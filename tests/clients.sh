@@ -7,13 +7,15 @@
 # line for each check, and its status is 0 where all are well. All traffic stays on the loopback address and in a new folder.
 set -u
 top=$(cd "$(dirname "$0")/.." && pwd)
-program=${1:-$top/crates/nbdq/out/nbdq}
+program=$(realpath -m "${1:-$top/crates/nbdq/out/nbdq}")
 for tool in nbdinfo nbdcopy qemu-img qemu-io fio; do
   command -v "$tool" >/dev/null || { echo "no $tool: apt-get install libnbd-bin qemu-utils fio"; exit 2; }
 done
 [ -x "$program" ] || { echo "no program at $program: (cd $top/crates/nbdq && rt run -- talk < stdin)"; exit 2; }
 
+# What fio keeps of a verify, it leaves in the folder that it runs in.
 folder=$(mktemp -d)
+cd "$folder" || exit 2
 port=${PORT:-$((20000 + RANDOM % 20000))}
 size=33554432
 failed=0

@@ -3,6 +3,7 @@ pub mod HeadLemmas
 pub mod LineLemmas
 pub mod NumberLemmas
 pub mod OutputLemmas
+pub mod PartLemmas
 pub mod ReplayLemmas
 pub mod ScriptLemmas
 pub mod SettingsLemmas

@@ -1,5 +1,5 @@
 -- What a command tells, by what it read and by how the part went that wrote.
-use Rattle.std.proofs.Common.{◌≡◌, ℕ, List, refl, sym, subst, inl, inr, codes}
+use Rattle.std.proofs.Common.{◌≡◌, ℕ, List, Option, refl, sym, subst, inl, inr, codes}
 use Rattle.std.specs.Prelude.{◌⊎◌, IsErr}
 use Rattle.std.specs.Io.KnownBytes.{Appends}
 use Rattle.hex.specs.Hex.{decode_of}
@@ -17,71 +17,96 @@ use Rattle.nbd_scripts.specs.Heads.{IsHead}
 use Rattle.nbd_scripts.specs.Bodies.{IsBody}
 use Rattle.nbd_scripts.specs.Events.{Asks}
 use Rattle.nbd_scripts.specs.Output.{digits_of, Prints}
-use Rattle.nbd_scripts.specs.Replayed.{Replays}
-use Rattle.nbd_scripts.specs.Told.{IsWhole, refusal_line, Writes, TellsRefusal}
-use Rattle.nbd_scripts.specs.Scripts.{Streams, HasBody, RefusesHead, RefusesHex, RefusesBody, TellsTalk, TellsReplay}
+use Rattle.nbd_scripts.specs.Replayed.{Replays, ReplaysFirst}
+use Rattle.nbd_scripts.specs.Told.{IsWhole, refusal_line, Writes, CutShort, TellsRefusal}
+use Rattle.nbd_scripts.specs.Scripts.{Streams, with_output, HasBody, Talks, RefusesHead, RefusesHex, ReplaysLines, ReplaysFirstLines, RefusesBody, TellsTalk, TellsReplay}
+use Rattle.nbd_scripts.proofs.PartLemmas.{cut_short, cut_short_so}
 
 module _ (streams : Streams) (went : Outcome) where
-  -- a refusal is written, or it could not be
-  talk_written : (text : List ℕ) → Writes text outcome.Refused streams.old streams.new went → (Appends streams.old streams.new text → RefusesHead streams ⊎ RefusesHex streams)
-      → TellsTalk streams went
-  talk_written text (inl here) refuses = let P : Outcome → Type 0 = λ o. TellsTalk streams o in subst P (sym here.0) (refuses here.1)
-  talk_written text (inr (inl none)) refuses = let P : Outcome → Type 0 = λ o. TellsTalk streams o in subst P (sym none) tt
-  talk_written text (inr (inr failed)) refuses = let P : Outcome → Type 0 = λ o. TellsTalk streams o in subst P (sym failed) tt
+  -- a refusal is written, or a beginning of it, or nothing
+  talk_written : (text : List ℕ) → Writes text outcome.Refused streams.old streams.new went
+      → ((all : Option (List ℕ)) → Appends streams.old all text → RefusesHead (with_output streams all) ⊎ RefusesHex (with_output streams all)) → TellsTalk streams went
+  talk_written text (inl here) refuses = subst (TellsTalk streams) (sym here.0) (refuses streams.new here.1)
+  talk_written text (inr (inl none)) refuses = subst (TellsTalk streams) (sym none.0) none.1
+  talk_written text (inr (inr failed)) refuses =
+      subst (TellsTalk streams) (sym failed.0) (cut_short _ streams.old streams.new text (λ all written. inr (refuses all written)) failed.1)
 
-  replay_written : (A : Type 0) (text : List ℕ) → Writes text outcome.Refused streams.old streams.new went → (Appends streams.old streams.new text → RefusesHead streams ⊎ RefusesBody A streams)
-      → TellsReplay A streams went
-  replay_written A text (inl here) refuses = let P : Outcome → Type 0 = λ o. TellsReplay A streams o in subst P (sym here.0) (refuses here.1)
-  replay_written A text (inr (inl none)) refuses = let P : Outcome → Type 0 = λ o. TellsReplay A streams o in subst P (sym none) tt
-  replay_written A text (inr (inr failed)) refuses = let P : Outcome → Type 0 = λ o. TellsReplay A streams o in subst P (sym failed) tt
+  replay_written : (A : Type 0) (text : List ℕ) → Writes text outcome.Refused streams.old streams.new went
+      → ((all : Option (List ℕ)) → Appends streams.old all text → RefusesHead (with_output streams all) ⊎ RefusesBody A (with_output streams all)) → TellsReplay A streams went
+  replay_written A text (inl here) refuses = subst (TellsReplay A streams) (sym here.0) (refuses streams.new here.1)
+  replay_written A text (inr (inl none)) refuses = subst (TellsReplay A streams) (sym none.0) (inl none.1)
+  replay_written A text (inr (inr failed)) refuses =
+      subst (TellsReplay A streams) (sym failed.0) (cut_short _ streams.old streams.new text (λ all written. inr (refuses all written)) failed.1)
 
   module _ (A : Type 0) (script : List ℕ) (whole : IsWhole streams.unread streams.left script) (number : ℕ) where
     pub talk_head_refused : (refused : LineFault) → IsHead {A = A} script (heads.Refused number refused) → TellsRefusal number refused streams.old streams.new went → TellsTalk streams went
     talk_head_refused fault.Form is told =
-        talk_written (refusal_line number fault.Form) told (λ written. inl (record { script = script; whole = whole; number = number; fault = fault.Form; refused = is; written = written }))
+        talk_written (refusal_line number fault.Form) told (λ all written. inl (record { script = script; whole = whole; number = number; fault = fault.Form; refused = is; written = written }))
     talk_head_refused (fault.Value refusal) is told =
         talk_written (refusal_line number (fault.Value refusal)) told
-        (λ written. inl (record { script = script; whole = whole; number = number; fault = fault.Value refusal; refused = is; written = written }))
-    talk_head_refused fault.NoMemory is told = let P : Outcome → Type 0 = λ o. TellsTalk streams o in subst P (sym told.0) tt
+        (λ all written. inl (record { script = script; whole = whole; number = number; fault = fault.Value refusal; refused = is; written = written }))
+    talk_head_refused fault.NoMemory is told = subst (TellsTalk streams) (sym told.0) told.1
 
     pub replay_head_refused : (refused : LineFault) → IsHead {A = A} script (heads.Refused number refused) → TellsRefusal number refused streams.old streams.new went → TellsReplay A streams went
     replay_head_refused fault.Form is told =
-        replay_written A (refusal_line number fault.Form) told (λ written. inl (record { script = script; whole = whole; number = number; fault = fault.Form; refused = is; written = written }))
+        replay_written A (refusal_line number fault.Form) told
+        (λ all written. inl (record { script = script; whole = whole; number = number; fault = fault.Form; refused = is; written = written }))
     replay_head_refused (fault.Value refusal) is told =
         replay_written A (refusal_line number (fault.Value refusal)) told
-        (λ written. inl (record { script = script; whole = whole; number = number; fault = fault.Value refusal; refused = is; written = written }))
-    replay_head_refused fault.NoMemory is told = let P : Outcome → Type 0 = λ o. TellsReplay A streams o in subst P (sym told.0) tt
+        (λ all written. inl (record { script = script; whole = whole; number = number; fault = fault.Value refusal; refused = is; written = written }))
+    replay_head_refused fault.NoMemory is told = subst (TellsReplay A streams) (sym told.0) (inl told.1)
+
+-- a script that is read with one output is so with any
+body_for : (streams : Streams) (all : Option (List ℕ)) (offer : Offer) (above : ℕ) (body : List ℕ) → HasBody streams offer above body → HasBody (with_output streams all) offer above body
+body_for streams all offer above body read = record { script = read.script; whole = read.whole; head = read.head }
 
 module _ (streams : Streams) (offer : Offer) (above : ℕ) (body : List ℕ) (read : HasBody streams offer above body) where
+  talks : (all : Option (List ℕ)) → Prints offer.exports body streams.old all → Talks (with_output streams all)
+  talks all printed = record { offer = offer; above = above; body = body; read = body_for streams all offer above body read; printed = printed }
+
+  refuses_hex : (all : Option (List ℕ)) → IsErr (decode_of (digits_of body)) × Appends streams.old all (codes "hex refused\n") → RefusesHex (with_output streams all)
+  refuses_hex all refused = record { offer = offer; above = above; body = body; read = body_for streams all offer above body read; no_bytes = refused.0; written = refused.1 }
+
   pub talk_read : (went : Outcome) → (went ≡ outcome.Done → Prints offer.exports body streams.old streams.new)
       → (went ≡ outcome.Refused → IsErr (decode_of (digits_of body)) × Appends streams.old streams.new (codes "hex refused\n"))
-      → (went ≡ outcome.ReadFailed → streams.new ≡ streams.old) → TellsTalk streams went
-  talk_read outcome.Done done refused unread = record { offer = offer; above = above; body = body; read = read; printed = done refl }
-  talk_read outcome.Refused done refused unread =
-      inr (record { offer = offer; above = above; body = body; read = read; no_bytes = (refused refl).0; written = (refused refl).1 })
-  talk_read outcome.NoMemory done refused unread = tt
-  talk_read outcome.ReadFailed done refused unread = unread refl
-  talk_read outcome.WriteFailed done refused unread = tt
+      → (went ≡ outcome.ReadFailed → streams.new ≡ streams.old) → (went ≡ outcome.NoMemory → streams.new ≡ streams.old)
+      → (went ≡ outcome.WriteFailed
+      → CutShort (λ all. Prints offer.exports body streams.old all ⊎ (IsErr (decode_of (digits_of body)) × Appends streams.old all (codes "hex refused\n"))) streams.old streams.new) → TellsTalk streams went
+  talk_read outcome.Done done refused unread no_memory write_failed = talks streams.new (done refl)
+  talk_read outcome.Refused done refused unread no_memory write_failed = inr (refuses_hex streams.new (refused refl))
+  talk_read outcome.NoMemory done refused unread no_memory write_failed = no_memory refl
+  talk_read outcome.ReadFailed done refused unread no_memory write_failed = unread refl
+  talk_read outcome.WriteFailed done refused unread no_memory write_failed =
+      cut_short_so _ _ streams.old streams.new (λ all is. elim is [ inl printed ↦ inl (talks all printed) | inr hex ↦ inr (inr (refuses_hex all hex)) ]) (write_failed refl)
 
   module _ (A : Type 0) where
-    pub replay_read : (asked : List (ReplayLine A)) → Asks (lines_in body) asked → (went : Outcome)
-        → (went ≡ outcome.Done → Replays {A = A} (setup_for offer) asked streams.old streams.new)
-        → (went ≡ outcome.Done) ⊎ (went ≡ outcome.NoMemory) ⊎ (went ≡ outcome.WriteFailed) → TellsReplay A streams went
-    replay_read asked asks outcome.Done done failed =
-        record { offer = offer; above = above; body = body; read = read; asked = asked; asks = asks; replayed = done refl }
-    replay_read asked asks outcome.Refused done (inl is) = absurd cc
-    replay_read asked asks outcome.Refused done (inr (inl is)) = absurd cc
-    replay_read asked asks outcome.Refused done (inr (inr is)) = absurd cc
-    replay_read asked asks outcome.NoMemory done failed = tt
-    replay_read asked asks outcome.ReadFailed done (inl is) = absurd cc
-    replay_read asked asks outcome.ReadFailed done (inr (inl is)) = absurd cc
-    replay_read asked asks outcome.ReadFailed done (inr (inr is)) = absurd cc
-    replay_read asked asks outcome.WriteFailed done failed = tt
+    module _ (asked : List (ReplayLine A)) (asks : Asks (lines_in body) asked) where
+      replays : (all : Option (List ℕ)) → Replays {A = A} (setup_for offer) asked streams.old all → ReplaysLines A (with_output streams all)
+      replays all replayed = record { offer = offer; above = above; body = body; read = body_for streams all offer above body read; asked = asked; asks = asks; replayed = replayed }
+
+      replays_first : (all : Option (List ℕ)) → ReplaysFirst {A = A} (setup_for offer) asked streams.old all → ReplaysFirstLines A (with_output streams all)
+      replays_first all replayed = record { offer = offer; above = above; body = body; read = body_for streams all offer above body read; asked = asked; asks = asks; replayed = replayed }
+
+      pub replay_read : (went : Outcome) → (went ≡ outcome.Done → Replays {A = A} (setup_for offer) asked streams.old streams.new)
+          → (went ≡ outcome.Done) ⊎ (went ≡ outcome.NoMemory) ⊎ (went ≡ outcome.WriteFailed)
+          → (went ≡ outcome.NoMemory → ReplaysFirst {A = A} (setup_for offer) asked streams.old streams.new)
+          → (went ≡ outcome.WriteFailed
+          → CutShort (λ all. Replays {A = A} (setup_for offer) asked streams.old all ⊎ ReplaysFirst {A = A} (setup_for offer) asked streams.old all) streams.old streams.new) → TellsReplay A streams went
+      replay_read outcome.Done done failed no_memory write_failed = replays streams.new (done refl)
+      replay_read outcome.Refused done (inl is) no_memory write_failed = absurd cc
+      replay_read outcome.Refused done (inr (inl is)) no_memory write_failed = absurd cc
+      replay_read outcome.Refused done (inr (inr is)) no_memory write_failed = absurd cc
+      replay_read outcome.NoMemory done failed no_memory write_failed = inr (replays_first streams.new (no_memory refl))
+      replay_read outcome.ReadFailed done (inl is) no_memory write_failed = absurd cc
+      replay_read outcome.ReadFailed done (inr (inl is)) no_memory write_failed = absurd cc
+      replay_read outcome.ReadFailed done (inr (inr is)) no_memory write_failed = absurd cc
+      replay_read outcome.WriteFailed done failed no_memory write_failed =
+          cut_short_so _ _ streams.old streams.new (λ all is. elim is [ inl whole ↦ inl (inl (replays all whole)) | inr first ↦ inl (inr (replays_first all first)) ]) (write_failed refl)
 
     pub replay_body_refused : (went : Outcome) (number : ℕ) (refused : LineFault) → IsBody {A = A} above body (bodies.Refused number refused)
         → TellsRefusal number refused streams.old streams.new went → TellsReplay A streams went
     replay_body_refused went number fault.Form is told =
         replay_written streams went A (refusal_line number fault.Form) told
-        (λ written. inr (record { offer = offer; above = above; body = body; read = read; number = number; missed = is; written = written }))
+        (λ all written. inr (record { offer = offer; above = above; body = body; read = body_for streams all offer above body read; number = number; missed = is; written = written }))
     replay_body_refused went number (fault.Value refusal) is told = absurd is
-    replay_body_refused went number fault.NoMemory is told = let P : Outcome → Type 0 = λ o. TellsReplay A streams o in subst P (sym told.0) tt
+    replay_body_refused went number fault.NoMemory is told = subst (TellsReplay A streams) (sym told.0) (inl told.1)

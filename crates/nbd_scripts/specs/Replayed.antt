@@ -13,7 +13,10 @@ use Rattle.server_core.specs.Run.{IsAnswered}
 use Rattle.server_core.specs.Served.{Served, Stepped}
 use Rattle.nbd_scripts.specs.declared.replay_line.ReplayLine.{ReplayLine}
 use Rattle.nbd_scripts.specs.declared.replay_line.ReplayLine.TheVariants as asked
+use Rattle.nbd_scripts.specs.declared.outcome.Outcome.{Outcome}
+use Rattle.nbd_scripts.specs.declared.outcome.Outcome.TheVariants as outcome
 use Rattle.nbd_scripts.specs.Answers.{line_of}
+use Rattle.nbd_scripts.specs.Told.{CutShort}
 use Rattle.nbd_scripts.specs.Waiting.{tags_text}
 
 -- how many steps changed something, of all exports together
@@ -45,7 +48,24 @@ module _ {A : Type 0} where
     pub answered : IsAnswered setup (events_of lines) answers
     pub written : Appends old new (text_of setup (opening_table setup) lines answers ++ steps_line (steps_in (last_table setup (events_of lines) (marks_of answers))))
 
+  -- what the first of the lines are answered is written, and nothing of the lines behind them
+  pub record ReplaysFirst (setup : Setup) (lines : List (ReplayLine A)) (old new : Option (List ℕ)) : Type 0 where
+    pub first : List (ReplayLine A)
+    pub behind : List (ReplayLine A)
+    pub are : lines ≡ first ++ behind
+    pub answers : List (Answer A)
+    pub answered : IsAnswered setup (events_of first) answers
+    pub written : Appends old new (text_of setup (opening_table setup) first answers)
+
   -- a line was made: its event is one step of the server, or the server stays, and what is told is written
   abbrev pub IsMade : Served → ReplayLine A → Served → Option (List ℕ) → Option (List ℕ) → Type 0
   IsMade before (asked.Event event) after old new = (said : Answer A) × (Stepped before event after said) × (Appends old new (line_of said))
   IsMade before (asked.Tags export) after old new = (after ≡ before) × (Appends old new (tags_text before.setup before.table export))
+
+  -- the same, or memory was refused and nothing is written, or a write failed and a beginning is written of what is told
+  abbrev pub TellsLine : Served → ReplayLine A → Served → Option (List ℕ) → Option (List ℕ) → Outcome → Type 0
+  TellsLine before line after old new outcome.Done = IsMade before line after old new
+  TellsLine before line after old new outcome.NoMemory = new ≡ old
+  TellsLine before line after old new outcome.WriteFailed = CutShort (IsMade before line after old) old new
+  TellsLine before line after old new outcome.Refused = ⊥
+  TellsLine before line after old new outcome.ReadFailed = ⊥

@@ -13,8 +13,8 @@ use Rattle.nbd_scripts.specs.Lines.{lines_in}
 use Rattle.nbd_scripts.specs.Head.{HasHead, HeadRefused}
 use Rattle.nbd_scripts.specs.Events.{Asks, MissesLine}
 use Rattle.nbd_scripts.specs.Output.{digits_of, Prints}
-use Rattle.nbd_scripts.specs.Replayed.{Replays}
-use Rattle.nbd_scripts.specs.Told.{IsWhole, refusal_line}
+use Rattle.nbd_scripts.specs.Replayed.{Replays, ReplaysFirst}
+use Rattle.nbd_scripts.specs.Told.{IsWhole, refusal_line, CutShort}
 
 -- what the input of a command had left and has left, and what its output held and holds
 pub record Streams : Type 0 where
@@ -22,6 +22,10 @@ pub record Streams : Type 0 where
   pub left : Option (List ℕ)
   pub old : Option (List ℕ)
   pub new : Option (List ℕ)
+
+-- the same with another output
+abbrev pub with_output : Streams → Option (List ℕ) → Streams
+with_output streams output = record streams { new = output }
 
 -- the whole input is a script with this head, of so many lines, and this body
 pub record HasBody (streams : Streams) (offer : Offer) (above : ℕ) (body : List ℕ) : Type 0 where
@@ -57,13 +61,21 @@ pub record RefusesHex (streams : Streams) : Type 0 where
   pub no_bytes : IsErr (decode_of (digits_of body))
   pub written : Appends streams.old streams.new (codes "hex refused\n")
 
--- what was read and written, by how the command went
+-- the text of the conversation is written, or of a refusal
+abbrev pub WritesTalk : Streams → Type 0
+WritesTalk streams = Talks streams ⊎ (RefusesHead streams ⊎ RefusesHex streams)
+
+-- a beginning of that text is
+abbrev pub TalksPart : Streams → Type 0
+TalksPart streams = CutShort (λ output. WritesTalk (with_output streams output)) streams.old streams.new
+
+-- what was read and written, by how the command went. Where memory is refused, nothing is written
 abbrev pub TellsTalk : Streams → Outcome → Type 0
 TellsTalk streams outcome.Done = Talks streams
 TellsTalk streams outcome.Refused = RefusesHead streams ⊎ RefusesHex streams
-TellsTalk streams outcome.NoMemory = Unit {0}
+TellsTalk streams outcome.NoMemory = streams.new ≡ streams.old
 TellsTalk streams outcome.ReadFailed = streams.new ≡ streams.old
-TellsTalk streams outcome.WriteFailed = Unit {0}
+TellsTalk streams outcome.WriteFailed = TalksPart streams
 
 -- ---- replay
 
@@ -77,6 +89,16 @@ pub record ReplaysLines (A : Type 0) (streams : Streams) : Type 0 where
   pub asks : Asks (lines_in body) asked
   pub replayed : Replays (setup_for offer) asked streams.old streams.new
 
+-- what the first of the lines behind the head are answered is written, and no more
+pub record ReplaysFirstLines (A : Type 0) (streams : Streams) : Type 0 where
+  pub offer : Offer
+  pub above : ℕ
+  pub body : List ℕ
+  pub read : HasBody streams offer above body
+  pub asked : List (ReplayLine A)
+  pub asks : Asks (lines_in body) asked
+  pub replayed : ReplaysFirst (setup_for offer) asked streams.old streams.new
+
 -- the first refused line behind the head is written
 pub record RefusesBody (A : Type 0) (streams : Streams) : Type 0 where
   pub offer : Offer
@@ -87,10 +109,18 @@ pub record RefusesBody (A : Type 0) (streams : Streams) : Type 0 where
   pub missed : MissesLine A above body number
   pub written : Appends streams.old streams.new (refusal_line number Form)
 
--- what was read and written, by how the command went
+-- the text of all lines is written, or of the first of them, or of a refusal
+abbrev pub WritesReplay : (A : Type 0) → Streams → Type 0
+WritesReplay A streams = (ReplaysLines A streams ⊎ ReplaysFirstLines A streams) ⊎ (RefusesHead streams ⊎ RefusesBody A streams)
+
+-- a beginning of that text is
+abbrev pub ReplaysPart : (A : Type 0) → Streams → Type 0
+ReplaysPart A streams = CutShort (λ output. WritesReplay A (with_output streams output)) streams.old streams.new
+
+-- what was read and written, by how the command went. Where memory is refused, whole lines are written or nothing
 abbrev pub TellsReplay : (A : Type 0) → Streams → Outcome → Type 0
 TellsReplay A streams outcome.Done = ReplaysLines A streams
 TellsReplay A streams outcome.Refused = RefusesHead streams ⊎ RefusesBody A streams
-TellsReplay A streams outcome.NoMemory = Unit {0}
+TellsReplay A streams outcome.NoMemory = (streams.new ≡ streams.old) ⊎ ReplaysFirstLines A streams
 TellsReplay A streams outcome.ReadFailed = streams.new ≡ streams.old
-TellsReplay A streams outcome.WriteFailed = Unit {0}
+TellsReplay A streams outcome.WriteFailed = ReplaysPart A streams

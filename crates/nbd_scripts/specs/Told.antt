@@ -1,8 +1,9 @@
 -- What a command of the program reads and writes, by how it went.
 use Rattle.std.specs.Prelude.{◌≡◌, ℕ, ◌⊎◌, List, ◌++◌, codes, Option, IfSome}
 use Rattle.std.specs.Fmt.{decimal}
-use Rattle.std.specs.Io.KnownBytes.{Appends, IsAtEnd}
+use Rattle.std.specs.Io.KnownBytes.{append_known, Appends, IsAtEnd}
 use Rattle.nbd_commands.specs.Refusals.{code_of}
+use Rattle.nbd_session.specs.Streams.{WritesPart}
 use Rattle.nbd_scripts.specs.declared.fault.LineFault.{LineFault}
 use Rattle.nbd_scripts.specs.declared.fault.LineFault.TheVariants.{Form, Value}
 use Rattle.nbd_scripts.specs.declared.fault.LineFault.TheVariants as fault
@@ -21,9 +22,16 @@ refusal_line number Form = codes "line " ++ decimal number ++ codes " refused\n"
 refusal_line number (Value refusal) = codes "line " ++ decimal number ++ codes " C" ++ decimal (code_of refusal) ++ codes "\n"
 refusal_line number fault.NoMemory = codes ""
 
--- the text is written and the command went so; or the write failed, or found no memory
+-- the text is written and the command went so; or memory was refused and nothing is written; or a write failed, and a beginning
+-- of the text is written
 abbrev pub Writes : List ℕ → Outcome → Option (List ℕ) → Option (List ℕ) → Outcome → Type 0
-Writes text well old new went = ((went ≡ well) × Appends old new text) ⊎ (went ≡ outcome.NoMemory) ⊎ (went ≡ WriteFailed)
+Writes text well old new went = ((went ≡ well) × Appends old new text) ⊎ ((went ≡ outcome.NoMemory) × (new ≡ old)) ⊎ ((went ≡ WriteFailed) × WritesPart old new text)
+
+-- a beginning of a text was written, and with all of it the output would be such
+pub record CutShort (IsSuch : Option (List ℕ) → Type 0) (old new : Option (List ℕ)) : Type 0 where
+  pub text : List ℕ
+  pub whole : IsSuch (append_known old text)
+  pub part : WritesPart old new text
 
 -- the refusal of a line is written. Want of memory is none, and then nothing is
 abbrev pub TellsRefusal : ℕ → LineFault → Option (List ℕ) → Option (List ℕ) → Outcome → Type 0

@@ -1,14 +1,17 @@
 //! `nbdq talk`: a script, and the conversation that a client holds by it.
 
-ghost use Rattle.std.specs.Prelude.{◌≡◌, ◌≢◌, IfOk, IsErr, codes};
+ghost use Rattle.std.specs.Prelude.{◌≡◌, ◌≢◌, ◌⊎◌, IfOk, IsErr, codes};
 ghost use Rattle.std.specs.Io.KnownBytes.{Appends};
 ghost use Rattle.hex.specs.Hex.{decode_of};
+ghost use Rattle.nbd_session.specs.Streams.{WritesPart};
+ghost use Rattle.nbd_scripts.specs.Told.{CutShort};
 ghost use Rattle.nbd_scripts.specs.Scripts.{TellsTalk};
 ghost use Rattle.nbd_scripts.specs.Output.{is_gap, digits_of, printed, word_of, Prints};
 
 use crate::head::{Head, read_head};
 use crate::outcome::Outcome;
 use crate::refused::{read_script, refuse_line};
+use crate::writing::write_last;
 use hex::FromHexError;
 use nbd_base::NoMemory;
 use nbd_commands::Config;
@@ -18,7 +21,7 @@ use std::io::{Read, Write};
 
 /// Reads a script, holds its conversation, and writes what the server says.
 ///
-/// Where memory is refused, nothing of what the server says is written.
+/// Where memory is refused, nothing is written.
 pub fn talk_script<A: Allocator + Copy, R: Read, W: Write>(
     alloc: A,
     input: &mut R,
@@ -32,7 +35,7 @@ pub fn talk_script<A: Allocator + Copy, R: Read, W: Write>(
     };
     match read_head(alloc, &script) {
         Head::Read(config, body) => converse(alloc, &config, body.text, output),
-        Head::Refused(line, fault) => refuse_line(output, line, fault),
+        Head::Refused(line, fault) => refuse_line(alloc, line, fault, output),
     }
 }
 
@@ -47,6 +50,10 @@ fn converse<A: Allocator + Copy, W: Write>(
     ensures refused { result ≡ Outcome.Refused → IsErr (decode_of (digits_of body.now))
         × Appends (W.contents output.old) (W.contents output.new) (codes "hex refused\n") }
     ensures unread { result ≡ Outcome.ReadFailed → W.contents output.new ≡ W.contents output.old }
+    ensures no_memory { result ≡ Outcome.NoMemory → W.contents output.new ≡ W.contents output.old }
+    ensures write_failed { result ≡ Outcome.WriteFailed → CutShort
+        (λ all. Prints config.now.exports body.now (W.contents output.old) all ⊎ (IsErr (decode_of (digits_of body.now)) × Appends (W.contents output.old) all (codes "hex refused\n")))
+        (W.contents output.old) (W.contents output.new) }
 {
     let Ok(digits) = digits_of(alloc, body) else {
         return Outcome::NoMemory;
@@ -64,7 +71,7 @@ fn converse<A: Allocator + Copy, W: Write>(
         Err(TalkFault::WriteFailed | TalkFault::NoMemory) => return Outcome::NoMemory,
     };
     match spelled(alloc, &writer.into_inner(), end) {
-        Ok(text) => Outcome::of_write(output.write_all(&text), Outcome::Done),
+        Ok(text) => write_last(&text, Outcome::Done, output),
         Err(NoMemory) => Outcome::NoMemory,
     }
 }
@@ -75,10 +82,13 @@ fn refuse_hex<W: Write>(error: &FromHexError, output: &mut W) -> Outcome
     ensures read { result ≢ Outcome.ReadFailed }
     ensures refused { result ≡ Outcome.Refused → (error.now ≢ FromHexError.OutOfMemory)
         × Appends (W.contents output.old) (W.contents output.new) (codes "hex refused\n") }
+    ensures no_memory { result ≡ Outcome.NoMemory → W.contents output.new ≡ W.contents output.old }
+    ensures write_failed { result ≡ Outcome.WriteFailed → (error.now ≢ FromHexError.OutOfMemory)
+        × WritesPart (W.contents output.old) (W.contents output.new) (codes "hex refused\n") }
 {
     match error {
         FromHexError::OutOfMemory => Outcome::NoMemory,
-        _ => Outcome::of_write(output.write_all(b"hex refused\n"), Outcome::Refused),
+        _ => write_last(b"hex refused\n", Outcome::Refused, output),
     }
 }
 

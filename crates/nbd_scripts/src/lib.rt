@@ -16,6 +16,7 @@ mod replaying;
 mod settings;
 mod tags;
 mod verbs;
+mod writing;
 
 pub use conversation::talk_script;
 pub use outcome::Outcome;

@@ -1,10 +1,12 @@
 //! A script that can't be read, or is refused.
 
-ghost use Rattle.std.specs.Prelude.{◌≡◌, ◌⊎◌, IfOk, IfErr};
-ghost use Rattle.nbd_scripts.specs.Told.{IsWhole, TellsRefusal};
+ghost use Rattle.std.specs.Prelude.{◌≡◌, ◌≢◌, ◌⊎◌, IfOk, OnOk, IfErr};
+ghost use Rattle.nbd_scripts.specs.Told.{refusal_line, IsWhole, TellsRefusal};
 
 use crate::fault::LineFault;
 use crate::outcome::Outcome;
+use crate::writing::write_last;
+use nbd_base::NoMemory;
 use std::alloc::Allocator;
 use std::io;
 use std::io::{Read, Write};
@@ -23,17 +25,40 @@ pub fn read_script<A: Allocator, R: Read>(alloc: A, input: &mut R) -> Result<Vec
 }
 
 /// Writes that this line is refused, and why. Want of memory is no refusal.
-pub fn refuse_line<W: Write>(output: &mut W, line: usize, fault: LineFault) -> Outcome
+pub fn refuse_line<A: Allocator, W: Write>(
+    alloc: A,
+    line: usize,
+    fault: LineFault,
+    output: &mut W,
+) -> Outcome
     ensures { TellsRefusal line fault (W.contents output.old) (W.contents output.new) result }
 {
-    match fault {
-        LineFault::NoMemory => Outcome::NoMemory,
-        LineFault::Form => {
-            Outcome::of_write(writeln!(output, "line {line} refused"), Outcome::Refused)
-        }
+    match refusal_line(alloc, line, fault) {
+        Ok(text) => write_last(&text, Outcome::Refused, output),
+        Err(NoMemory) => Outcome::NoMemory,
+    }
+}
+
+/// The line that says that this line is refused, and why.
+fn refusal_line<A: Allocator>(
+    alloc: A,
+    line: usize,
+    fault: LineFault,
+) -> Result<Vec<u8, A>, NoMemory>
+    ensures text { IfOk result (λ text. text.items ≡ refusal_line line fault) }
+    ensures refusal { OnOk result (fault ≢ LineFault.NoMemory) }
+{
+    let mut text = Vec::new(alloc);
+    let written = match fault {
+        LineFault::NoMemory => return Err(NoMemory),
+        LineFault::Form => writeln!(text, "line {line} refused"),
         LineFault::Value(refusal) => {
             let code = refusal.code();
-            Outcome::of_write(writeln!(output, "line {line} C{code}"), Outcome::Refused)
+            writeln!(text, "line {line} C{code}")
         }
+    };
+    match written {
+        Ok(()) => Ok(text),
+        Err(_) => Err(NoMemory),
     }
 }

@@ -2,9 +2,9 @@
 
 ghost use Rattle.std.specs.Prelude.{◌≡◌, ◌⊎◌, OnOk};
 ghost use Rattle.server_core.specs.Served.{setup_for};
-ghost use Rattle.nbd_scripts.specs.Replayed.{IsMade, Replays, steps_line};
+ghost use Rattle.nbd_scripts.specs.Replayed.{IsMade, Replays, ReplaysFirst, TellsLine, steps_line};
 ghost use Rattle.nbd_scripts.specs.Scripts.{TellsReplay};
-ghost use Rattle.nbd_scripts.specs.Told.{Writes};
+ghost use Rattle.nbd_scripts.specs.Told.{CutShort, Writes};
 
 use crate::answers::write_answer;
 use crate::events::{Lines, read_lines};
@@ -13,6 +13,7 @@ use crate::outcome::Outcome;
 use crate::refused::{read_script, refuse_line};
 use crate::replay_line::ReplayLine;
 use crate::tags::write_tags;
+use crate::writing::write_last;
 use eligibility::Heaped;
 use export_store::Paged;
 use nbd_commands::Config;
@@ -36,9 +37,9 @@ pub fn replay_script<A: Allocator + Copy, R: Read, W: Write>(
     match read_head(alloc, &script) {
         Head::Read(config, body) => match read_lines(alloc, body) {
             Lines::Read(lines) => replay(alloc, &config, lines, output),
-            Lines::Refused(line, fault) => refuse_line(output, line, fault),
+            Lines::Refused(line, fault) => refuse_line(alloc, line, fault, output),
         },
-        Head::Refused(line, fault) => refuse_line(output, line, fault),
+        Head::Refused(line, fault) => refuse_line(alloc, line, fault, output),
     }
 }
 
@@ -51,17 +52,41 @@ fn replay<A: Allocator + Copy, W: Write>(
 ) -> Outcome
     ensures done { result ≡ Outcome.Done → Replays {A = A} (setup_for config.now) lines.items (W.contents output.old) (W.contents output.new) }
     ensures failed { (result ≡ Outcome.Done) ⊎ (result ≡ Outcome.NoMemory) ⊎ (result ≡ Outcome.WriteFailed) }
+    ensures no_memory { result ≡ Outcome.NoMemory → ReplaysFirst {A = A} (setup_for config.now) lines.items (W.contents output.old) (W.contents output.new) }
+    ensures write_failed { result ≡ Outcome.WriteFailed → CutShort
+        (λ all. Replays {A = A} (setup_for config.now) lines.items (W.contents output.old) all ⊎ ReplaysFirst {A = A} (setup_for config.now) lines.items (W.contents output.old) all)
+        (W.contents output.old) (W.contents output.new) }
 {
     let made: Result<Server<Paged<A>, Heaped<A>>, _> = Server::new(alloc, config);
     let Ok(mut server) = made else {
         return Outcome::NoMemory;
     };
+    let mut text = Vec::new(alloc);
     for line in lines {
-        if let Err(error) = make_line(alloc, &mut server, line, output) {
-            return failed(error);
+        match tell_line(alloc, &mut server, line, &mut text, output) {
+            Outcome::Done => {}
+            failed => return failed,
         }
     }
-    write_steps(server.steps(), output)
+    write_steps(alloc, server.steps(), output)
+}
+
+/// Makes one line, and writes what it is answered. `text` is what it is written from.
+fn tell_line<A: Allocator + Copy, W: Write>(
+    alloc: A,
+    server: &mut Server<Paged<A>, Heaped<A>>,
+    line: ReplayLine<A>,
+    text: &mut Vec<u8, A>,
+    output: &mut W,
+) -> Outcome
+    ensures { TellsLine {A = A} server.old line server.new (W.contents output.old) (W.contents output.new) result }
+{
+    text.clear();
+    match make_line(alloc, server, line, text) {
+        Ok(()) => write_last(text, Outcome::Done, output),
+        // A vector refuses a write only for want of memory.
+        Err(_) => Outcome::NoMemory,
+    }
 }
 
 /// Makes one line, and writes what it is answered.
@@ -79,16 +104,13 @@ fn make_line<A: Allocator + Copy, W: Write>(
     }
 }
 
-/// What a write that failed comes to.
-fn failed(error: io::Error) -> Outcome
-    ensures { (result ≡ Outcome.NoMemory) ⊎ (result ≡ Outcome.WriteFailed) }
-{
-    Outcome::of_write(Err(error), Outcome::WriteFailed)
-}
-
 /// Writes the last line, how many steps were counted.
-fn write_steps<W: Write>(steps: u128, output: &mut W) -> Outcome
+fn write_steps<A: Allocator, W: Write>(alloc: A, steps: u128, output: &mut W) -> Outcome
     ensures { Writes (steps_line steps) Outcome.Done (W.contents output.old) (W.contents output.new) result }
 {
-    Outcome::of_write(writeln!(output, "steps {steps}"), Outcome::Done)
+    let mut text = Vec::new(alloc);
+    match writeln!(text, "steps {steps}") {
+        Ok(()) => write_last(&text, Outcome::Done, output),
+        Err(_) => Outcome::NoMemory,
+    }
 }

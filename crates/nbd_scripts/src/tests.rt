@@ -1,4 +1,4 @@
-//! Scripts that are refused, the first line that is, and want of memory.
+//! Scripts that are refused, the first line that is, want of memory, and writes that fail.
 
 use crate::outcome::Outcome;
 use crate::{replay_script, talk_script};
@@ -245,6 +245,12 @@ const REPLAYED: &[u8] =
 const WRITTEN: &[u8] =
     b"session 0\naccepted 0 0\naccepted 1 0\nexport 0 request 0 weight\nexport 0 request 1 weight\nperformed\nperformed\nreply 1 0 -\nreply 2 0 abcd\nsteps 9\n";
 
+/// Whether these are the first lines of what is written where there is memory, and not all of them.
+fn is_whole_lines(output: &[u8]) -> bool {
+    let begins = WRITTEN.starts_with(output);
+    begins && output.len() < WRITTEN.len() && (output.is_empty() || output.ends_with(b"\n"))
+}
+
 /// How the script goes where the first so many growths are given and the next is refused, and what is written.
 fn replayed_without_memory(alloc: Global, heap: &Refusing<Global>) -> (Outcome, Vec<u8>) {
     let mut input = REPLAYED;
@@ -271,9 +277,76 @@ fn each_growth_is_refused(rt: HostRuntime) {
         }
         let told = outcome == Outcome::NoMemory || outcome == Outcome::Done;
         assert!(rt; told, "at {nth}");
+        let stopped = outcome == Outcome::NoMemory;
+        assert!(rt; !stopped || is_whole_lines(&output), "at {nth}");
         let differs = output.as_slice() != WRITTEN;
         assert!(rt; differs, "at {nth}");
         refused = nth;
     }
     assert!(rt; refused > 0);
+}
+
+/// Takes so many bytes, a few at a time, and then fails.
+#[derive(Drop)]
+struct Sink {
+    taken: Vec<u8>,
+    room: usize,
+    kind: io::ErrorKind,
+}
+
+impl Write for Sink {
+    fn write(&mut self, buf: &[u8]) -> io::Result<usize> {
+        let count = buf.len().min(self.room).min(7);
+        if count == 0 {
+            return Err(io::Error::from(self.kind));
+        }
+        self.taken.extend_from_slice(&buf[..count])?;
+        self.room -= count;
+        Ok(count)
+    }
+
+    fn flush(&mut self) -> io::Result<()> {
+        Ok(())
+    }
+}
+
+/// The first bytes of a text.
+fn beginning(text: &[u8], count: usize) -> &[u8] {
+    text.get(..count).unwrap_or_default()
+}
+
+#[test]
+fn each_write_of_a_replay_fails(rt: HostRuntime) {
+    for (script, written) in [
+        (REPLAYED, WRITTEN),
+        (b"export a size=1\n---\ntags 0\n", b"waiting 0\nsteps 0\n"),
+        (b"export a size=0\n---\n", b"line 1 C5\n"),
+        (b"export a size=1\n---\nattach\n", b"line 3 refused\n"),
+    ] {
+        for room in 0..written.len() {
+            let mut input = script;
+            let mut output = Sink {
+                taken: Vec::new(rt.alloc()),
+                room,
+                kind: io::ErrorKind::BrokenPipe,
+            };
+            let outcome = replay_script(rt.alloc(), &mut input, &mut output);
+            assert_eq!(rt; outcome, Outcome::WriteFailed, "at {room}");
+            let well = output.taken.as_slice() == beginning(written, room);
+            assert!(rt; well, "at {room}");
+        }
+    }
+}
+
+#[test]
+fn an_output_without_memory_has_failed(rt: HostRuntime) {
+    let mut input = REPLAYED;
+    let mut output = Sink {
+        taken: Vec::new(rt.alloc()),
+        room: 20,
+        kind: io::ErrorKind::OutOfMemory,
+    };
+    let outcome = replay_script(rt.alloc(), &mut input, &mut output);
+    assert_eq!(rt; outcome, Outcome::WriteFailed);
+    assert!(rt; output.taken.as_slice() == b"session 0\naccepted 0".as_slice());
 }

@@ -128,11 +128,12 @@ ended_by faults.TooLong d h = h
 ended_by faults.NoMemory d h = tt
 ended_by faults.Failed d h = absurd h
 
-silent : (fault : FeedFault) (left : Option (List ℕ)) (before now : ℕ) → EndsReader (ending_of fault) left before now
-silent faults.BadMagic left before now = tt
-silent faults.TooLong left before now = tt
-silent faults.NoMemory left before now = tt
-silent faults.Failed left before now = tt
+-- no read failed where a fault of the decoder is told
+none_failed : (fault : FeedFault) (left : Option (List ℕ)) (before now : ℕ) → now ≡ before → EndsReader (ending_of fault) left before now
+none_failed faults.BadMagic left before now same = same
+none_failed faults.TooLong left before now same = same
+none_failed faults.NoMemory left before now same = same
+none_failed faults.Failed left before now same = same
 
 -- a fault that was met before
 pub fault_told : (left : Option (List ℕ)) (n : ℕ) (ready rest : List RequestMessage) (d : Decoding) (fault : FeedFault) → ready ≡ [] → IsBehindReady (Some fault) d → Advances left left n n ready d.held rest d.held (Err (ending_of fault))
@@ -142,7 +143,7 @@ fault_told left n ready rest d fault none behind =
       bytes = [];
       took = Consumes-none left;
       are_bytes = no_bytes;
-      advanced = (subst (IsEnded (ending_of fault)) (sym all) (ended_by fault d behind), silent fault left n n);
+      advanced = (subst (IsEnded (ending_of fault)) (sym all) (ended_by fault d behind), none_failed fault left n n refl);
     }
 
 -- with what was read
@@ -185,7 +186,7 @@ module _ (i0 i1 : Option (List ℕ)) (n0 n1 : ℕ) (old_ready ready : List Reque
         bytes = f.bytes;
         took = f.took;
         are_bytes = f.are_bytes;
-        advanced = (subst (IsEnded (ending_of fault)) (sym (nothing_ready f.bytes)) (by f.fetched.0.keeps), silent fault i1 n0 n1);
+        advanced = (subst (IsEnded (ending_of fault)) (sym (nothing_ready f.bytes)) (by f.fetched.0.keeps), none_failed fault i1 n0 n1 f.fetched.1);
       }
     where
       lost_end : (x : FeedFault) → Some x ≡ Some faults.NoMemory → (bytes : List ℕ) → IsEnded (ending_of x) bytes
@@ -212,7 +213,7 @@ read_failed left later before now d ready kept rises none well = record {
 
 -- no memory was there for a piece
 pub no_piece : (left : Option (List ℕ)) (n : ℕ) (d : Decoding) (ready : List RequestMessage) → ready ≡ [] → IsBehindReady None d → Fetches left left n n d.held ready d (Err ends.NoMemory)
-no_piece left n d ready none well = record { bytes = []; took = Consumes-none left; are_bytes = no_bytes; fetched = (tt, tt, none, well) }
+no_piece left n d ready none well = record { bytes = []; took = Consumes-none left; are_bytes = no_bytes; fetched = (tt, refl, none, well) }
 
 -- a piece made no request ready, and met no fault
 pub record IsLonger (left later : Option (List ℕ)) (before now : ℕ) (held : List ℕ) (d : Decoding) : Type 0 where

@@ -1,5 +1,6 @@
 -- Requests out of pieces: some bytes were read that aren't served yet.
 use Rattle.std.proofs.Common.{◌≡◌, ℕ, Bool, true, false, ◌==◌, List, [], ◌∷◌, ◌++◌, Option, Result, Ok, Err, refl, sym, ap, subst, ◌∙◌, inr, append_assoc, arith}
+use Rattle.std.specs.Result.{OnOk}
 use Rattle.std.specs.Io.KnownBytes.{Consumes, Appends}
 use Rattle.nbd_wire.specs.Grammar.{request_text, reply_text, head_text, RequestMessage, ReplyMessage, IsUnfinished}
 use Rattle.std.proofs.lemmas.Bool.{eq-eqb, eqb-true}
@@ -86,8 +87,8 @@ module _ (terms : Terms) (first s : Alone) (kept : List ℕ) (i0 i1 o0 o1 : Opti
     is_ended e is = by e (stopped e is)
       where
         by : (e : Ending) → IsEnded e all × EndsReader e i2 before now → Converses IsTold (Serves terms first) i0 i2 o0 o1 (end_by e)
-        by ending.Over h = ends_here (Ok ends.Over) (stops terms s all ends.Over h.0, h.1)
-        by ending.Cut h = ends_here (Ok ends.Cut) (stops terms s all ends.Cut h.0, h.1)
+        by ending.Over h = ends_here (Ok ends.Over) (stops terms s all ends.Over h.0, h.1.0)
+        by ending.Cut h = ends_here (Ok ends.Cut) (stops terms s all ends.Cut h.0, h.1.0)
         by ending.BadMagic h = ends_here (Ok ends.BadMagic) (stops terms s all ends.BadMagic h.0, tt)
         by ending.TooLong h = ends_here (Ok ends.TooLong) (stops terms s all ends.TooLong h.0, tt)
         by ending.ReadFailed h = let u = unfinished_end all h.0 in ends_here (Err faults.ReadFailed) (u.0, stops terms s all u.0 u.1)
@@ -103,6 +104,18 @@ module _ (terms : Terms) (first s : Alone) (kept : List ℕ) (i0 i1 o0 o1 : Opti
         by ending.TooLong f h = absurd (cc)
         by ending.ReadFailed f h = h.1
         by ending.NoMemory f h = absurd (cc)
+
+    -- where an end is answered, no read failed
+    pub reads_kept : (e : Ending) (answer : Result End TalkFault) → frame ≡ frames.Ended e → answer ≡ end_by e → OnOk answer (now ≡ before)
+    reads_kept e answer is ends = subst (λ (x : Result End TalkFault). OnOk x (now ≡ before)) (sym ends) (by e (stopped e is))
+      where
+        by : (e : Ending) → IsEnded e all × EndsReader e i2 before now → OnOk (end_by e) (now ≡ before)
+        by ending.Over h = h.1.1
+        by ending.Cut h = h.1.1
+        by ending.BadMagic h = h.1
+        by ending.TooLong h = h.1
+        by ending.ReadFailed h = tt
+        by ending.NoMemory h = tt
 
     -- ---- where a request is given
 

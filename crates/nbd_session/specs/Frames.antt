@@ -39,14 +39,14 @@ IsEnded ends.TooLong bytes = BeginsTooLong bytes
 IsEnded ends.ReadFailed bytes = IsUnfinished bytes
 IsEnded ends.NoMemory bytes = Unit {0}
 
--- what the reader did then: it told its end, or failed
+-- what the reader did then: it told its end, or failed. Where no failed read is told, its count of failures stayed
 abbrev pub EndsReader : Ending → Option (List ℕ) → ℕ → ℕ → Type 0
-EndsReader ends.Over left before now = IsAtEnd left
-EndsReader ends.Cut left before now = IsAtEnd left
-EndsReader ends.BadMagic left before now = Unit {0}
-EndsReader ends.TooLong left before now = Unit {0}
+EndsReader ends.Over left before now = IsAtEnd left × (now ≡ before)
+EndsReader ends.Cut left before now = IsAtEnd left × (now ≡ before)
+EndsReader ends.BadMagic left before now = now ≡ before
+EndsReader ends.TooLong left before now = now ≡ before
 EndsReader ends.ReadFailed left before now = Rises before now
-EndsReader ends.NoMemory left before now = Unit {0}
+EndsReader ends.NoMemory left before now = now ≡ before
 
 -- the reading ended so behind these bytes
 pub record Stops (e : Ending) (bytes : List ℕ) (new : Reading) (left : Option (List ℕ)) (before now : ℕ) : Type 0 where

@@ -23,6 +23,7 @@ mod counting;
 mod ending;
 mod entering;
 mod going;
+mod held;
 mod long;
 
 type Heap<'a> = &'a Refusing<Global>;
@@ -101,9 +102,10 @@ struct Seated<'a, L: Ledger> {
     held: Option<Request<Heap<'a>>>,
 }
 
-fn config_of(heap: Heap<'_>) -> Option<Config<Heap<'_>>> {
+/// An export of 4,096 bytes, and how many requests of a session may be under way.
+fn config_of(heap: Heap<'_>, window: u64) -> Option<Config<Heap<'_>>> {
     let mut settings = ExportSettings::new(b"a", 4096);
-    settings.window = 1;
+    settings.window = window;
     let mut list = ExportList::new(heap);
     list.add(&settings).ok()?;
     Config::new(list, 32).ok()
@@ -114,7 +116,7 @@ fn opened<'a, L: Ledger, R: Wait>(rt: &R, heap: Heap<'a>, blank: Blank) -> Optio
     requires parts { blank.parts ≡ L.parts }
     requires one { blank.parts ≡ 1 }
 {
-    let server = Server::new(heap, &config_of(heap)?).ok()?;
+    let server = Server::new(heap, &config_of(heap, 1)?).ok()?;
     let (shared, mut passes) = Tried::<'a, L>::new(heap, server, blank, 1).ok()?;
     let mut pass = passes.pop()?;
     let session = shared.turn_attach(rt, &mut pass, 0).ok()?;

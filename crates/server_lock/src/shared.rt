@@ -18,7 +18,11 @@ use server_core::{Chosen, NotArrived, NotAttached, Server, SessionId, SessionRef
 use std::sync::atomic::{AtomicBool, Ordering};
 use std::sync::ledger::{Blank, Ledger};
 use std::sync::{Mutex, MutexGuard, Wait};
+use std::thread::yield_now;
 use tag_clock::Moment;
+
+/// How often a taken lock is asked for, while other threads run, before its caller sleeps.
+const TRIES: usize = 64;
 
 /// A booked server under a lock, and a stop flag beside it, of which nothing is claimed.
 ///
@@ -65,9 +69,21 @@ impl<L: Ledger, I: Image, E: Eligibility<Alloc = I::Alloc>> Shared<L, I, E> {
     pub fn hold<R: Wait>(&self, rt: &R) -> MutexGuard<'_, Booked<L, I, E>>
         ensures { IsSound (mutex_guard_value result) }
     {
-        let held = self.booked.lock(rt);
+        let held = self.take(rt);
         held.kept();
         held
+    }
+
+    // The lock. A hand-over from sleeper to sleeper takes longer than most holds do, so whoever finds it taken first lets others
+    // run for a while.
+    fn take<R: Wait>(&self, rt: &R) -> MutexGuard<'_, Booked<L, I, E>> {
+        for _ in 0..TRIES {
+            if let Some(held) = self.booked.try_lock() {
+                return held;
+            }
+            yield_now();
+        }
+        self.booked.lock(rt)
     }
 
     /// Opens a session of an export.

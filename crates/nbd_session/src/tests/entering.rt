@@ -18,7 +18,7 @@ fn entered<'a, L: Ledger, R: Wait>(
     requires one { blank.parts ≡ 1 }
 {
     let Seated { shared, pass, .. } = opened::<L, R>(rt, heap, blank)?;
-    let table = table_of(heap, config_of(heap)?.exports()).ok()?;
+    let table = table_of(heap, config_of(heap, 1)?.exports()).ok()?;
     let mut reader = Counted::new(GO.as_slice());
     let mut writer = Counted::new(Vec::new(heap));
     let mut door = Door::new(rt, &shared, pass);
@@ -46,7 +46,7 @@ fn go_gives_the_next_session(rt: HostRuntime) -> Result<(), Fail> {
 #[test]
 fn a_silent_client_is_greeted(rt: HostRuntime) -> Result<(), Fail> {
     let heap = Refusing::new(rt.alloc(), 0);
-    let config = config_of(&heap).ok_or("memory")?;
+    let config = config_of(&heap, 1).ok_or("memory")?;
     let mut writer = Counted::new(Vec::new(rt.alloc()));
     let end = talk(
         &heap,

@@ -1,4 +1,4 @@
-use Rattle.std.proofs.Common.{ℕ, Result, Ok, Err, arith, refl, ap, subst, ◌∙◌}
+use Rattle.std.proofs.Common.{◌≡◌, ℕ, Result, Ok, Err, arith, refl, ap, subst, ◌∙◌}
 use Rattle.std.specs.Result.{OnOk}
 use Rattle.std.proofs.lemmas.Result.{err_from_is_err_and}
 use Rattle.nbd_session.specs.declared.talking.End.{End}
@@ -7,7 +7,7 @@ use Rattle.nbd_session.specs.Frames.{Reading}
 use Rattle.nbd_session.specs.Streams.{Rises}
 use Rattle.nbd_session.specs.Requests.{opened}
 use Rattle.nbd_session.proofs.ServeLemmas.{served_by, still_idle, still_terms, still_few, few_at_first, worn_by_count}
-use Rattle.nbd_session.proofs.KeptLemmas.{keeps_nothing, is_ended, is_without_memory, read_rises, is_disc, disc_by, no_disc_by, is_worn, is_part, keeps_on, gives}
+use Rattle.nbd_session.proofs.KeptLemmas.{keeps_nothing, is_ended, is_without_memory, read_rises, reads_kept, is_disc, disc_by, no_disc_by, is_worn, is_part, keeps_on, gives}
 use Rattle.nbd_session.proofs.transmission.requests.Goals as goal
 
 on_any : (P : Type 0) (answer : Result End TalkFault) → P → OnOk answer P
@@ -59,6 +59,20 @@ returns-in-Ended-clause-read_failed g c =
     subst (λ (m : ℕ). Rises m c.next.new.reader.failures) inv.read_kept
     (read_rises terms (opened terms) s c.loop-request.frames.kept i0 i1 o0 o1 inv.keeping g.row.I-Alloc.Denot c.loop-request.frames c.next.new.self i2 c.loop-request.reader.failures c.next.new.reader.failures c.next.result refl n c.in-Ended.ending c.end_of.result c.in-Ended.is c.end_of.ensures fails)
 
+pub returns-in-Ended-clause-read : goal.returns-in-Ended-clause-read
+returns-in-Ended-clause-read g c =
+    let terms = c.args.lone.now.terms in
+    let s = c.loop-request.lone.state in
+    let inv = c.loop-request.invariant in
+    let i0 = g.R.Read.remaining c.args.reader.now.inner in
+    let i1 = g.R.Read.remaining c.loop-request.reader.inner in
+    let i2 = g.R.Read.remaining c.next.new.reader.inner in
+    let o0 = g.W.Write.contents c.args.writer.now.inner in
+    let o1 = g.W.Write.contents c.loop-request.writer.inner in
+    let n = c.next.ensures.next inv.not_ended in
+    subst (λ (m : ℕ). OnOk c.end_of.result (c.next.new.reader.failures ≡ m)) inv.read_kept
+    (reads_kept terms (opened terms) s c.loop-request.frames.kept i0 i1 o0 o1 inv.keeping g.row.I-Alloc.Denot c.loop-request.frames c.next.new.self i2 c.loop-request.reader.failures c.next.new.reader.failures c.next.result refl n c.in-Ended.ending c.end_of.result c.in-Ended.is c.end_of.ensures)
+
 pub returns-then-is_disc-clause-conversation : goal.returns-then-is_disc-clause-conversation
 returns-then-is_disc-clause-conversation g c =
     let terms = c.args.lone.now.terms in
@@ -73,6 +87,20 @@ returns-then-is_disc-clause-conversation g c =
     let q = c.in-Whole.request in
     let whole = c.in-Whole.is in
     is_disc terms (opened terms) s c.loop-request.frames.kept i0 i1 o0 o1 inv.keeping g.row.I-Alloc.Denot c.loop-request.frames c.next.new.self i2 c.loop-request.reader.failures c.next.new.reader.failures c.next.result refl n q whole (disc_by q.head c.head.result (c.is_disc.result) c.head.ensures.value c.is_disc.ensures c.if-is_disc.true)
+
+pub returns-then-is_disc-clause-read : goal.returns-then-is_disc-clause-read
+returns-then-is_disc-clause-read g c =
+    let terms = c.args.lone.now.terms in
+    let s = c.loop-request.lone.state in
+    let inv = c.loop-request.invariant in
+    let i0 = g.R.Read.remaining c.args.reader.now.inner in
+    let i1 = g.R.Read.remaining c.loop-request.reader.inner in
+    let i2 = g.R.Read.remaining c.next.new.reader.inner in
+    let o0 = g.W.Write.contents c.args.writer.now.inner in
+    let o1 = g.W.Write.contents c.loop-request.writer.inner in
+    let n = c.next.ensures.next inv.not_ended in
+    let given = gives terms (opened terms) s c.loop-request.frames.kept i0 i1 o0 o1 inv.keeping g.row.I-Alloc.Denot c.loop-request.frames c.next.new.self i2 c.loop-request.reader.failures c.next.new.reader.failures c.next.result refl n c.in-Whole.request c.in-Whole.is in
+    given.none_failed ∙ inv.read_kept
 
 pub returns-in_err-reply-clause-conversation : goal.returns-in_err-reply-clause-conversation
 returns-in_err-reply-clause-conversation g c =
@@ -102,6 +130,20 @@ returns-in_default-clause-conversation g c =
     let q = c.in-Whole.request in
     let whole = c.in-Whole.is in
     is_worn terms (opened terms) s c.loop-request.frames.kept i0 i1 o0 o1 inv.keeping g.row.I-Alloc.Denot c.loop-request.frames c.next.new.self i2 c.loop-request.reader.failures c.next.new.reader.failures c.next.result refl n q whole (no_disc_by q.head c.head.result (c.is_disc.result) c.head.ensures.value c.is_disc.ensures c.if-is_disc.false) (worn_by_count terms c.loop-request.lone q inv.idle c.in_ok-reply.field-0 c.in_default.is c.in_ok-reply.ensures.worn)
+
+pub returns-in_default-clause-read : goal.returns-in_default-clause-read
+returns-in_default-clause-read g c =
+    let terms = c.args.lone.now.terms in
+    let s = c.loop-request.lone.state in
+    let inv = c.loop-request.invariant in
+    let i0 = g.R.Read.remaining c.args.reader.now.inner in
+    let i1 = g.R.Read.remaining c.loop-request.reader.inner in
+    let i2 = g.R.Read.remaining c.next.new.reader.inner in
+    let o0 = g.W.Write.contents c.args.writer.now.inner in
+    let o1 = g.W.Write.contents c.loop-request.writer.inner in
+    let n = c.next.ensures.next inv.not_ended in
+    let given = gives terms (opened terms) s c.loop-request.frames.kept i0 i1 o0 o1 inv.keeping g.row.I-Alloc.Denot c.loop-request.frames c.next.new.self i2 c.loop-request.reader.failures c.next.new.reader.failures c.next.result refl n c.in-Whole.request c.in-Whole.is in
+    given.none_failed ∙ inv.read_kept
 
 pub returns-in_err-say-clause-conversation : goal.returns-in_err-say-clause-conversation
 returns-in_err-say-clause-conversation g c =
