@@ -11,7 +11,7 @@ ghost use Rattle.nbd_scripts.specs.Output.{is_gap, digits_of, printed, word_of, 
 use crate::head::{Head, read_head};
 use crate::outcome::Outcome;
 use crate::refused::{read_script, refuse_line};
-use crate::writing::write_last;
+use crate::writing::tell_text;
 use hex::FromHexError;
 use nbd_base::NoMemory;
 use nbd_commands::Config;
@@ -71,7 +71,7 @@ fn converse<A: Allocator + Copy, W: Write>(
         Err(TalkFault::WriteFailed | TalkFault::NoMemory) => return Outcome::NoMemory,
     };
     match spelled(alloc, &writer.into_inner(), end) {
-        Ok(text) => write_last(&text, Outcome::Done, output),
+        Ok(text) => tell_text(&text, Outcome::Done, output),
         Err(NoMemory) => Outcome::NoMemory,
     }
 }
@@ -88,7 +88,7 @@ fn refuse_hex<W: Write>(error: &FromHexError, output: &mut W) -> Outcome
 {
     match error {
         FromHexError::OutOfMemory => Outcome::NoMemory,
-        _ => write_last(b"hex refused\n", Outcome::Refused, output),
+        _ => tell_text(b"hex refused\n", Outcome::Refused, output),
     }
 }
 

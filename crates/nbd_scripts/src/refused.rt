@@ -5,7 +5,7 @@ ghost use Rattle.nbd_scripts.specs.Told.{refusal_line, IsWhole, TellsRefusal};
 
 use crate::fault::LineFault;
 use crate::outcome::Outcome;
-use crate::writing::write_last;
+use crate::writing::tell_text;
 use nbd_base::NoMemory;
 use std::alloc::Allocator;
 use std::io;
@@ -34,7 +34,7 @@ pub fn refuse_line<A: Allocator, W: Write>(
     ensures { TellsRefusal line fault (W.contents output.old) (W.contents output.new) result }
 {
     match refusal_line(alloc, line, fault) {
-        Ok(text) => write_last(&text, Outcome::Refused, output),
+        Ok(text) => tell_text(&text, Outcome::Refused, output),
         Err(NoMemory) => Outcome::NoMemory,
     }
 }

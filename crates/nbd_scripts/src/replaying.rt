@@ -13,7 +13,7 @@ use crate::outcome::Outcome;
 use crate::refused::{read_script, refuse_line};
 use crate::replay_line::ReplayLine;
 use crate::tags::write_tags;
-use crate::writing::write_last;
+use crate::writing::tell_text;
 use eligibility::Heaped;
 use export_store::Paged;
 use nbd_commands::Config;
@@ -83,7 +83,7 @@ fn tell_line<A: Allocator + Copy, W: Write>(
 {
     text.clear();
     match make_line(alloc, server, line, text) {
-        Ok(()) => write_last(text, Outcome::Done, output),
+        Ok(()) => tell_text(text, Outcome::Done, output),
         // A vector refuses a write only for want of memory.
         Err(_) => Outcome::NoMemory,
     }
@@ -110,7 +110,7 @@ fn write_steps<A: Allocator, W: Write>(alloc: A, steps: u128, output: &mut W) ->
 {
     let mut text = Vec::new(alloc);
     match writeln!(text, "steps {steps}") {
-        Ok(()) => write_last(&text, Outcome::Done, output),
+        Ok(()) => tell_text(&text, Outcome::Done, output),
         Err(_) => Outcome::NoMemory,
     }
 }

@@ -1,6 +1,6 @@
 //! Writing a text, and what is written of it where a write fails.
 
-ghost use Rattle.std.specs.Prelude.{OnOk, OnErr};
+ghost use Rattle.std.specs.Prelude.{◌≡◌, ◌⊎◌, OnOk, OnErr};
 ghost use Rattle.std.specs.Io.KnownBytes.{Appends};
 ghost use Rattle.nbd_session.specs.Streams.{WritesPart};
 ghost use Rattle.nbd_scripts.specs.Told.{Writes};
@@ -9,9 +9,10 @@ use crate::outcome::Outcome;
 use nbd_session::WriteFailed;
 use std::io::Write;
 
-/// Writes the last text of a command, which went well where all of it is written.
-pub fn write_last<W: Write>(text: &[u8], well: Outcome, output: &mut W) -> Outcome
-    ensures { Writes text.now well (W.contents output.old) (W.contents output.new) result }
+/// Writes a text, and answers `well` where all of it is written.
+pub fn tell_text<W: Write>(text: &[u8], well: Outcome, output: &mut W) -> Outcome
+    ensures written { Writes text.now well (W.contents output.old) (W.contents output.new) result }
+    ensures answer { (result ≡ well) ⊎ (result ≡ Outcome.WriteFailed) }
 {
     match write_text(text, output) {
         Ok(()) => well,

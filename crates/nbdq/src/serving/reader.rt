@@ -3,7 +3,7 @@
 use super::line::{Line, Outlet, PATIENCE};
 use super::service::{Disks, Service};
 use super::shift::Shift;
-use nbd_session::{Counted, Frame, FrameReader, Stop, Turn, hand_in, offer_held, read_ready};
+use nbd_session::{Counted, Frame, FrameReader, Stop, Turn, hand_in, offer_held};
 use nbd_wire::Request;
 use nbd_wire::protocol::{READ, WRITE};
 use server_lock::{AnswerTrace, EventTrace, Pass, Trace};
@@ -18,9 +18,6 @@ use tag_clock::Clock;
 /// The longest data, in bytes, of a READ or WRITE that a reader performs itself. A longer WRITE is performed while the next is
 /// read.
 const SHORT: u32 = 16_384;
-
-/// How many requests a reader hands in under one hold of the server.
-const IN_A_ROW: usize = 1;
 
 /// What a reader has at hand.
 #[derive(Drop)]
@@ -40,21 +37,11 @@ enum Offer {
 /// What a reader's hold of the server came to.
 #[derive(Drop)]
 struct Came {
-    /// The last of its turns.
     turn: Turn<Global>,
-    /// Whether a request has long data.
+    /// Whether a request was handed in whose data is long.
     long: bool,
     /// Whether something waits to be chosen.
     waits: bool,
-}
-
-/// Requests that were handed in under one hold.
-#[derive(Drop)]
-struct Handed {
-    short: usize,
-    long: bool,
-    // Whether the latest was handed in, and its data is short.
-    goes_on: bool,
 }
 
 impl<'a> Intake<'a> {
@@ -65,8 +52,7 @@ impl<'a> Intake<'a> {
         }
     }
 
-    /// Hands in what is offered and the requests that were read besides, some at most and none behind one whose data is long.
-    /// Performs requests until as many of the session's own are performed as it handed in, but for the long.
+    /// Hands in what is offered. Where that is a request whose data is short, performs requests until it is performed.
     fn come_in<L: Ledger, C: Clock>(
         &mut self,
         disks: &mut Disks<L>,
@@ -77,57 +63,20 @@ impl<'a> Intake<'a> {
         clock: &C,
     ) -> Came {
         let session = line.session;
-        let mut turn = match offer {
+        let turn = match offer {
             Offer::Read(frame) => hand_in(disks, pass, session, frame, clock),
             Offer::Again(request) => offer_held(disks, pass, session, request, clock),
         };
-        let mut handed = Handed::new();
-        handed.note(service, line, &turn, pass.last());
-        for _ in 1..IN_A_ROW {
-            if !handed.goes_on {
-                break;
-            }
-            let Some(next) = read_ready(disks, pass, session, &mut self.frames, clock) else {
-                break;
-            };
-            handed.note(service, line, &next, pass.last());
-            turn = next;
+        let arrived = is_going(&turn);
+        let short = arrived && note_arrival(service, line, pass.last());
+        if short {
+            self.shift
+                .serve(disks, &service.bells, pass, session, clock);
         }
-        self.shift
-            .serve(disks, &service.bells, pass, session, clock, handed.short);
         Came {
             turn,
-            long: handed.long,
+            long: arrived && !short,
             waits: disks.server().waiting() > 0,
-        }
-    }
-}
-
-impl Handed {
-    fn new() -> Handed {
-        Handed {
-            short: 0,
-            long: false,
-            goes_on: false,
-        }
-    }
-
-    /// Notes what the latest turn came to.
-    fn note<L: Ledger>(
-        &mut self,
-        service: &Service<L>,
-        line: &Line<'_>,
-        turn: &Turn<Global>,
-        last: Option<Trace>,
-    ) {
-        self.goes_on = false;
-        if let Turn::Going = turn {
-            if note_arrival(service, line, last) {
-                self.short = self.short.saturating_add(1);
-                self.goes_on = true;
-            } else {
-                self.long = true;
-            }
         }
     }
 }
@@ -150,8 +99,8 @@ fn note_arrival<L: Ledger>(service: &Service<L>, line: &Line<'_>, last: Option<T
     }
 }
 
-/// Reads requests until there are no more. Those that are at hand go in under one hold of the server, and as many are performed
-/// under it. Replies that are there by then and short it writes itself; others it leaves to the writer, as it does the requests
+/// Reads requests until there are no more. Each goes in under one hold of the server, and is performed under it where its data is
+/// short. Replies that are there by then and short it writes itself; others it leaves to the writer, as it does the requests
 /// whose data is long.
 pub fn read_requests<L: Ledger, R: Wait + time::Clock>(
     rt: &R,

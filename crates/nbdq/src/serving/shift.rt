@@ -48,8 +48,8 @@ impl Shift {
         }
     }
 
-    /// Chooses requests and performs them, whoever asked for them, until so many of the session's own are performed. It ends
-    /// sooner where there is none to choose, or the time for it has passed.
+    /// Chooses requests and performs them, whoever asked for them, until one of the session's own is performed. It ends sooner
+    /// where there is none to choose, or the time for it has passed.
     pub fn serve<L: Ledger, C: Clock>(
         &mut self,
         disks: &mut Disks<L>,
@@ -57,13 +57,11 @@ impl Shift {
         pass: &mut Pass<L>,
         session: SessionId,
         clock: &C,
-        own: usize,
     ) {
         let begun = clock.now();
         let mut now = begun;
-        let mut left = own;
         for _ in 0..IN_A_ROW {
-            if left == 0 || until(begun, now) > Duration::from_micros(LONGEST) {
+            if until(begun, now) > Duration::from_micros(LONGEST) {
                 return;
             }
             let Some(chosen) = turn_dispatch(disks, pass, now) else {
@@ -71,7 +69,7 @@ impl Shift {
             };
             turn_perform(disks, pass, chosen.ticket);
             if self.note(bells, session, &chosen.ticket) {
-                left = left.saturating_sub(1);
+                return;
             }
             now = clock.now();
         }

@@ -21,8 +21,8 @@ returns-in-Err-clause-write_failed g c = λ is.
 pub returns-in-Ok-spelled-clause-write_failed : goal.returns-in-Ok-spelled-clause-write_failed
 returns-in-Ok-spelled-clause-write_failed g c = λ is.
     let old = g.W.Write.contents c.args.output.now in
-    let new = g.W.Write.contents c.write_last.new.output in
+    let new = g.W.Write.contents c.tell_text.new.output in
     let text = c.in-Ok-spelled.text.items in
-    let told : Writes text outcome.Done old new c.write_last.result = search rules in
+    let told : Writes text outcome.Done old new c.tell_text.result = search rules in
     let prints : (all : Option (List ℕ)) → Appends old all text → Prints c.args.config.now.exports c.args.body.now old all = λ all written. search rules in
-    cut_short _ old new text (λ all written. inl (prints all written)) (part_written text old new c.write_last.result told is)
+    cut_short _ old new text (λ all written. inl (prints all written)) (part_written text old new c.tell_text.result told is)

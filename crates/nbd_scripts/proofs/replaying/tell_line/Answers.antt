@@ -9,8 +9,8 @@ pub returns-in-Ok : goal.returns-in-Ok
 returns-in-Ok g c =
     let A = g.row.A.Denot in
     let old = g.W.Write.contents c.args.output.now in
-    let new = g.W.Write.contents c.write_last.new.output in
+    let new = g.W.Write.contents c.tell_text.new.output in
     let text = c.make_line.new.output.items in
     let made : IsMade {A = A} c.args.server.now c.args.line c.make_line.new.server (Some []) (Some text) = search rules in
-    let told : Writes text outcome.Done old new c.write_last.result = search rules in
-    line_told A c.args.server.now c.args.line c.make_line.new.server old new c.write_last.result text made told
+    let told : Writes text outcome.Done old new c.tell_text.result = search rules in
+    line_told A c.args.server.now c.args.line c.make_line.new.server old new c.tell_text.result text made told
