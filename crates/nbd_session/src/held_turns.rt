@@ -1,11 +1,12 @@
 //! The turns of a session on a server that its caller holds: as many as it likes under one hold. None of them reads from the
 //! client or writes to it.
-ghost use Rattle.std.specs.Prelude.{◌≡◌};
+ghost use Rattle.std.specs.Prelude.{◌≡◌, ◌<◌, IfSome, IfNone};
 ghost use Rattle.std.specs.Vec.{vec_capacity};
-ghost use Rattle.nbd_session.specs.SessionTurns.{IsOffered, IsHandedIn, Leaves};
+ghost use Rattle.nbd_session.specs.SessionTurns.{IsOffered, IsHandedIn, IsReadTurn, Leaves};
 ghost use Rattle.nbd_session.specs.Taking.{Takes};
 
 use crate::ending::Frame;
+use crate::frames::FrameReader;
 use crate::session_turns::Turn;
 use crate::transmission::is_disc;
 use eligibility::Eligibility;
@@ -15,6 +16,7 @@ use reply_box::Taken;
 use server_core::{ArriveRefusal, SessionId, SessionRefusal};
 use server_lock::{Booked, Pass, turn_arrive, turn_leave, turn_take};
 use std::alloc::Allocator;
+use std::io::Read;
 use std::sync::ledger::Ledger;
 use tag_clock::Clock;
 
@@ -71,6 +73,26 @@ pub fn offer_held<L: Ledger, I: Image, E: Eligibility<Alloc = I::Alloc>, C: Cloc
             ArriveRefusal::NoExport | ArriveRefusal::NotOpen => Turn::Ended,
         },
     }
+}
+
+/// Hands in the next request that was read already. Where none was it changes nothing.
+pub fn read_ready<L: Ledger, I: Image, E: Eligibility<Alloc = I::Alloc>, R: Read, C: Clock>(
+    booked: &mut Booked<L, I, E>,
+    pass: &mut Pass<L>,
+    session: SessionId,
+    reader: &mut FrameReader<R, I::Alloc>,
+    clock: &C,
+) -> Option<Turn<I::Alloc>>
+    ensures ready { IfSome result (λ turn. 0 < reader.old.reading.ready) }
+    ensures turn { IfSome result (λ turn. IsReadTurn reader.old reader.new pass.old session turn pass.new) }
+    ensures unread { reader.new.left ≡ reader.old.left }
+    ensures none { IfNone result ((reader.old.reading.ready ≡ 0) × (reader.new ≡ reader.old) × (pass.new ≡ pass.old) × (booked.new ≡ booked.old)) }
+{
+    if !reader.is_ready() {
+        return None;
+    }
+    let frame = reader.next();
+    Some(hand_in(booked, pass, session, frame, clock))
 }
 
 /// Takes the session's oldest replies, until the list has no room for more, which never grows, or a take gives none.

@@ -27,7 +27,7 @@ pub use ending::{Ending, Frame};
 pub use fill::WriteFailed;
 pub use frames::FrameReader;
 pub use haggling::haggle;
-pub use held_turns::{Stop, hand_in, offer_held, take_replies};
+pub use held_turns::{Stop, hand_in, offer_held, read_ready, take_replies};
 pub use laws::{handshake_is_haggled, one_conversation, requests_are_plain, worked_conversations};
 pub use session_turns::{Turn, offer, put_reply, read_turn, write_turn};
 pub use talking::{End, Entry, TalkFault};

@@ -42,8 +42,9 @@ const CONNECTIONS: u64 = 8_192;
 /// How many milliseconds a listener waits before it tries again to accept, where the system is short of something.
 const RETRY: u64 = 10;
 
-/// The largest block, in bytes, that the C library is to keep for itself once it was given back.
-const LARGEST: usize = 33_600_000;
+/// The largest block, in bytes, that the C library is to keep for itself once it was given back. Its own bound on such
+/// blocks is 32 MiB, with what it adds to them (mallopt(3), M_MMAP_THRESHOLD).
+const LARGEST: usize = 33_550_000;
 
 /// Why a server ended before its time.
 #[derive(Clone, Copy, Debug, PartialEq, Eq)]
@@ -55,18 +56,33 @@ pub enum ServeFault {
 }
 
 impl From<NoMemory> for ServeFault {
+    ghost use Rattle.std.specs.Prelude.{◌≡◌};
+    ghost use Rattle.nbdq.specs.declared.serving.ServeFault.TheVariants as fault;
+
+    ghost from_gives = { λ _ e. e ≡ fault.NoMemory };
+
     fn from(_e: NoMemory) -> ServeFault {
         ServeFault::NoMemory
     }
 }
 
 impl From<AllocError> for ServeFault {
+    ghost use Rattle.std.specs.Prelude.{◌≡◌};
+    ghost use Rattle.nbdq.specs.declared.serving.ServeFault.TheVariants as fault;
+
+    ghost from_gives = { λ _ e. e ≡ fault.NoMemory };
+
     fn from(_e: AllocError) -> ServeFault {
         ServeFault::NoMemory
     }
 }
 
 impl<T: Drop> From<AllocFailed<T>> for ServeFault {
+    ghost use Rattle.std.specs.Prelude.{◌≡◌};
+    ghost use Rattle.nbdq.specs.declared.serving.ServeFault.TheVariants as fault;
+
+    ghost from_gives = { λ _ e. e ≡ fault.NoMemory };
+
     fn from(_e: AllocFailed<T>) -> ServeFault {
         ServeFault::NoMemory
     }

@@ -1,4 +1,4 @@
-//! Turns on a server that is held: requests that were read, and replies that are taken in a row.
+//! Turns on a server that is held: requests that were read already, and replies that are taken in a row.
 ghost use Rattle.std.specs.Prelude.{◌≡◌};
 
 use super::*;
@@ -62,6 +62,18 @@ impl<'a, L: Ledger> Unshared<'a, L> {
         (came_to(turn), self.pass.last())
     }
 
+    /// Hands in the next request, where it was read already.
+    fn read_ready(&mut self, reader: &mut FrameReader<&[u8], Heap<'a>>) -> Option<Seen> {
+        let turn = read_ready(
+            &mut self.disks,
+            &mut self.pass,
+            self.session,
+            reader,
+            &Still,
+        )?;
+        Some((came_to(turn), self.pass.last()))
+    }
+
     /// Serves a request that waits.
     fn serve(&mut self) -> Option<bool> {
         let chosen = turn_dispatch(&mut self.disks, &mut self.pass, Still.now())?;
@@ -94,8 +106,8 @@ fn text_of<'a>(heap: Heap<'a>, replies: &[Reply<Heap<'a>>]) -> Option<Vec<u8, He
     Some(writer.into_inner())
 }
 
-/// What the reading of each request came to, and of the one that is cut off.
-fn handed_in<'a, L: Ledger>(heap: Heap<'a>, blank: Blank) -> Option<[Seen; 3]>
+/// What the reading of the first request came to, and what was read with it.
+fn handed_in<'a, L: Ledger>(heap: Heap<'a>, blank: Blank) -> Option<(Seen, [Option<Seen>; 2])>
     requires name { blank.name ≡ L.name }
     requires parts { blank.parts ≡ L.parts }
     requires one { blank.parts ≡ 1 }
@@ -103,24 +115,23 @@ fn handed_in<'a, L: Ledger>(heap: Heap<'a>, blank: Blank) -> Option<[Seen; 3]>
     let sent = sent(heap)?;
     let mut reader = FrameReader::new(heap, Counted::new(sent.as_slice()));
     let mut one: Unshared<'a, L> = attached(heap, blank)?;
-    let write = one.read(&mut reader);
-    let read = one.read(&mut reader);
-    let cut = one.read(&mut reader);
-    Some([write, read, cut])
+    let first = one.read(&mut reader);
+    let second = one.read_ready(&mut reader);
+    let piece = one.read_ready(&mut reader);
+    Some((first, [second, piece]))
 }
 
 #[test]
 fn what_was_read_is_handed_in(rt: HostRuntime) -> Result<(), Fail> {
     let heap = Refusing::new(rt.alloc(), 0);
-    let came = handed_in::<Brand>(&heap, Blank::new(1)).ok_or("memory")?;
+    let (first, ready) = handed_in::<Brand>(&heap, Blank::new(1)).ok_or("memory")?;
     let accepted = |number: u64| AnswerTrace::Accepted {
         number,
         limit_tag: 5,
     };
-    let write = (Came::Going, arrival(1, accepted(0)));
-    let read = (Came::Going, arrival(0, accepted(1)));
-    let cut = (Came::Ended, leave(AnswerTrace::Left));
-    assert_eq!(rt; came, [write, read, cut]);
+    assert_eq!(rt; first, (Came::Going, arrival(1, accepted(0))));
+    let second = (Came::Going, arrival(0, accepted(1)));
+    assert_eq!(rt; ready, [Some(second), None]);
     Ok(())
 }
 
@@ -134,7 +145,7 @@ fn served<'a, L: Ledger>(heap: Heap<'a>, blank: Blank) -> Option<Unshared<'a, L>
     let mut reader = FrameReader::new(heap, Counted::new(sent.as_slice()));
     let mut one: Unshared<'a, L> = attached(heap, blank)?;
     one.read(&mut reader);
-    one.read(&mut reader);
+    one.read_ready(&mut reader)?;
     one.serve()?;
     one.serve()?;
     Some(one)

@@ -3,9 +3,10 @@
 use super::line::{Line, Outlet, PATIENCE};
 use super::service::{Disks, Service};
 use super::shift::Shift;
-use nbd_session::{Counted, Frame, FrameReader, Stop, Turn, hand_in, offer_held};
+use nbd_session::{Counted, Frame, FrameReader, Stop, Turn, hand_in, offer_held, read_ready};
 use nbd_wire::Request;
 use nbd_wire::protocol::{READ, WRITE};
+use nbd_workers::until;
 use server_lock::{AnswerTrace, EventTrace, Pass, Trace};
 use std::alloc::Global;
 use std::net::TcpStream;
@@ -18,6 +19,12 @@ use tag_clock::Clock;
 /// The longest data, in bytes, of a READ or WRITE that a reader performs itself. A longer WRITE is performed while the next is
 /// read.
 const SHORT: u32 = 16_384;
+
+/// How many requests a reader hands in under one hold of a server for which it waited long: then each hold is dear.
+const IN_A_ROW: usize = 16;
+
+/// How many microseconds are a long wait for the server.
+const LONG_WAIT: u64 = 1_000;
 
 /// What a reader has at hand.
 #[derive(Drop)]
@@ -37,11 +44,21 @@ enum Offer {
 /// What a reader's hold of the server came to.
 #[derive(Drop)]
 struct Came {
+    /// The last of its turns.
     turn: Turn<Global>,
-    /// Whether a request was handed in whose data is long.
+    /// Whether a request has long data.
     long: bool,
     /// Whether something waits to be chosen.
     waits: bool,
+}
+
+/// Requests that were handed in under one hold.
+#[derive(Drop)]
+struct Handed {
+    short: usize,
+    long: bool,
+    // Whether the latest was handed in, and all have long data or all have short.
+    goes_on: bool,
 }
 
 impl<'a> Intake<'a> {
@@ -52,7 +69,8 @@ impl<'a> Intake<'a> {
         }
     }
 
-    /// Hands in what is offered. Where that is a request whose data is short, performs requests until it is performed.
+    /// Hands in what is offered and the requests that were read besides, so many at most, until long data and short meet. Performs
+    /// requests until as many of the session's own are performed as it handed in, but for the long.
     fn come_in<L: Ledger, C: Clock>(
         &mut self,
         disks: &mut Disks<L>,
@@ -60,23 +78,62 @@ impl<'a> Intake<'a> {
         line: &Line<'_>,
         pass: &mut Pass<L>,
         offer: Offer,
+        most: usize,
         clock: &C,
     ) -> Came {
         let session = line.session;
-        let turn = match offer {
+        let mut turn = match offer {
             Offer::Read(frame) => hand_in(disks, pass, session, frame, clock),
             Offer::Again(request) => offer_held(disks, pass, session, request, clock),
         };
-        let arrived = is_going(&turn);
-        let short = arrived && note_arrival(service, line, pass.last());
-        if short {
-            self.shift
-                .serve(disks, &service.bells, pass, session, clock);
+        let mut handed = Handed::new();
+        handed.note(service, line, &turn, pass.last());
+        for _ in 1..most {
+            if !handed.goes_on {
+                break;
+            }
+            let Some(next) = read_ready(disks, pass, session, &mut self.frames, clock) else {
+                break;
+            };
+            handed.note(service, line, &next, pass.last());
+            turn = next;
         }
+        self.shift
+            .serve(disks, &service.bells, pass, session, clock, handed.short);
         Came {
             turn,
-            long: arrived && !short,
+            long: handed.long,
             waits: disks.server().waiting() > 0,
+        }
+    }
+}
+
+impl Handed {
+    fn new() -> Handed {
+        Handed {
+            short: 0,
+            long: false,
+            goes_on: false,
+        }
+    }
+
+    /// Notes what the latest turn came to.
+    fn note<L: Ledger>(
+        &mut self,
+        service: &Service<L>,
+        line: &Line<'_>,
+        turn: &Turn<Global>,
+        last: Option<Trace>,
+    ) {
+        self.goes_on = false;
+        if let Turn::Going = turn {
+            if note_arrival(service, line, last) {
+                self.short = self.short.saturating_add(1);
+                self.goes_on = !self.long;
+            } else {
+                self.long = true;
+                self.goes_on = self.short == 0;
+            }
         }
     }
 }
@@ -99,9 +156,9 @@ fn note_arrival<L: Ledger>(service: &Service<L>, line: &Line<'_>, last: Option<T
     }
 }
 
-/// Reads requests until there are no more. Each goes in under one hold of the server, and is performed under it where its data is
-/// short. Replies that are there by then and short it writes itself; others it leaves to the writer, as it does the requests
-/// whose data is long.
+/// Reads requests until there are no more. Each goes in under one hold of the server, with others that are at hand where it waited
+/// long for it, and as many are performed under it. Replies that are there by then and short it writes itself; others it leaves
+/// to the writer, as it does the requests whose data is long.
 pub fn read_requests<L: Ledger, R: Wait + time::Clock>(
     rt: &R,
     service: &Service<L>,
@@ -141,8 +198,14 @@ fn read_on<L: Ledger, R: Wait + time::Clock>(
 ) -> Turn<Global> {
     let clock = service.clock(rt);
     let outlet = line.outlet.try_lock();
+    let asked = clock.now();
     let mut disks = service.shared.hold(rt);
-    let came = intake.come_in(&mut *disks, service, line, pass, offer, &clock);
+    let most = if until(asked, clock.now()) > Duration::from_micros(LONG_WAIT) {
+        IN_A_ROW
+    } else {
+        1
+    };
+    let came = intake.come_in(&mut *disks, service, line, pass, offer, most, &clock);
     let written = match outlet {
         Some(mut outlet) => {
             let before = outlet.unwritten();

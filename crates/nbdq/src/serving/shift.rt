@@ -14,13 +14,13 @@ use tag_clock::Clock;
 /// How many microseconds requests are performed in a row: nothing new is begun under the same hold after that.
 const LONGEST: u64 = 500;
 
-/// How many requests are performed under one hold at most.
-const IN_A_ROW: usize = 2;
+/// How many sessions are noted under one hold; those that are more are woken at once.
+const NOTED: usize = 16;
 
 /// The sessions that are to be woken once the server is let go.
 #[derive(Drop)]
 pub struct Shift {
-    // Other sessions than the thread's own, whose requests were performed. There is room for one a request.
+    // Other sessions than the thread's own, whose requests were performed.
     others: Vec<SessionId, Global>,
     performed: bool,
 }
@@ -28,7 +28,7 @@ pub struct Shift {
 impl Shift {
     pub fn new(alloc: Global) -> Result<Shift, NoMemory> {
         Ok(Shift {
-            others: Vec::with_capacity(alloc, IN_A_ROW)?,
+            others: Vec::with_capacity(alloc, NOTED)?,
             performed: false,
         })
     }
@@ -48,8 +48,8 @@ impl Shift {
         }
     }
 
-    /// Chooses requests and performs them, whoever asked for them, until one of the session's own is performed. It ends sooner
-    /// where there is none to choose, or the time for it has passed.
+    /// Chooses requests and performs them, whoever asked for them, until so many of the session's own are performed, or one
+    /// more than so many in all. It ends sooner where there is none to choose, or the time for it has passed.
     pub fn serve<L: Ledger, C: Clock>(
         &mut self,
         disks: &mut Disks<L>,
@@ -57,11 +57,13 @@ impl Shift {
         pass: &mut Pass<L>,
         session: SessionId,
         clock: &C,
+        own: usize,
     ) {
         let begun = clock.now();
         let mut now = begun;
-        for _ in 0..IN_A_ROW {
-            if until(begun, now) > Duration::from_micros(LONGEST) {
+        let mut left = own;
+        for _ in 0..own.saturating_add(1) {
+            if left == 0 || until(begun, now) > Duration::from_micros(LONGEST) {
                 return;
             }
             let Some(chosen) = turn_dispatch(disks, pass, now) else {
@@ -69,7 +71,7 @@ impl Shift {
             };
             turn_perform(disks, pass, chosen.ticket);
             if self.note(bells, session, &chosen.ticket) {
-                return;
+                left = left.saturating_sub(1);
             }
             now = clock.now();
         }
