@@ -4,6 +4,7 @@ pub mod LineLemmas
 pub mod NumberLemmas
 pub mod OutputLemmas
 pub mod PartLemmas
+pub mod ReadLemmas
 pub mod ReplayLemmas
 pub mod ScriptLemmas
 pub mod SettingsLemmas

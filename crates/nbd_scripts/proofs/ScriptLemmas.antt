@@ -1,6 +1,6 @@
 -- What a command tells, by what it read and by how the part went that wrote.
 use Rattle.std.proofs.Common.{◌≡◌, ℕ, List, Option, refl, sym, subst, inl, inr, codes}
-use Rattle.std.specs.Prelude.{◌⊎◌, IsErr}
+use Rattle.std.specs.Prelude.{◌≢◌, ◌⊎◌, IsErr}
 use Rattle.std.specs.Io.KnownBytes.{Appends}
 use Rattle.hex.specs.Hex.{decode_of}
 use Rattle.nbd_commands.specs.Exports.{Offer}
@@ -69,14 +69,14 @@ module _ (streams : Streams) (offer : Offer) (above : ℕ) (body : List ℕ) (re
 
   pub talk_read : (went : Outcome) → (went ≡ outcome.Done → Prints offer.exports body streams.old streams.new)
       → (went ≡ outcome.Refused → IsErr (decode_of (digits_of body)) × Appends streams.old streams.new (codes "hex refused\n"))
-      → (went ≡ outcome.ReadFailed → streams.new ≡ streams.old) → (went ≡ outcome.NoMemory → streams.new ≡ streams.old)
+      → went ≢ outcome.ReadFailed → (went ≡ outcome.NoMemory → streams.new ≡ streams.old)
       → (went ≡ outcome.WriteFailed
       → CutShort (λ all. Prints offer.exports body streams.old all ⊎ (IsErr (decode_of (digits_of body)) × Appends streams.old all (codes "hex refused\n"))) streams.old streams.new) → TellsTalk streams went
-  talk_read outcome.Done done refused unread no_memory write_failed = talks streams.new (done refl)
-  talk_read outcome.Refused done refused unread no_memory write_failed = inr (refuses_hex streams.new (refused refl))
-  talk_read outcome.NoMemory done refused unread no_memory write_failed = no_memory refl
-  talk_read outcome.ReadFailed done refused unread no_memory write_failed = unread refl
-  talk_read outcome.WriteFailed done refused unread no_memory write_failed =
+  talk_read outcome.Done done refused read no_memory write_failed = talks streams.new (done refl)
+  talk_read outcome.Refused done refused read no_memory write_failed = inr (refuses_hex streams.new (refused refl))
+  talk_read outcome.NoMemory done refused read no_memory write_failed = no_memory refl
+  talk_read outcome.ReadFailed done refused read no_memory write_failed = absurd (read refl)
+  talk_read outcome.WriteFailed done refused read no_memory write_failed =
       cut_short_so _ _ streams.old streams.new (λ all is. elim is [ inl printed ↦ inl (talks all printed) | inr hex ↦ inr (inr (refuses_hex all hex)) ]) (write_failed refl)
 
   module _ (A : Type 0) where

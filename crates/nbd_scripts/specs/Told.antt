@@ -1,20 +1,28 @@
 -- What a command of the program reads and writes, by how it went.
-use Rattle.std.specs.Prelude.{◌≡◌, ℕ, ◌⊎◌, List, ◌++◌, codes, Option, IfSome}
+use Rattle.std.specs.Prelude.{◌≡◌, ◌≢◌, ℕ, ◌⊎◌, List, ◌++◌, codes, Option}
 use Rattle.std.specs.Fmt.{decimal}
-use Rattle.std.specs.Io.KnownBytes.{append_known, Appends, IsAtEnd}
+use Rattle.std.specs.Io.KnownBytes.{append_known, Appends, Consumes, IsAtEnd}
 use Rattle.nbd_commands.specs.Refusals.{code_of}
-use Rattle.nbd_session.specs.Streams.{WritesPart}
+use Rattle.nbd_session.specs.Streams.{Rises, WritesPart}
 use Rattle.nbd_scripts.specs.declared.fault.LineFault.{LineFault}
 use Rattle.nbd_scripts.specs.declared.fault.LineFault.TheVariants.{Form, Value}
 use Rattle.nbd_scripts.specs.declared.fault.LineFault.TheVariants as fault
 use Rattle.nbd_scripts.specs.declared.outcome.Outcome.{Outcome}
-use Rattle.nbd_scripts.specs.declared.outcome.Outcome.TheVariants.{Refused, WriteFailed}
+use Rattle.nbd_scripts.specs.declared.outcome.Outcome.TheVariants.{Refused, ReadFailed, WriteFailed}
 use Rattle.nbd_scripts.specs.declared.outcome.Outcome.TheVariants as outcome
 
 -- the script is all that the input had left
 pub record IsWhole (old new : Option (List ℕ)) (script : List ℕ) : Type 0 where
-  pub known : IfSome old (λ bytes. script ≡ bytes)
+  pub took : Consumes old new script
   pub end : IsAtEnd new
+
+-- how many calls of the input had failed and have: one more where the command tells that a read failed, and else as many
+abbrev pub CountsRead : Outcome → ℕ → ℕ → Type 0
+CountsRead went before now = (went ≡ ReadFailed → Rises before now) × (went ≢ ReadFailed → now ≡ before)
+
+-- the same of the output
+abbrev pub CountsWrite : Outcome → ℕ → ℕ → Type 0
+CountsWrite went before now = (went ≡ WriteFailed → Rises before now) × (went ≢ WriteFailed → now ≡ before)
 
 -- the line of a refusal
 abbrev pub refusal_line : ℕ → LineFault → List ℕ

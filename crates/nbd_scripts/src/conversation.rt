@@ -4,18 +4,19 @@ ghost use Rattle.std.specs.Prelude.{◌≡◌, ◌≢◌, ◌⊎◌, IfOk, IsErr
 ghost use Rattle.std.specs.Io.KnownBytes.{Appends};
 ghost use Rattle.hex.specs.Hex.{decode_of};
 ghost use Rattle.nbd_session.specs.Streams.{WritesPart};
-ghost use Rattle.nbd_scripts.specs.Told.{CutShort};
+ghost use Rattle.nbd_scripts.specs.Told.{CountsRead, CountsWrite, CutShort};
 ghost use Rattle.nbd_scripts.specs.Scripts.{TellsTalk};
 ghost use Rattle.nbd_scripts.specs.Output.{is_gap, digits_of, printed, word_of, Prints};
 
 use crate::head::{Head, read_head};
 use crate::outcome::Outcome;
-use crate::refused::{read_script, refuse_line};
+use crate::reading::read_whole;
+use crate::refused::refuse_line;
 use crate::writing::tell_text;
 use hex::FromHexError;
 use nbd_base::NoMemory;
 use nbd_commands::Config;
-use nbd_session::{Counted, End, TalkFault, talk};
+use nbd_session::{Counted, End, talk};
 use std::alloc::Allocator;
 use std::io::{Read, Write};
 
@@ -24,12 +25,14 @@ use std::io::{Read, Write};
 /// Where memory is refused, nothing is written.
 pub fn talk_script<A: Allocator + Copy, R: Read, W: Write>(
     alloc: A,
-    input: &mut R,
-    output: &mut W,
+    input: &mut Counted<R>,
+    output: &mut Counted<W>,
 ) -> Outcome
-    ensures { TellsTalk (record { unread = R.remaining input.old; left = R.remaining input.new; old = W.contents output.old; new = W.contents output.new }) result }
+    ensures told { TellsTalk (record { unread = R.remaining input.old.inner; left = R.remaining input.new.inner; old = W.contents output.old.inner; new = W.contents output.new.inner }) result }
+    ensures reads { CountsRead result input.old.failures input.new.failures }
+    ensures writes { CountsWrite result output.old.failures output.new.failures }
 {
-    let script = match read_script(alloc, input) {
+    let script = match read_whole(alloc, input) {
         Ok(script) => script,
         Err(outcome) => return outcome,
     };
@@ -44,16 +47,17 @@ fn converse<A: Allocator + Copy, W: Write>(
     alloc: A,
     config: &Config<A>,
     body: &[u8],
-    output: &mut W,
+    output: &mut Counted<W>,
 ) -> Outcome
-    ensures done { result ≡ Outcome.Done → Prints config.now.exports body.now (W.contents output.old) (W.contents output.new) }
+    ensures done { result ≡ Outcome.Done → Prints config.now.exports body.now (W.contents output.old.inner) (W.contents output.new.inner) }
     ensures refused { result ≡ Outcome.Refused → IsErr (decode_of (digits_of body.now))
-        × Appends (W.contents output.old) (W.contents output.new) (codes "hex refused\n") }
-    ensures unread { result ≡ Outcome.ReadFailed → W.contents output.new ≡ W.contents output.old }
-    ensures no_memory { result ≡ Outcome.NoMemory → W.contents output.new ≡ W.contents output.old }
+        × Appends (W.contents output.old.inner) (W.contents output.new.inner) (codes "hex refused\n") }
+    ensures read { result ≢ Outcome.ReadFailed }
+    ensures counted { CountsWrite result output.old.failures output.new.failures }
+    ensures no_memory { result ≡ Outcome.NoMemory → W.contents output.new.inner ≡ W.contents output.old.inner }
     ensures write_failed { result ≡ Outcome.WriteFailed → CutShort
-        (λ all. Prints config.now.exports body.now (W.contents output.old) all ⊎ (IsErr (decode_of (digits_of body.now)) × Appends (W.contents output.old) all (codes "hex refused\n")))
-        (W.contents output.old) (W.contents output.new) }
+        (λ all. Prints config.now.exports body.now (W.contents output.old.inner) all ⊎ (IsErr (decode_of (digits_of body.now)) × Appends (W.contents output.old.inner) all (codes "hex refused\n")))
+        (W.contents output.old.inner) (W.contents output.new.inner) }
 {
     let Ok(digits) = digits_of(alloc, body) else {
         return Outcome::NoMemory;
@@ -64,11 +68,9 @@ fn converse<A: Allocator + Copy, W: Write>(
     };
     let mut reader = Counted::new(bytes.as_slice());
     let mut writer = Counted::new(Vec::new(alloc));
-    // A vector refuses a write only for want of memory.
-    let end = match talk(alloc, config, &mut reader, &mut writer) {
-        Ok(end) => end,
-        Err(TalkFault::ReadFailed) => return Outcome::ReadFailed,
-        Err(TalkFault::WriteFailed | TalkFault::NoMemory) => return Outcome::NoMemory,
+    // The reads of a slice don't fail, and a vector refuses a write only for want of memory.
+    let Ok(end) = talk(alloc, config, &mut reader, &mut writer) else {
+        return Outcome::NoMemory;
     };
     match spelled(alloc, &writer.into_inner(), end) {
         Ok(text) => tell_text(&text, Outcome::Done, output),
@@ -77,14 +79,15 @@ fn converse<A: Allocator + Copy, W: Write>(
 }
 
 /// Writes that the digits are none, or not of whole bytes, where that is why they weren't decoded.
-fn refuse_hex<W: Write>(error: &FromHexError, output: &mut W) -> Outcome
+fn refuse_hex<W: Write>(error: &FromHexError, output: &mut Counted<W>) -> Outcome
     ensures not_done { result ≢ Outcome.Done }
     ensures read { result ≢ Outcome.ReadFailed }
+    ensures counted { CountsWrite result output.old.failures output.new.failures }
     ensures refused { result ≡ Outcome.Refused → (error.now ≢ FromHexError.OutOfMemory)
-        × Appends (W.contents output.old) (W.contents output.new) (codes "hex refused\n") }
-    ensures no_memory { result ≡ Outcome.NoMemory → W.contents output.new ≡ W.contents output.old }
+        × Appends (W.contents output.old.inner) (W.contents output.new.inner) (codes "hex refused\n") }
+    ensures no_memory { result ≡ Outcome.NoMemory → W.contents output.new.inner ≡ W.contents output.old.inner }
     ensures write_failed { result ≡ Outcome.WriteFailed → (error.now ≢ FromHexError.OutOfMemory)
-        × WritesPart (W.contents output.old) (W.contents output.new) (codes "hex refused\n") }
+        × WritesPart (W.contents output.old.inner) (W.contents output.new.inner) (codes "hex refused\n") }
 {
     match error {
         FromHexError::OutOfMemory => Outcome::NoMemory,

@@ -10,6 +10,7 @@ mod head;
 mod lines;
 mod numbers;
 mod outcome;
+mod reading;
 mod refused;
 mod replay_line;
 mod replaying;
@@ -20,7 +21,9 @@ mod writing;
 
 pub use conversation::talk_script;
 pub use outcome::Outcome;
+pub use reading::read_whole;
 pub use replaying::replay_script;
+pub use writing::{kept, tell_text};
 
 #[cfg(test)]
 mod tests;

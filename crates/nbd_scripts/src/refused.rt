@@ -1,37 +1,26 @@
-//! A script that can't be read, or is refused.
+//! A script that is refused.
 
-ghost use Rattle.std.specs.Prelude.{◌≡◌, ◌≢◌, ◌⊎◌, IfOk, OnOk, IfErr};
-ghost use Rattle.nbd_scripts.specs.Told.{refusal_line, IsWhole, TellsRefusal};
+ghost use Rattle.std.specs.Prelude.{◌≡◌, ◌≢◌, IfOk, OnOk};
+ghost use Rattle.nbd_scripts.specs.Told.{CountsWrite, refusal_line, TellsRefusal};
 
 use crate::fault::LineFault;
 use crate::outcome::Outcome;
-use crate::writing::tell_text;
+use crate::writing::{kept, tell_text};
 use nbd_base::NoMemory;
+use nbd_session::Counted;
 use std::alloc::Allocator;
-use std::io;
-use std::io::{Read, Write};
-
-/// The whole input, or how the command went without it.
-pub fn read_script<A: Allocator, R: Read>(alloc: A, input: &mut R) -> Result<Vec<u8, A>, Outcome>
-    ensures whole { IfOk result (λ script. IsWhole (R.remaining input.old) (R.remaining input.new) script.items) }
-    ensures failed { IfErr result (λ outcome. (outcome ≡ Outcome.NoMemory) ⊎ (outcome ≡ Outcome.ReadFailed)) }
-{
-    let mut script = Vec::new(alloc);
-    match input.read_to_end(&mut script) {
-        Ok(_) => Ok(script),
-        Err(error) if error.kind() == io::ErrorKind::OutOfMemory => Err(Outcome::NoMemory),
-        Err(_) => Err(Outcome::ReadFailed),
-    }
-}
+use std::io::Write;
 
 /// Writes that this line is refused, and why. Want of memory is no refusal.
 pub fn refuse_line<A: Allocator, W: Write>(
     alloc: A,
     line: usize,
     fault: LineFault,
-    output: &mut W,
+    output: &mut Counted<W>,
 ) -> Outcome
-    ensures { TellsRefusal line fault (W.contents output.old) (W.contents output.new) result }
+    ensures told { TellsRefusal line fault (W.contents output.old.inner) (W.contents output.new.inner) result }
+    ensures counted { CountsWrite result output.old.failures output.new.failures }
+    ensures read { result ≢ Outcome.ReadFailed }
 {
     match refusal_line(alloc, line, fault) {
         Ok(text) => tell_text(&text, Outcome::Refused, output),
@@ -57,8 +46,6 @@ fn refusal_line<A: Allocator>(
             writeln!(text, "line {line} C{code}")
         }
     };
-    match written {
-        Ok(()) => Ok(text),
-        Err(_) => Err(NoMemory),
-    }
+    kept(written)?;
+    Ok(text)
 }

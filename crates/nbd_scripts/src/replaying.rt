@@ -1,36 +1,40 @@
 //! `nbdq replay`: a script, and what a server answers to its lines.
 
-ghost use Rattle.std.specs.Prelude.{◌≡◌, ◌⊎◌, OnOk};
+ghost use Rattle.std.specs.Prelude.{◌≡◌, ◌≢◌, ◌⊎◌, OnOk, Some};
 ghost use Rattle.server_core.specs.Served.{setup_for};
 ghost use Rattle.nbd_scripts.specs.Replayed.{IsMade, Replays, ReplaysFirst, TellsLine, steps_line};
 ghost use Rattle.nbd_scripts.specs.Scripts.{TellsReplay};
-ghost use Rattle.nbd_scripts.specs.Told.{CutShort, Writes};
+ghost use Rattle.nbd_scripts.specs.Told.{CountsRead, CountsWrite, CutShort, Writes};
 
 use crate::answers::write_answer;
 use crate::events::{Lines, read_lines};
 use crate::head::{Head, read_head};
 use crate::outcome::Outcome;
-use crate::refused::{read_script, refuse_line};
+use crate::reading::read_whole;
+use crate::refused::refuse_line;
 use crate::replay_line::ReplayLine;
 use crate::tags::write_tags;
-use crate::writing::tell_text;
+use crate::writing::{kept, tell_text};
 use eligibility::Heaped;
 use export_store::Paged;
+use nbd_base::NoMemory;
 use nbd_commands::Config;
+use nbd_session::Counted;
 use server_core::Server;
 use std::alloc::Allocator;
-use std::io;
 use std::io::{Read, Write};
 
 /// Reads a whole script, and then makes its lines on a server and writes what each is answered.
 pub fn replay_script<A: Allocator + Copy, R: Read, W: Write>(
     alloc: A,
-    input: &mut R,
-    output: &mut W,
+    input: &mut Counted<R>,
+    output: &mut Counted<W>,
 ) -> Outcome
-    ensures { TellsReplay A (record { unread = R.remaining input.old; left = R.remaining input.new; old = W.contents output.old; new = W.contents output.new }) result }
+    ensures told { TellsReplay A (record { unread = R.remaining input.old.inner; left = R.remaining input.new.inner; old = W.contents output.old.inner; new = W.contents output.new.inner }) result }
+    ensures reads { CountsRead result input.old.failures input.new.failures }
+    ensures writes { CountsWrite result output.old.failures output.new.failures }
 {
-    let script = match read_script(alloc, input) {
+    let script = match read_whole(alloc, input) {
         Ok(script) => script,
         Err(outcome) => return outcome,
     };
@@ -48,14 +52,15 @@ fn replay<A: Allocator + Copy, W: Write>(
     alloc: A,
     config: &Config<A>,
     lines: Vec<ReplayLine<A>, A>,
-    output: &mut W,
+    output: &mut Counted<W>,
 ) -> Outcome
-    ensures done { result ≡ Outcome.Done → Replays {A = A} (setup_for config.now) lines.items (W.contents output.old) (W.contents output.new) }
+    ensures done { result ≡ Outcome.Done → Replays {A = A} (setup_for config.now) lines.items (W.contents output.old.inner) (W.contents output.new.inner) }
     ensures failed { (result ≡ Outcome.Done) ⊎ (result ≡ Outcome.NoMemory) ⊎ (result ≡ Outcome.WriteFailed) }
-    ensures no_memory { result ≡ Outcome.NoMemory → ReplaysFirst {A = A} (setup_for config.now) lines.items (W.contents output.old) (W.contents output.new) }
+    ensures no_memory { result ≡ Outcome.NoMemory → ReplaysFirst {A = A} (setup_for config.now) lines.items (W.contents output.old.inner) (W.contents output.new.inner) }
     ensures write_failed { result ≡ Outcome.WriteFailed → CutShort
-        (λ all. Replays {A = A} (setup_for config.now) lines.items (W.contents output.old) all ⊎ ReplaysFirst {A = A} (setup_for config.now) lines.items (W.contents output.old) all)
-        (W.contents output.old) (W.contents output.new) }
+        (λ all. Replays {A = A} (setup_for config.now) lines.items (W.contents output.old.inner) all ⊎ ReplaysFirst {A = A} (setup_for config.now) lines.items (W.contents output.old.inner) all)
+        (W.contents output.old.inner) (W.contents output.new.inner) }
+    ensures counted { CountsWrite result output.old.failures output.new.failures }
 {
     let made: Result<Server<Paged<A>, Heaped<A>>, _> = Server::new(alloc, config);
     let Ok(mut server) = made else {
@@ -77,40 +82,41 @@ fn tell_line<A: Allocator + Copy, W: Write>(
     server: &mut Server<Paged<A>, Heaped<A>>,
     line: ReplayLine<A>,
     text: &mut Vec<u8, A>,
-    output: &mut W,
+    output: &mut Counted<W>,
 ) -> Outcome
-    ensures { TellsLine {A = A} server.old line server.new (W.contents output.old) (W.contents output.new) result }
+    ensures told { TellsLine {A = A} server.old line server.new (W.contents output.old.inner) (W.contents output.new.inner) result }
+    ensures counted { CountsWrite result output.old.failures output.new.failures }
 {
     text.clear();
     match make_line(alloc, server, line, text) {
         Ok(()) => tell_text(text, Outcome::Done, output),
-        // A vector refuses a write only for want of memory.
-        Err(_) => Outcome::NoMemory,
+        Err(NoMemory) => Outcome::NoMemory,
     }
 }
 
-/// Makes one line, and writes what it is answered.
-fn make_line<A: Allocator + Copy, W: Write>(
+/// Makes one line, and appends what it is answered.
+fn make_line<A: Allocator + Copy>(
     alloc: A,
     server: &mut Server<Paged<A>, Heaped<A>>,
     line: ReplayLine<A>,
-    output: &mut W,
-) -> io::Result<()>
-    ensures { OnOk result (IsMade {A = A} server.old line server.new (W.contents output.old) (W.contents output.new)) }
+    text: &mut Vec<u8, A>,
+) -> Result<(), NoMemory>
+    ensures { OnOk result (IsMade {A = A} server.old line server.new (Some text.old.items) (Some text.new.items)) }
 {
     match line {
-        ReplayLine::Event(event) => write_answer(alloc, server.event(event), output),
-        ReplayLine::Tags(export) => write_tags(alloc, server, export, output),
+        ReplayLine::Event(event) => write_answer(alloc, server.event(event), text),
+        ReplayLine::Tags(export) => write_tags(alloc, server, export, text),
     }
 }
 
 /// Writes the last line, how many steps were counted.
-fn write_steps<A: Allocator, W: Write>(alloc: A, steps: u128, output: &mut W) -> Outcome
-    ensures { Writes (steps_line steps) Outcome.Done (W.contents output.old) (W.contents output.new) result }
+fn write_steps<A: Allocator, W: Write>(alloc: A, steps: u128, output: &mut Counted<W>) -> Outcome
+    ensures told { Writes (steps_line steps) Outcome.Done (W.contents output.old.inner) (W.contents output.new.inner) result }
+    ensures counted { CountsWrite result output.old.failures output.new.failures }
 {
     let mut text = Vec::new(alloc);
-    match writeln!(text, "steps {steps}") {
+    match kept(writeln!(text, "steps {steps}")) {
         Ok(()) => tell_text(&text, Outcome::Done, output),
-        Err(_) => Outcome::NoMemory,
+        Err(NoMemory) => Outcome::NoMemory,
     }
 }

@@ -1,76 +1,79 @@
 //! The lines that `replay` writes of the tags of what waits.
 
-ghost use Rattle.std.specs.Prelude.{OnOk};
-ghost use Rattle.std.specs.Io.KnownBytes.{Appends};
+ghost use Rattle.std.specs.Prelude.{◌≡◌, ◌++◌, OnOk};
 ghost use Rattle.nbd_scripts.specs.Waiting.{number_text, reservation_word, rest_text, tag_line, tags_text, waiting_text};
 
+use crate::writing::kept;
 use eligibility::Heaped;
 use export_store::Paged;
+use nbd_base::NoMemory;
 use server_core::{NoTags, Server};
 use std::alloc::Allocator;
-use std::io;
-use std::io::{ErrorKind, Write};
+use std::io::Write;
 use tag_clock::Tags;
 
 /// Writes the tags of what waits at an export, or that there is no such export.
-pub fn write_tags<A: Allocator + Copy, W: Write>(
+pub fn write_tags<A: Allocator + Copy>(
     alloc: A,
     server: &Server<Paged<A>, Heaped<A>>,
     export: u32,
-    output: &mut W,
-) -> io::Result<()>
-    ensures { OnOk result (Appends (W.contents output.old) (W.contents output.new) (tags_text server.now.setup server.now.table export)) }
+    text: &mut Vec<u8, A>,
+) -> Result<(), NoMemory>
+    ensures { OnOk result (text.new.items ≡ text.old.items ++ tags_text server.now.setup server.now.table export) }
 {
     match server.tags(alloc, export) {
-        Ok(told) => write_waiting(&told, output),
-        Err(NoTags::NoExport) => output.write_all(b"no export\n"),
-        Err(NoTags::NoMemory) => Err(io::Error::from(ErrorKind::OutOfMemory)),
+        Ok(told) => write_waiting(&told, text),
+        Err(NoTags::NoExport) => kept(text.write_all(b"no export\n")),
+        Err(NoTags::NoMemory) => Err(NoMemory),
     }
 }
 
 /// Writes how many requests wait, and the line of each.
-fn write_waiting<W: Write>(told: &[(u64, Tags)], output: &mut W) -> io::Result<()>
-    ensures { OnOk result (Appends (W.contents output.old) (W.contents output.new) (waiting_text told.now)) }
+fn write_waiting<A: Allocator>(told: &[(u64, Tags)], text: &mut Vec<u8, A>) -> Result<(), NoMemory>
+    ensures { OnOk result (text.new.items ≡ text.old.items ++ waiting_text told.now) }
 {
     let count = told.len();
-    writeln!(output, "waiting {count}")?;
+    kept(writeln!(text, "waiting {count}"))?;
     for &(number, tags) in told {
-        write_tag(number, tags, output)?;
+        write_tag(number, tags, text)?;
     }
     Ok(())
 }
 
 /// Writes the line of a request that waits: its number and its tags.
-fn write_tag<W: Write>(number: u64, tags: Tags, output: &mut W) -> io::Result<()>
-    ensures { OnOk result (Appends (W.contents output.old) (W.contents output.new) (tag_line (number, tags))) }
+fn write_tag<A: Allocator>(number: u64, tags: Tags, text: &mut Vec<u8, A>) -> Result<(), NoMemory>
+    ensures { OnOk result (text.new.items ≡ text.old.items ++ tag_line (number, tags)) }
 {
-    write_number(number, output)?;
-    write_reservation(tags.r, output)?;
-    write_rest(tags, output)?;
+    write_number(number, text)?;
+    write_reservation(tags.r, text)?;
+    write_rest(tags, text)?;
     Ok(())
 }
 
-fn write_number<W: Write>(number: u64, output: &mut W) -> io::Result<()>
-    ensures { OnOk result (Appends (W.contents output.old) (W.contents output.new) (number_text number)) }
+fn write_number<A: Allocator>(number: u64, text: &mut Vec<u8, A>) -> Result<(), NoMemory>
+    ensures { OnOk result (text.new.items ≡ text.old.items ++ number_text number) }
 {
-    write!(output, "tag {number} ")
+    kept(write!(text, "tag {number} "))
 }
 
 /// Writes an R tag, which may be missing.
-fn write_reservation<W: Write>(reservation: Option<i128>, output: &mut W) -> io::Result<()>
-    ensures { OnOk result (Appends (W.contents output.old) (W.contents output.new) (reservation_word reservation)) }
+fn write_reservation<A: Allocator>(
+    reservation: Option<i128>,
+    text: &mut Vec<u8, A>,
+) -> Result<(), NoMemory>
+    ensures { OnOk result (text.new.items ≡ text.old.items ++ reservation_word reservation) }
 {
     match reservation {
-        Some(tag) => write!(output, "{tag}"),
-        None => output.write_all(b"-"),
+        Some(tag) => kept(write!(text, "{tag}")),
+        None => kept(text.write_all(b"-")),
     }
 }
 
 /// Writes an L and a P tag, which end the line.
-fn write_rest<W: Write>(tags: Tags, output: &mut W) -> io::Result<()>
-    ensures { OnOk result (Appends (W.contents output.old) (W.contents output.new) (rest_text tags)) }
+fn write_rest<A: Allocator>(tags: Tags, text: &mut Vec<u8, A>) -> Result<(), NoMemory>
+    ensures { OnOk result (text.new.items ≡ text.old.items ++ rest_text tags) }
 {
     let limit = tags.l;
     let share = tags.p;
-    writeln!(output, " {limit} {share}")
+    kept(writeln!(text, " {limit} {share}"))
 }

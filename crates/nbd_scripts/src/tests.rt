@@ -1,11 +1,12 @@
 //! Scripts that are refused, the first line that is, want of memory, and writes that fail.
 
-use crate::outcome::Outcome;
-use crate::{replay_script, talk_script};
+use crate::{Outcome, kept, read_whole, replay_script, talk_script, tell_text};
+use nbd_base::NoMemory;
+use nbd_session::Counted;
 use refusing::Refusing;
 use std::alloc::Global;
 use std::io;
-use std::io::Write;
+use std::io::{Read, Write};
 use std::test::Fail;
 
 /// Scripts that are refused, and the line that is written.
@@ -93,18 +94,16 @@ const REFUSED: [&str; 26] = [
 
 /// How a script of `talk` goes, and what is written.
 fn talked(alloc: Global, script: &[u8]) -> (Outcome, Vec<u8>) {
-    let mut input = script;
-    let mut output = Vec::new(alloc);
-    let outcome = talk_script(alloc, &mut input, &mut output);
-    (outcome, output)
+    let mut output = Counted::new(Vec::new(alloc));
+    let outcome = talk_script(alloc, &mut Counted::new(script), &mut output);
+    (outcome, output.into_inner())
 }
 
 /// How a script of `replay` goes, and what is written.
 fn replayed(alloc: Global, script: &[u8]) -> (Outcome, Vec<u8>) {
-    let mut input = script;
-    let mut output = Vec::new(alloc);
-    let outcome = replay_script(alloc, &mut input, &mut output);
-    (outcome, output)
+    let mut output = Counted::new(Vec::new(alloc));
+    let outcome = replay_script(alloc, &mut Counted::new(script), &mut output);
+    (outcome, output.into_inner())
 }
 
 #[test]
@@ -223,18 +222,47 @@ fn heads_are_refused_as_in_talk(rt: HostRuntime) {
 
 #[test]
 fn what_a_write_comes_to(rt: HostRuntime) {
-    for (written, outcome) in [
-        (Ok(()), Outcome::Refused),
-        (
-            Err(io::Error::from(io::ErrorKind::OutOfMemory)),
-            Outcome::NoMemory,
-        ),
-        (
-            Err(io::Error::from(io::ErrorKind::BrokenPipe)),
-            Outcome::WriteFailed,
-        ),
-    ] {
-        assert_eq!(rt; Outcome::of_write(written, Outcome::Refused), outcome);
+    let failed = io::Error::from(io::ErrorKind::OutOfMemory);
+    assert_eq!(rt; kept(Ok(())), Ok(()));
+    assert_eq!(rt; kept(Err(failed)), Err(NoMemory));
+    let mut output = Counted::new(Vec::new(rt.alloc()));
+    let outcome = tell_text(b"hex refused\n", Outcome::Refused, &mut output);
+    assert_eq!(rt; outcome, Outcome::Refused);
+    assert!(rt; output.into_inner().as_slice() == b"hex refused\n".as_slice());
+}
+
+/// Gives its bytes, a few at a time, and then fails or ends.
+#[derive(Drop)]
+struct Source<'a> {
+    bytes: &'a [u8],
+    fails: bool,
+}
+
+impl Read for Source<'_> {
+    fn read(&mut self, buf: &mut [u8]) -> io::Result<usize> {
+        if self.bytes.is_empty() && self.fails {
+            return Err(io::Error::from(io::ErrorKind::OutOfMemory));
+        }
+        let count = buf.len().min(self.bytes.len()).min(3);
+        let (front, rest) = self.bytes.split_at(count);
+        buf[..count].copy_from_slice(front);
+        self.bytes = rest;
+        Ok(count)
+    }
+}
+
+#[test]
+fn an_input_is_read_to_its_end(rt: HostRuntime) {
+    for (fails, failures, told) in [(false, 0, None), (true, 1, Some(Outcome::ReadFailed))] {
+        let mut input = Counted::new(Source {
+            bytes: b"inflight 4",
+            fails,
+        });
+        match read_whole(rt.alloc(), &mut input) {
+            Ok(text) => assert!(rt; text.as_slice() == b"inflight 4".as_slice() && told.is_none()),
+            Err(outcome) => assert_eq!(rt; Some(outcome), told),
+        }
+        assert_eq!(rt; input.failures(), failures);
     }
 }
 
@@ -253,10 +281,9 @@ fn is_whole_lines(output: &[u8]) -> bool {
 
 /// How the script goes where the first so many growths are given and the next is refused, and what is written.
 fn replayed_without_memory(alloc: Global, heap: &Refusing<Global>) -> (Outcome, Vec<u8>) {
-    let mut input = REPLAYED;
-    let mut output = Vec::new(alloc);
-    let outcome = replay_script(heap, &mut input, &mut output);
-    (outcome, output)
+    let mut output = Counted::new(Vec::new(alloc));
+    let outcome = replay_script(heap, &mut Counted::new(REPLAYED), &mut output);
+    (outcome, output.into_inner())
 }
 
 #[test]
@@ -324,15 +351,17 @@ fn each_write_of_a_replay_fails(rt: HostRuntime) {
         (b"export a size=1\n---\nattach\n", b"line 3 refused\n"),
     ] {
         for room in 0..written.len() {
-            let mut input = script;
-            let mut output = Sink {
+            let mut input = Counted::new(script);
+            let mut output = Counted::new(Sink {
                 taken: Vec::new(rt.alloc()),
                 room,
                 kind: io::ErrorKind::BrokenPipe,
-            };
+            });
             let outcome = replay_script(rt.alloc(), &mut input, &mut output);
             assert_eq!(rt; outcome, Outcome::WriteFailed, "at {room}");
-            let well = output.taken.as_slice() == beginning(written, room);
+            assert_eq!(rt; (input.failures(), output.failures()), (0, 1), "at {room}");
+            let sink = output.into_inner();
+            let well = sink.taken.as_slice() == beginning(written, room);
             assert!(rt; well, "at {room}");
         }
     }
@@ -340,13 +369,13 @@ fn each_write_of_a_replay_fails(rt: HostRuntime) {
 
 #[test]
 fn an_output_without_memory_has_failed(rt: HostRuntime) {
-    let mut input = REPLAYED;
-    let mut output = Sink {
+    let mut output = Counted::new(Sink {
         taken: Vec::new(rt.alloc()),
         room: 20,
         kind: io::ErrorKind::OutOfMemory,
-    };
-    let outcome = replay_script(rt.alloc(), &mut input, &mut output);
+    });
+    let outcome = replay_script(rt.alloc(), &mut Counted::new(REPLAYED), &mut output);
     assert_eq!(rt; outcome, Outcome::WriteFailed);
-    assert!(rt; output.taken.as_slice() == b"session 0\naccepted 0".as_slice());
+    let sink = output.into_inner();
+    assert!(rt; sink.taken.as_slice() == b"session 0\naccepted 0".as_slice());
 }

@@ -24,7 +24,7 @@ pub use conversing::{table_of, talk};
 pub use counted::Counted;
 pub use door::Door;
 pub use ending::{Ending, Frame};
-pub use fill::WriteFailed;
+pub use fill::{WriteFailed, put};
 pub use frames::FrameReader;
 pub use haggling::haggle;
 pub use held_turns::{Stop, hand_in, offer_held, read_ready, take_replies};

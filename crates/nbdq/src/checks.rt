@@ -4,6 +4,7 @@ use crate::checking::check_text;
 use crate::command_line::{Job, Task, asked_job};
 use crate::outcome::Outcome;
 use crate::rows::outcome_of;
+use nbd_session::Counted;
 use refusing::Refusing;
 use std::io;
 use std::io::{ErrorKind, Read, Write};
@@ -106,26 +107,18 @@ impl Write for Broken {
 #[test]
 fn failures_are_told_apart(rt: HostRuntime) {
     let alloc = rt.alloc();
-    for (kind, unread, unwritten) in [
-        (
-            ErrorKind::BrokenPipe,
-            Outcome::ReadFailed,
-            Outcome::WriteFailed,
-        ),
-        (ErrorKind::OutOfMemory, Outcome::NoMemory, Outcome::NoMemory),
-    ] {
-        let mut output = Vec::new(alloc);
-        assert_eq!(rt;
-            check_text(alloc, alloc, &mut Broken(kind), &mut output),
-            unread
-        );
-        assert_eq!(rt; output.len(), 0);
+    for kind in [ErrorKind::BrokenPipe, ErrorKind::OutOfMemory] {
+        let mut input = Counted::new(Broken(kind));
+        let mut output = Counted::new(Vec::new(alloc));
+        let outcome = check_text(alloc, alloc, &mut input, &mut output);
+        assert_eq!(rt; outcome, Outcome::ReadFailed);
+        assert_eq!(rt; input.failures(), 1);
+        assert_eq!(rt; output.into_inner().len(), 0);
         for text in [EXAMPLE, b"".as_slice()] {
-            let mut input = text;
-            assert_eq!(rt;
-                check_text(alloc, alloc, &mut input, &mut Broken(kind)),
-                unwritten
-            );
+            let mut output = Counted::new(Broken(kind));
+            let outcome = check_text(alloc, alloc, &mut Counted::new(text), &mut output);
+            assert_eq!(rt; outcome, Outcome::WriteFailed);
+            assert_eq!(rt; output.failures(), 1);
         }
     }
 }
@@ -135,9 +128,9 @@ fn each_growth_is_refused_in_turn(rt: HostRuntime) {
     let mut met = false;
     for nth in 1..100u64 {
         let heap = Refusing::new(rt.alloc(), nth);
-        let mut input = EXAMPLE;
-        let mut output = Vec::new(rt.alloc());
-        let outcome = check_text(rt.alloc(), &heap, &mut input, &mut output);
+        let mut written = Counted::new(Vec::new(rt.alloc()));
+        let outcome = check_text(rt.alloc(), &heap, &mut Counted::new(EXAMPLE), &mut written);
+        let output = written.into_inner();
         if heap.is_armed() {
             assert_eq!(rt; outcome, Outcome::Done);
             assert_eq!(rt; output.as_slice(), WRITTEN);

@@ -196,14 +196,15 @@ fn each_growth_is_refused(rt: HostRuntime) -> Result<(), Fail> {
 #[test]
 fn each_read_of_a_script_fails(rt: HostRuntime) {
     for count in 0..SCRIPT.len() {
-        let mut input = Source {
+        let mut input = Counted::new(Source {
             bytes: beginning(SCRIPT, count),
             fails: true,
-        };
-        let mut output = Vec::new(rt.alloc());
+        });
+        let mut output = Counted::new(Vec::new(rt.alloc()));
         let outcome = talk_script(rt.alloc(), &mut input, &mut output);
         assert_eq!(rt; outcome, Outcome::ReadFailed, "at {count}");
-        assert!(rt; output.is_empty(), "at {count}");
+        assert_eq!(rt; (input.failures(), output.failures()), (1, 0), "at {count}");
+        assert!(rt; output.into_inner().is_empty(), "at {count}");
     }
 }
 
@@ -216,14 +217,16 @@ fn each_write_for_a_script_fails(rt: HostRuntime) {
         (b"export a size=1\n---\n0", b"hex refused\n"),
     ] {
         for room in 0..written.len() {
-            let mut input = script;
-            let mut output = Sink {
+            let mut input = Counted::new(script);
+            let mut output = Counted::new(Sink {
                 taken: Vec::new(rt.alloc()),
                 room,
-            };
+            });
             let outcome = talk_script(rt.alloc(), &mut input, &mut output);
             assert_eq!(rt; outcome, Outcome::WriteFailed, "at {room}");
-            let well = output.taken.as_slice() == beginning(written, room);
+            assert_eq!(rt; (input.failures(), output.failures()), (0, 1), "at {room}");
+            let sink = output.into_inner();
+            let well = sink.taken.as_slice() == beginning(written, room);
             assert!(rt; well, "at {room}");
         }
     }
@@ -235,10 +238,9 @@ fn printed_without_memory(
     heap: &Refusing<Global>,
     script: &[u8],
 ) -> (Outcome, Vec<u8>) {
-    let mut input = script;
-    let mut output = Vec::new(alloc);
-    let outcome = talk_script(heap, &mut input, &mut output);
-    (outcome, output)
+    let mut output = Counted::new(Vec::new(alloc));
+    let outcome = talk_script(heap, &mut Counted::new(script), &mut output);
+    (outcome, output.into_inner())
 }
 
 #[test]

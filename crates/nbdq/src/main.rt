@@ -25,10 +25,11 @@ use checking::check_text;
 use clap::error::ErrorKind;
 use command_line::{Job, Task, read_command_line};
 use nbd_scripts::{replay_script, talk_script};
+use nbd_session::Counted;
 use outcome::{Ending, Outcome, status_of_end, text_of_end};
 use serve::serve;
 use std::io;
-use std::io::{BufReader, BufWriter, Write};
+use std::io::{BufWriter, Write};
 use std::process::ExitCode;
 
 /// The status of a command line that is refused or asks for help.
@@ -37,12 +38,11 @@ const USAGE: u8 = 2;
 /// The commands that read all of standard input, and then write.
 fn run<R: Input + Print + AllocGlobal>(rt: &R, task: Task) -> Outcome {
     let alloc = rt.alloc();
-    let Ok(mut input) = BufReader::new(alloc, rt.reader()) else {
+    let Ok(writer) = BufWriter::new(alloc, io::writer(rt)) else {
         return Outcome::NoMemory;
     };
-    let Ok(mut output) = BufWriter::new(alloc, io::writer(rt)) else {
-        return Outcome::NoMemory;
-    };
+    let mut input = Counted::new(rt.reader());
+    let mut output = Counted::new(writer);
     let outcome = match task {
         Task::Check => check_text(alloc, alloc, &mut input, &mut output),
         Task::Talk => talk_script(alloc, &mut input, &mut output),

@@ -4,18 +4,19 @@ use crate::checking::check_text;
 use crate::command_line::Task;
 use crate::outcome::Outcome;
 use nbd_scripts::{replay_script, talk_script};
+use nbd_session::Counted;
 use std::alloc::Global;
 
 /// How a command goes by this input, and what is written.
 pub(crate) fn outcome_of(alloc: Global, task: Task, script: &[u8]) -> (Outcome, Vec<u8>) {
-    let mut input = script;
-    let mut output = Vec::new(alloc);
+    let mut input = Counted::new(script);
+    let mut output = Counted::new(Vec::new(alloc));
     let outcome = match task {
         Task::Check => check_text(alloc, alloc, &mut input, &mut output),
         Task::Talk => talk_script(alloc, &mut input, &mut output),
         Task::Replay => replay_script(alloc, &mut input, &mut output),
     };
-    (outcome, output)
+    (outcome, output.into_inner())
 }
 
 /// Whether a script is done, and this is all that is written.

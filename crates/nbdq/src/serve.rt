@@ -5,10 +5,11 @@ use crate::command_line::ServeTask;
 use crate::outcome::{Ending, Outcome};
 use crate::serving::{ServeFault, serve_on};
 use nbd_commands::Config;
+use nbd_session::Counted;
 use std::alloc::Global;
 use std::fs::Files;
 use std::io;
-use std::io::{BufReader, Write};
+use std::io::Write;
 use std::net::{Net, SocketAddr, TcpListener, TcpStream};
 use std::os::unix::net::UnixListener;
 use std::sync::Wait;
@@ -58,10 +59,9 @@ where
 /// The configuration, or how the command went without it.
 fn read_config<R: Input + Print + AllocGlobal>(rt: &R) -> Result<Config<Global>, Outcome> {
     let alloc = rt.alloc();
-    let Ok(mut input) = BufReader::new(alloc, rt.reader()) else {
-        return Err(Outcome::NoMemory);
-    };
-    read_offer(alloc, alloc, &mut input, &mut io::writer(rt))
+    let mut input = Counted::new(rt.reader());
+    let mut output = Counted::new(io::writer(rt));
+    read_offer(alloc, alloc, &mut input, &mut output)
 }
 
 /// The address that is written, where one is. A name isn't looked up.

@@ -11,8 +11,8 @@ use Rattle.nbd_scripts.proofs.conversation.converse.Goals as goal
 
 pub returns-in-Err-clause-write_failed : goal.returns-in-Err-clause-write_failed
 returns-in-Err-clause-write_failed g c = λ is.
-    let old = g.W.Write.contents c.args.output.now in
-    let new = g.W.Write.contents c.refuse_hex.new.output in
+    let old = g.W.Write.contents c.args.output.now.inner in
+    let new = g.W.Write.contents c.refuse_hex.new.output.inner in
     let part = c.refuse_hex.ensures.write_failed is in
     let other = part.0 in
     let no_bytes : IsErr (decode_of (digits_of c.args.body.now)) = search rules in
@@ -20,8 +20,8 @@ returns-in-Err-clause-write_failed g c = λ is.
 
 pub returns-in-Ok-spelled-clause-write_failed : goal.returns-in-Ok-spelled-clause-write_failed
 returns-in-Ok-spelled-clause-write_failed g c = λ is.
-    let old = g.W.Write.contents c.args.output.now in
-    let new = g.W.Write.contents c.tell_text.new.output in
+    let old = g.W.Write.contents c.args.output.now.inner in
+    let new = g.W.Write.contents c.tell_text.new.output.inner in
     let text = c.in-Ok-spelled.text.items in
     let told : Writes text outcome.Done old new c.tell_text.result = search rules in
     let prints : (all : Option (List ℕ)) → Appends old all text → Prints c.args.config.now.exports c.args.body.now old all = λ all written. search rules in

@@ -1,4 +1,4 @@
-use Rattle.std.proofs.Common.{◌++◌}
+use Rattle.std.proofs.Common.{◌++◌, Some}
 use Rattle.std.specs.Io.KnownBytes.{Appends}
 use Rattle.nbd_session.proofs.KnownLemmas.{Appends-then}
 use Rattle.nbd_scripts.specs.Waiting.{number_text, reservation_word, rest_text}
@@ -7,10 +7,10 @@ use Rattle.nbd_scripts.proofs.tags.write_tag.Goals as goal
 pub returns : goal.returns
 returns g c =
     let tags = c.args.tags in
-    let old = g.W.Write.contents c.args.output.now in
-    let one = g.W.Write.contents c.write_number.new.output in
-    let two = g.W.Write.contents c.write_reservation.new.output in
-    let new = g.W.Write.contents c.write_rest.new.output in
+    let old = Some c.args.text.now.items in
+    let one = Some c.write_number.new.text.items in
+    let two = Some c.write_reservation.new.text.items in
+    let new = Some c.write_rest.new.text.items in
     let number : Appends old one (number_text c.args.number) = c.in_ok-write_number.ensures in
     let reservation : Appends one two (reservation_word tags.r) = c.in_ok-write_reservation.ensures in
     let rest : Appends two new (rest_text tags) = c.in_ok-write_rest.ensures in

@@ -1,4 +1,4 @@
-use Rattle.std.proofs.Common.{◌≡◌, get_or, arith}
+use Rattle.std.proofs.Common.{◌≡◌, Some, get_or, arith, rules}
 use Rattle.std.specs.Io.KnownBytes.{Appends}
 use Rattle.std.proofs.lemmas.Grind.{common_steps}
 use Rattle.nbdq.specs.Checked.{inflight_line}
@@ -7,9 +7,9 @@ use Rattle.nbdq.proofs.checking.write_config.Goals as goal
 
 pub loop-at-init : goal.loop-at-init
 loop-at-init g c =
-    let old = g.W.Write.contents c.args.output.now in
-    let new = g.W.Write.contents c.writeln.new.self in
-    let line : Appends old new (inflight_line c.args.config.now.inflight) = rw (← c.inflight-inflight.ensures.value) c.in_ok-writeln.ensures.bytes in
+    let old = Some c.args.text.now.items in
+    let new = Some c.write_inflight.new.text.items in
+    let line : Appends old new (inflight_line c.args.config.now.inflight) = rw (← c.inflight.ensures.value) c.in_ok-write_inflight.ensures in
     written_first c.args.config.now old new line
 
 pub loop-at-preserved : goal.loop-at-preserved
@@ -18,10 +18,10 @@ loop-at-preserved g c =
     let at = c.loop-at.at in
     let export = c.index-exports-at.result in
     let here : get_or c.exports-exports.result.now at export ≡ export = grind (arith, common_steps) in
-    written_more offer at export (g.W.Write.contents c.args.output.now) (g.W.Write.contents c.loop-at.output) (g.W.Write.contents c.write_export.new.output)
+    written_more offer at export (Some c.args.text.now.items) (Some c.loop-at.text.items) (Some c.write_export.new.text.items)
     c.loop-at.invariant (rw c.exports-exports.ensures.value at c.loop-at-test.true) (rw c.exports-exports.ensures.value at here) (c.in_ok-write_export.ensures)
 
 pub returns : goal.returns
 returns g c =
-    written_last c.args.config.now c.loop-at.at (g.W.Write.contents c.args.output.now) (g.W.Write.contents c.loop-at.output)
+    written_last c.args.config.now c.loop-at.at (Some c.args.text.now.items) (Some c.loop-at.text.items)
     c.loop-at.invariant (rw c.exports-exports.ensures.value at c.loop-at-test.false)

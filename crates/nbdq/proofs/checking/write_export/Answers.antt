@@ -1,4 +1,4 @@
-use Rattle.std.proofs.Common.{◌++◌, codes}
+use Rattle.std.proofs.Common.{◌++◌, Some, codes}
 use Rattle.std.specs.Io.KnownBytes.{Appends}
 use Rattle.nbd_session.proofs.KnownLemmas.{Appends-then}
 use Rattle.nbdq.specs.Checked.{disk_text, rates_text, queue_text}
@@ -7,17 +7,17 @@ use Rattle.nbdq.proofs.checking.write_export.Goals as goal
 pub returns : goal.returns
 returns g c =
     let export = c.args.export.now in
-    let old = g.W.Write.contents c.args.output.now in
-    let one = g.W.Write.contents c.write_disk.new.output in
-    let two = g.W.Write.contents c.write_rates.new.output in
-    let three = g.W.Write.contents c.write_queue.new.output in
-    let four = g.W.Write.contents c.write_all.new.self in
-    let new = g.W.Write.contents c.write_all-2.new.self in
+    let old = Some c.args.text.now.items in
+    let one = Some c.write_disk.new.text.items in
+    let two = Some c.write_rates.new.text.items in
+    let three = Some c.write_queue.new.text.items in
+    let four = Some c.extend_from_slice.new.self.items in
+    let new = Some c.extend_from_slice-2.new.self.items in
     let disk : Appends old one (disk_text c.args.at export) = c.in_ok-write_disk.ensures in
     let rates : Appends one two (rates_text export) = c.in_ok-write_rates.ensures in
     let queue : Appends two three (queue_text export) = c.in_ok-write_queue.ensures in
-    let name : Appends three four export.name = rw (← c.name.ensures.value) c.in_ok-write_all.ensures.bytes in
-    let end : Appends four new (codes "\n") = c.in_ok-write_all-2.ensures.bytes in
+    let name : Appends three four export.name = rw (← c.name.ensures.value) c.in_ok-extend_from_slice.ensures.items in
+    let end : Appends four new (codes "\n") = c.in_ok-extend_from_slice-2.ensures.items in
     Appends-then old one new (disk_text c.args.at export) (rates_text export ++ (queue_text export ++ (export.name ++ codes "\n"))) disk
     (Appends-then one two new (rates_text export) (queue_text export ++ (export.name ++ codes "\n")) rates
     (Appends-then two three new (queue_text export) (export.name ++ codes "\n") queue
