@@ -1,14 +1,20 @@
 -- The image after one of its pages has changed: held, given back, or written.
-use Rattle.std.proofs.Common.{◌≡◌, ◌≢◌, ℕ, zero, suc, ◌+◌, ◌*◌, ◌/◌, ◌%◌, ◌<◌, ◌≤◌, inl, inr, true, false, is_some, unwrap_or, Option, Some, None, List, [], ◌++◌, length, take, replicate, min, refl, sym, ap, subst, ◌∙◌, arith, length-append}
+use Rattle.std.proofs.Common.{◌≡◌, ◌≢◌, ℕ, zero, suc, ◌+◌, ◌*◌, ◌/◌, ◌%◌, ◌<◌, ◌≤◌, inl, inr, Bool, true, false, is_some, unwrap_or, Option, Some, None, List, [], ◌++◌, length, take, replicate, min, refl, sym, ap, subst, ◌∙◌, arith, length-append}
 use Rattle.std.specs.Ordering.{nat_cmp, is_eq}
 use Rattle.std.specs.Cmp.{nat_cmp_is}
 use Rattle.std.specs.declared.cmp.Ordering.TheVariants.{Less, Greater}
 use Rattle.std.specs.BTreeMap.{BTreeMap, is_at, UpdatesBy}
+use Rattle.std.specs.BTreeMap.Range.{IsEntryInRange}
+use Rattle.std.specs.declared.ops.Bound.TheVariants.{Included, Excluded}
+use Rattle.std.specs.List.{All}
+use Rattle.std.proofs.lemmas.Cmp.{ranked}
+use Rattle.std.proofs.lemmas.List.Elements.{All-weaker}
 use Rattle.std.proofs.lemmas.Bool.{cases_lt, cases_eq}
 use Rattle.std.proofs.lemmas.Bool.Decides.{nat_tests}
 use Rattle.std.proofs.lemmas.List.{length-take, length-replicate, replicate-append-replicate, take-replicate}
 use Rattle.export_store.specs.Bytes.{range_of, overwritten}
 use Rattle.export_store.specs.Pages.{Pages, zero_page, held_page, is_held, page_of, in_a_row, image_of, IsPaged, lies_whole_in}
+use Rattle.export_store.proofs.BytesLemmas.{length-overwritten}
 use Rattle.export_store.proofs.Overwriting.{overwritten-all, take-overwritten, range_of-take, range_of-zeros, zeros_stay, zeroed_front}
 use Rattle.export_store.proofs.PageLemmas.{length-in_a_row, same_row, range_of-in_a_row, overwritten-in_a_row}
 
@@ -58,6 +64,27 @@ module _ (old new : Pages) (number : ℕ) (page : Option (List ℕ)) (change : C
     ];
   }
 
+-- a page that isn't held
+pub none_held : (pages : Pages) (number : ℕ) → is_held pages number ≡ false → held_page pages number ≡ None
+none_held pages number absent = elim (held_page pages number) as (λ (p : Option (List ℕ)). is_some p ≡ false → p ≡ None) [ None ↦ λ _. refl | Some p ↦ λ bad. cc ] absent
+
+pub page_absent : (pages : Pages) (number : ℕ) → is_held pages number ≡ false → page_of pages number ≡ zero_page
+page_absent pages number absent = ap (λ (p : Option (List ℕ)). unwrap_or p zero_page) (none_held pages number absent)
+
+-- images of the same pages are the same
+pub same_image : (old new : Pages) → new.size ≡ old.size → ((k : ℕ) → page_of new k ≡ page_of old k) → image_of new ≡ image_of old
+unfolding image_of
+same_image old new size same = rw (size, same_row (page_of old) (page_of new) (old.size / 4096 + 1) (λ k _. same k)) refl
+
+-- images are the same where some pages are held in neither, and the others are the same
+pub same_but_absent : (old new : Pages) (some : ℕ → Bool) → new.size ≡ old.size → ((k : ℕ) → some k ≡ true → is_held old k ≡ false) → ((k : ℕ) → some k ≡ true → is_held new k ≡ false)
+    → ((k : ℕ) → some k ≡ false → held_page new k ≡ held_page old k) → image_of new ≡ image_of old
+same_but_absent old new some size was gone others =
+    same_image old new size (λ k. elim (some k) as (λ (b : Bool). some k ≡ b → page_of new k ≡ page_of old k) [
+      | true ↦ λ e. page_absent new k (gone k e) ∙ sym (page_absent old k (was k e))
+      | false ↦ λ e. ap (λ (p : Option (List ℕ)). unwrap_or p zero_page) (others k e)
+    ] refl)
+
 -- how long the image is
 pub length-image_of : (pages : Pages) → IsPaged pages → length (image_of pages) ≡ pages.size
 unfolding image_of
@@ -79,14 +106,11 @@ range_of-image pages is at n one within =
 
 -- the image after a page has become held
 pub image_held : (old new : Pages) (number : ℕ) → Changes old new number (Some zero_page) → is_held old number ≡ false → image_of new ≡ image_of old
-unfolding image_of
 image_held old new number change absent =
-    let none : held_page old number ≡ None = elim (held_page old number) as (λ (p : Option (List ℕ)). is_some p ≡ false → p ≡ None) [ None ↦ λ _. refl | Some p ↦ λ bad. cc ] absent in
-    let each : (k : ℕ) → page_of new k ≡ page_of old k = λ k. elim (cases_eq k number) [
-      | inl e ↦ rw e (page_here old new number (Some zero_page) change ∙ ap (λ (p : Option (List ℕ)). unwrap_or p zero_page) (sym none))
+    same_image old new change.size (λ k. elim (cases_eq k number) [
+      | inl e ↦ rw e (page_here old new number (Some zero_page) change ∙ sym (page_absent old number absent))
       | inr apart ↦ page_others old new number (Some zero_page) change k apart
-    ] in
-    rw (change.size, same_row (page_of old) (page_of new) (old.size / 4096 + 1) (λ k _. each k)) refl
+    ])
 
 -- the image after a write to one page
 pub image_written : (old new : Pages) (at : ℕ) (bytes : List ℕ) → IsPaged old → new.size ≡ old.size → at % 4096 + length bytes ≤ 4096 → at + length bytes ≤ length (image_of old)
@@ -157,6 +181,17 @@ image_of-none pages none =
     let long : length row ≡ 4096 * count = length-in_a_row (page_of pages) (IsPaged-none pages none).whole count in
     ap (take pages.size) zeros ∙ take-replicate pages.size (length row) 0 (omega arith)
 
+-- an entry of a page before an end, which is held
+abbrev pub IsHeldBefore : Pages → ℕ → ℕ × List ℕ → Type 0
+IsHeldBefore pages end e = (e.0 < end) × (is_held pages e.0 ≡ true)
+
+-- what a map of pages has between two numbers
+pub held_between : (size first end : ℕ) (m : BTreeMap ℕ (List ℕ)) (now : Pages) → record { size = size; held = m.entries } ≡ now
+    → (entries : List (ℕ × List ℕ)) → All (IsEntryInRange nat_cmp (Included first) (Excluded end) m) entries → All (IsHeldBefore now end) entries
+held_between size first end m now seen entries between =
+    All-weaker (IsEntryInRange nat_cmp (Included first) (Excluded end) m) (IsHeldBefore now end)
+    (λ e i. (ranked e.0 end Less (sym i.0.1), ap (λ (p : Pages). is_held p e.0) (sym seen) ∙ ap is_some i.1)) entries between
+
 -- The same of an image as its fields were found, where `now` is what contracts see of it.
 module _ (found now : Pages) (seen : found ≡ now) (is : IsPaged found) where
   pub length_seen : length (image_of now) ≡ found.size
@@ -207,6 +242,22 @@ module _ (found now : Pages) (seen : found ≡ now) (is : IsPaged found) where
   pub IsPaged-hold : (new : Pages) (number : ℕ) (page : List ℕ) → page ≡ zero_page → Changes found new number (Some page) → 4096 * number < length (image_of now) → IsPaged new
   IsPaged-hold new number page zeros change begins =
       IsPaged-changes found new number (Some page) change is (ap length zeros ∙ length-zero_page) (λ _. rw (← length_seen) begins)
+
+  -- bytes that are put into a page that becomes held
+  pub image_put_new : (new : Pages) (at : ℕ) (bytes page : List ℕ) → at % 4096 + length bytes ≤ 4096 → at + length bytes ≤ length (image_of now) → is_held now (at / 4096) ≡ false
+      → page ≡ overwritten zero_page (at % 4096) (length bytes) bytes → Changes found new (at / 4096) (Some page) → image_of new ≡ overwritten (image_of now) at (length bytes) bytes
+  image_put_new new at bytes page one within absent holds change =
+      let here : page_of found (at / 4096) ≡ zero_page = page_absent found (at / 4096) (rw seen absent) in
+      let room : at + length bytes ≤ length (image_of found) = rw seen within in
+      let same : page_of new (at / 4096) ≡ overwritten (page_of found (at / 4096)) (at % 4096) (length bytes) bytes = rw here (page_here found new (at / 4096) (Some page) change ∙ holds) in
+      rw (← seen) (image_written found new at bytes is change.size one room same (page_others found new (at / 4096) (Some page) change))
+
+  pub IsPaged-put_new : (new : Pages) (at : ℕ) (bytes page : List ℕ) → at % 4096 + length bytes ≤ 4096 → 0 < length bytes → at + length bytes ≤ length (image_of now)
+      → page ≡ overwritten zero_page (at % 4096) (length bytes) bytes → Changes found new (at / 4096) (Some page) → IsPaged new
+  IsPaged-put_new new at bytes page one some within holds change =
+      let long : length page ≡ 4096 = ap length holds ∙ length-overwritten zero_page (at % 4096) (length bytes) bytes (omega (arith, length-zero_page)) refl ∙ length-zero_page in
+      let size : length (image_of now) ≡ found.size = length_seen in
+      IsPaged-changes found new (at / 4096) (Some page) change is long (λ _. omega arith)
 
   -- a page that is given back
   pub IsPaged-give_back : (new : Pages) (number : ℕ) → Changes found new number None → IsPaged new

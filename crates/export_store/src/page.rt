@@ -32,6 +32,21 @@ impl<A: Allocator + Copy> Page<A> {
         Ok(Page { kept })
     }
 
+    /// A page of zeros but for the bytes from the start on.
+    pub(crate) fn holding(alloc: A, start: usize, piece: &[u8]) -> Result<Page<A>, NoMemory>
+        requires { start + length piece.now ≤ 4096 }
+        ensures { IfOk result (λ page. page ≡ overwritten zero_page start (length piece.now) piece.now) }
+    {
+        if piece.len() == PAGE {
+            let mut kept = Vec::with_capacity(alloc, PAGE)?;
+            kept.extend_from_slice(piece)?;
+            return Ok(Page { kept });
+        }
+        let mut page = Page::zeros(alloc)?;
+        page.put(start, piece);
+        Ok(page)
+    }
+
     /// A range of the page's bytes.
     pub(crate) fn part(&self, start: usize, count: usize) -> &[u8]
         requires { start + count ≤ length self.now }

@@ -1,7 +1,7 @@
-ghost use Rattle.std.specs.Prelude.{◌≡◌, ℕ, ◌+◌, ◌-◌, ◌*◌, ◌/◌, ◌%◌, ◌<◌, ◌≤◌, ◌++◌, ◌||◌, ◌&&◌, ◌==◌, length, replicate, min, not, true, if◌then◌else◌, IfOk, IsOk, OnOk, OnErr, vec_len, vec_capacity};
+ghost use Rattle.std.specs.Prelude.{◌≡◌, ℕ, ◌+◌, ◌-◌, ◌*◌, ◌/◌, ◌%◌, ◌<◌, ◌≤◌, ◌≢◌, ◌++◌, ◌||◌, ◌&&◌, ◌==◌, length, replicate, min, not, if◌then◌else◌, true, false, IfOk, IsOk, OnOk, OnErr, vec_len, vec_capacity};
 ghost use Rattle.std.specs.Bool.{OnFalse};
 ghost use Rattle.export_store.specs.Bytes.{range_of, overwritten};
-ghost use Rattle.export_store.specs.Pages.{image_of, is_held, has_byte_of, lies_whole_in};
+ghost use Rattle.export_store.specs.Pages.{image_of, held_page, is_held, has_byte_of, lies_whole_in};
 
 use crate::image::Image;
 use crate::page::{PAGE, Page};
@@ -71,6 +71,31 @@ impl<A: Allocator + Copy> Paged<A> {
         Ok(())
     }
 
+    // The first page from one on that isn't held, or the end where each before it is.
+    fn first_absent(&self, first: usize, end: usize) -> usize
+        requires { first ≤ end }
+        ensures begins { first ≤ result }
+        ensures ends { result ≤ end }
+        ensures held { (k : ℕ) → first ≤ k → k < result → is_held self.now k ≡ true }
+    {
+        let mut absent = first;
+        for (number, _) in self.pages.range(first..end) {
+            if *number != absent {
+                return absent;
+            }
+            absent += 1;
+        }
+        absent
+    }
+
+    // Whether none of the pages from one on up to an end is held.
+    fn holds_none(&self, first: usize, end: usize) -> bool
+        requires { first ≤ end }
+        ensures { result ≡ true → (k : ℕ) → first ≤ k → k < end → is_held self.now k ≡ false }
+    {
+        self.pages.range(first..end).next().is_none()
+    }
+
     // Holds the pages of a range.
     fn hold_all(&mut self, offset: usize, count: usize) -> Result<(), NoMemory>
         requires { offset + count ≤ length (image_of self.old) }
@@ -81,8 +106,8 @@ impl<A: Allocator + Copy> Paged<A> {
         if count == 0 {
             return Ok(());
         }
-        let end = self.end_of(offset, count);
-        for number in offset / PAGE..end.div_ceil(PAGE) {
+        let end = self.end_of(offset, count).div_ceil(PAGE);
+        for number in self.first_absent(offset / PAGE, end)..end {
             self.hold(number)?;
         }
         Ok(())
@@ -98,8 +123,23 @@ impl<A: Allocator + Copy> Paged<A> {
             → overwritten (image_of self.new) offset count (replicate count 0)
             ≡ overwritten (image_of self.old) offset count (replicate count 0) }
         ensures held { (k : ℕ) → is_held self.new k ≡ (is_held self.old k && not (k == number)) }
+        ensures others { (k : ℕ) → k ≢ number → held_page self.new k ≡ held_page self.old k }
     {
         self.pages.remove(&number);
+    }
+
+    // Gives back the pages that have a byte of a range.
+    fn give_back_touched(&mut self, offset: usize, count: usize)
+        requires some { 0 < count }
+        requires within { offset + count ≤ length (image_of self.old) }
+        ensures size { self.new.size ≡ self.old.size }
+        ensures gone { (k : ℕ) → has_byte_of offset count k ≡ true → is_held self.new k ≡ false }
+        ensures others { (k : ℕ) → has_byte_of offset count k ≡ false → held_page self.new k ≡ held_page self.old k }
+    {
+        let end = self.end_of(offset, count).div_ceil(PAGE);
+        for number in offset / PAGE..end {
+            self.give_back(number);
+        }
     }
 
     // Gives back the pages that lie whole in a range, which is then to be made zero.
@@ -154,19 +194,40 @@ impl<A: Allocator + Copy> Paged<A> {
         }
     }
 
-    // Puts the bytes in place of those from a position on, in one page that is held.
-    fn put(&mut self, at: usize, part: &[u8])
+    // Puts the bytes in place of those from a position on, in one page, where that is held, and says whether it is.
+    fn put(&mut self, at: usize, part: &[u8]) -> bool
         requires one_page { at % 4096 + length part.now ≤ 4096 }
         requires within { at + length part.now ≤ length (image_of self.old) }
-        requires held { is_held self.old (at / 4096) ≡ true }
+        ensures found { result ≡ is_held self.old (at / 4096) }
         ensures size { self.new.size ≡ self.old.size }
-        ensures written { image_of self.new ≡ overwritten (image_of self.old) at (length part.now) part.now }
+        ensures written { result ≡ true
+            → image_of self.new ≡ overwritten (image_of self.old) at (length part.now) part.now }
+        ensures absent { result ≡ false → image_of self.new ≡ image_of self.old }
         ensures held { (k : ℕ) → is_held self.new k ≡ is_held self.old k }
     {
         let Some(page) = self.pages.get_mut(&(at / PAGE)) else {
-            return;
+            return false;
         };
         page.put(at % PAGE, part);
+        true
+    }
+
+    // Puts the bytes in place of those from a position on, in one page that isn't held and then is.
+    fn put_new(&mut self, at: usize, part: &[u8]) -> Result<(), NoMemory>
+        requires one_page { at % 4096 + length part.now ≤ 4096 }
+        requires some { 0 < length part.now }
+        requires within { at + length part.now ≤ length (image_of self.old) }
+        requires absent { is_held self.old (at / 4096) ≡ false }
+        ensures size { self.new.size ≡ self.old.size }
+        ensures written { OnOk result (image_of self.new
+            ≡ overwritten (image_of self.old) at (length part.now) part.now) }
+        ensures held { OnOk result (is_held self.new (at / 4096) ≡ true) }
+        ensures others { (k : ℕ) → k ≢ at / 4096 → held_page self.new k ≡ held_page self.old k }
+        ensures no_memory { OnErr result (image_of self.new ≡ image_of self.old) }
+    {
+        let page = Page::holding(self.alloc, at % PAGE, part)?;
+        self.pages.insert(at / PAGE, page)?;
+        Ok(())
     }
 
     // Puts the bytes in place of those from the offset on, in pages that are held.
@@ -186,6 +247,75 @@ impl<A: Allocator + Copy> Paged<A> {
             at += part.len();
             rest = others;
         }
+    }
+
+    // Puts the bytes in place of those from the offset on, in pages that aren't held and then are. Where memory is refused,
+    // those that were made are given back.
+    fn put_new_all(&mut self, offset: usize, piece: &[u8]) -> Result<(), NoMemory>
+        requires within { offset + length piece.now ≤ length (image_of self.old) }
+        requires absent { (k : ℕ) → has_byte_of offset (length piece.now) k ≡ true → is_held self.old k ≡ false }
+        ensures size { self.new.size ≡ self.old.size }
+        ensures written { OnOk result (image_of self.new
+            ≡ overwritten (image_of self.old) offset (length piece.now) piece.now) }
+        ensures held { OnOk result ((k : ℕ) → is_held self.new k
+            ≡ (is_held self.old k || has_byte_of offset (length piece.now) k)) }
+        ensures no_memory { OnErr result (image_of self.new ≡ image_of self.old) }
+    {
+        let end = self.end_of(offset, piece.len());
+        let mut at = offset;
+        let mut rest = piece;
+        while at < end {
+            let (part, others) = rest.split_at(in_page(at, end - at));
+            if let Err(refused) = self.put_new(at, part) {
+                self.give_back_touched(offset, piece.len());
+                return Err(refused);
+            }
+            at += part.len();
+            rest = others;
+        }
+        Ok(())
+    }
+
+    // Writes bytes that lie in one page.
+    fn write_one(&mut self, at: usize, part: &[u8]) -> Result<(), NoMemory>
+        requires one_page { at % 4096 + length part.now ≤ 4096 }
+        requires within { at + length part.now ≤ length (image_of self.old) }
+        ensures written { OnOk result (image_of self.new
+            ≡ overwritten (image_of self.old) at (length part.now) part.now) }
+        ensures held { OnOk result ((k : ℕ) → is_held self.new k
+            ≡ (is_held self.old k || has_byte_of at (length part.now) k)) }
+        ensures no_memory { OnErr result (image_of self.new ≡ image_of self.old) }
+    {
+        if part.is_empty() || self.put(at, part) {
+            return Ok(());
+        }
+        self.put_new(at, part)
+    }
+
+    // Writes bytes, wherever they lie. No page that is held changes before all others have their memory: those are made with
+    // their bytes where they end the range, and else as zeros.
+    fn write_many(&mut self, offset: usize, piece: &[u8]) -> Result<(), NoMemory>
+        requires some { 0 < length piece.now }
+        requires within { offset + length piece.now ≤ length (image_of self.old) }
+        ensures written { OnOk result (image_of self.new
+            ≡ overwritten (image_of self.old) offset (length piece.now) piece.now) }
+        ensures held { OnOk result ((k : ℕ) → is_held self.new k
+            ≡ (is_held self.old k || has_byte_of offset (length piece.now) k)) }
+        ensures no_memory { OnErr result (image_of self.new ≡ image_of self.old) }
+    {
+        let end = self.end_of(offset, piece.len()).div_ceil(PAGE);
+        let absent = self.first_absent(offset / PAGE, end);
+        if absent < end && self.holds_none(absent, end) {
+            let (held, new) = piece.split_at((absent * PAGE).saturating_sub(offset));
+            self.put_new_all(offset + held.len(), new)?;
+            self.put_all(offset, held);
+            return Ok(());
+        }
+        if absent < end {
+            self.hold_all(offset, piece.len())?;
+        }
+        self.put_all(offset, piece);
+        Ok(())
     }
 
     // Appends a range that lies in one page to bytes that have room for it.
@@ -244,9 +374,10 @@ impl<A: Allocator + Copy> Image for Paged<A> {
             ≡ (is_held self.old k || has_byte_of offset (length piece.now) k)) }
         ensures no_memory { OnErr result (image_of self.new ≡ image_of self.old) }
     {
-        self.hold_all(offset, piece.len())?;
-        self.put_all(offset, piece);
-        Ok(())
+        if in_page(offset, piece.len()) == piece.len() {
+            return self.write_one(offset, piece);
+        }
+        self.write_many(offset, piece)
     }
 
     fn zero(&mut self, offset: usize, count: usize, keep: bool) -> Result<(), NoMemory>

@@ -1,6 +1,7 @@
-use Rattle.std.proofs.Common.{◌≡◌, ◌+◌, ◌≤◌, ◌++◌, ℕ, List, length, refl, ap, ◌∙◌, arith, length-append}
+use Rattle.std.proofs.Common.{◌≡◌, ◌+◌, ◌/◌, ◌≤◌, ◌++◌, true, ℕ, List, length, refl, ap, ◌∙◌, arith, length-append}
+use Rattle.std.proofs.lemmas.Bool.Decides.{nat_tests}
 use Rattle.std.proofs.lemmas.List.{take-append-drop}
-use Rattle.export_store.specs.Pages.{image_of}
+use Rattle.export_store.specs.Pages.{image_of, is_held}
 use Rattle.export_store.specs.Bytes.{overwritten}
 use Rattle.export_store.proofs.BytesLemmas.{length-overwritten}
 use Rattle.export_store.proofs.Overwriting.{overwritten-next}
@@ -16,11 +17,13 @@ loop-at-preserved g c =
     let both : front ++ back ≡ c.loop-at.rest.now = rw (c.split_at.ensures.front, c.split_at.ensures.back) (take-append-drop c.in_page.result c.loop-at.rest.now) in
     let count : length front + length back ≡ length c.loop-at.rest.now = omega (arith, length-append front back, ap length both) in
     let within : at + (length front + length back) ≤ length image = omega arith in
+    let there : is_held c.loop-at.self (at / 4096) ≡ true = before.held (at / 4096) ∙ c.requires.held (at / 4096) (grind (arith, nat_tests)) in
+    let written = c.put.ensures.written (c.put.ensures.found ∙ there) in
     record {
       size = c.put.ensures.size ∙ before.size;
-      long = ap length c.put.ensures.written ∙ length-overwritten image at (length front) front (omega arith) refl ∙ before.long;
+      long = ap length written ∙ length-overwritten image at (length front) front (omega arith) refl ∙ before.long;
       begun = omega arith;
       place = omega arith;
-      bytes = rw c.put.ensures.written (overwritten-next image front back at within) ∙ ap (λ (rest : List ℕ). overwritten image at (length rest) rest) both ∙ before.bytes;
+      bytes = rw written (overwritten-next image front back at within) ∙ ap (λ (rest : List ℕ). overwritten image at (length rest) rest) both ∙ before.bytes;
       held = λ k. c.put.ensures.held k ∙ before.held k;
     }
