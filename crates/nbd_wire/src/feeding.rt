@@ -68,6 +68,7 @@ impl<A: Allocator + Copy> Decoder<A> {
         self.failed = outcome.is_err();
         outcome
     }
+
     /// Hands over the WRITE that is held, where it is one of `least` bytes or more, so that the rest of its payload can be read
     /// straight into its place. The next piece is to begin behind it. Where memory is refused nothing changes.
     pub fn take_begun(&mut self, least: usize) -> Result<Option<BegunWrite<A>>, NoMemory>
