@@ -1,9 +1,8 @@
 -- The sessions of a map, as a box shows them.
 use Rattle.std.proofs.Common.{◌≡◌, ◌≢◌, ◌⊎◌, ℕ, suc, ◌+◌, ◌-◌, ◌<◌, ◌≤◌, ◌^◌, Bool, true, false, List, [], ◌∷◌, ◌++◌, length, filter, drop, Option, Some, None, cond, refl, sym, ap, subst, ◌∙◌, inl, inr, arith, lit≤, length-append, not, ◌==◌, ◌&&◌, Ok, slice_get, if◌then◌else◌}
-use Rattle.std.proofs.lemmas.Bool.{cases_eq, cases_lt, eq-eqb, ne_eqb, eqb-false}
+use Rattle.std.proofs.lemmas.Bool.{cases_eq, cases_lt, eqb-false}
 use Rattle.std.specs.Ordering.{nat_cmp, eq_by_cmp}
 use Rattle.std.specs.Map.{lookup}
-use Rattle.std.specs.Cmp.{unsigned_tied}
 use Rattle.std.specs.BTreeMap.{BTreeMap, get, btree_map_len, Updates}
 use Rattle.circular_buffer.specs.Buffer.{Buffer, buffer, keep_last}
 use Rattle.nbd_base.proofs.Numbers.{tied_same, tied_other}
@@ -13,7 +12,7 @@ use Rattle.nbd_wire.specs.Grammar.{ReplyMessage}
 use Rattle.reply_box.specs.declared.seat.Seat.{Seat}
 use Rattle.reply_box.specs.declared.seat.Taken.TheVariants.{Empty, End}
 use Rattle.reply_box.specs.declared.seat.SessionState.TheVariants.{Open, Left, Gone}
-use Rattle.reply_box.specs.Sessions.{Session, posted, is_here, is_open_state, is_left_state, is_here_state, is_open_at, is_left_at, is_here_at, outbox_at, state_at, new_session}
+use Rattle.reply_box.specs.Sessions.{Session, posted, is_here, is_open_state, is_left_state, is_here_state, is_open_at, is_left_at, is_here_at, is_quiet_at, outbox_at, state_at, new_session}
 use Rattle.reply_box.specs.Box.{Box, is_full, after_attach, after_admit, after_put, after_take, after_leave, after_gone, owed_at, outstanding_at, Takes, IsInBounds}
 use Rattle.reply_box.specs.Seats.{each_below, state_of, quiet, session_of, owed_of, sessions_of, box_of, IsSeat, IsBox}
 use Rattle.reply_box.proofs.Below.{length-each_below, get-each_below, past-each_below, each_below-alike, each_below-change, filter-append_one}
@@ -110,6 +109,9 @@ module _ {A : Type 0} where
       pub open_seen : is_open_at (sessions_of next m) n ≡ not seat.left
       open_seen = ap (λ (o : Option Session). when_some o (λ session. is_open_state session.state) false) session_seen ∙ open_seat seat
 
+      pub quiet_seen : is_quiet_at (sessions_of next m) n ≡ (length seat.outbox.items == 0)
+      quiet_seen = ap (λ (o : Option Session). when_some o (λ session. is_here session && length session.outbox == 0) false) session_seen ∙ ap (λ b. b && length seat.outbox.items == 0) (here_seat seat)
+
       pub outbox_seen : outbox_at (sessions_of next m) n ≡ seat.outbox.items
       outbox_seen = ap (λ (o : Option Session). when_some o (λ session. session.outbox) []) session_seen
 
@@ -129,6 +131,9 @@ module _ {A : Type 0} where
 
       pub here_absent : is_here_at (sessions_of next m) n ≡ false
       here_absent = absent is_here false refl
+
+      pub quiet_absent : is_quiet_at (sessions_of next m) n ≡ false
+      quiet_absent = absent (λ session. is_here session && length session.outbox == 0) false refl
 
       pub open_absent : is_open_at (sessions_of next m) n ≡ false
       open_absent = absent (λ session. is_open_state session.state) false refl

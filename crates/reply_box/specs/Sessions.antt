@@ -1,5 +1,5 @@
 -- The sessions of one export, by number, each with its outbox.
-use Rattle.std.specs.Prelude.{ℕ, ◌+◌, Bool, true, false, List, [], ◌∷◌, ◌++◌, length, drop, slice_get, Option, Some, None, if◌then◌else◌}
+use Rattle.std.specs.Prelude.{ℕ, ◌+◌, ◌==◌, ◌&&◌, Bool, true, false, List, [], ◌∷◌, ◌++◌, length, drop, slice_get, Option, Some, None, if◌then◌else◌}
 use Rattle.nbd_base.specs.Words.{when_some, change_at}
 use Rattle.nbd_wire.specs.Grammar.{ReplyMessage}
 use Rattle.reply_box.specs.declared.seat.SessionState.{SessionState}
@@ -48,6 +48,10 @@ is_here_at sessions s = when_some (slice_get sessions s) is_here false
 -- the replies of session s that aren't taken, oldest first
 abbrev pub outbox_at : List Session → ℕ → List ReplyMessage
 outbox_at sessions s = when_some (slice_get sessions s) (λ session. session.outbox) []
+
+-- session s isn't gone, and none of its replies waits
+abbrev pub is_quiet_at : List Session → ℕ → Bool
+is_quiet_at sessions s = when_some (slice_get sessions s) (λ session. is_here session && length session.outbox == 0) false
 
 -- a reply goes to the end of the outbox, and is dropped where the session is gone
 abbrev pub posted : ReplyMessage → Session → Session

@@ -13,7 +13,7 @@ mod fault;
 mod seat;
 
 ghost use Rattle.std.specs.Prelude.{◌≡◌, ◌<◌, ◌^◌, length, IfOk, IfErr, false};
-ghost use Rattle.reply_box.specs.Sessions.{is_open_at, state_at, sessions_worth};
+ghost use Rattle.reply_box.specs.Sessions.{is_open_at, is_quiet_at, state_at, sessions_worth};
 ghost use Rattle.reply_box.specs.Box.{empty_box, is_full, attach_fault, after_attach, owed_at, MayAdmit, Admits, IsOwed, after_put, Takes, Leaves, Goes, IsInBounds};
 
 use crate::seat::Seat;
@@ -98,6 +98,17 @@ impl<A: Allocator + Copy> ReplyBox<A> {
             return false;
         };
         !seat.left
+    }
+
+    /// Whether the session isn't gone and none of its replies waits, so that the next one that is put is the next one that
+    /// is taken.
+    pub fn is_quiet(&self, session: u64) -> bool
+        ensures { result ≡ is_quiet_at self.now.sessions session }
+    {
+        let Some(seat) = self.seats.get(&session) else {
+            return false;
+        };
+        seat.outbox.is_empty()
     }
 
     /// How many of the session's requests are admitted and not yet answered by `put`; 0 where it is gone.
@@ -281,9 +292,12 @@ mod tests {
         assert_eq!(rt; sessions.admit(0), Ok(()));
         assert_eq!(rt; sessions.admit(0), Ok(()));
         assert_eq!(rt; sessions.admit(0), Err(AdmitFault::Hold));
+        assert!(rt; sessions.is_quiet(0) && !sessions.is_quiet(1));
         assert!(rt; answer(&mut sessions, 0, 7));
+        assert!(rt; !sessions.is_quiet(0));
         assert_eq!(rt; sessions.admit(0), Err(AdmitFault::Hold));
         assert_eq!(rt; cookie(&mut sessions, 0), 7);
+        assert!(rt; sessions.is_quiet(0));
         assert_eq!(rt; sessions.admit(0), Ok(()));
         assert_eq!(rt; sessions.leave(0), Ok(()));
         assert_eq!(rt; sessions.admit(0), Err(AdmitFault::NotOpen));
