@@ -14,19 +14,21 @@ use Rattle.lone_export.proofs.Done.{found_held, missing_job}
 
 module _ {A : Type 0} where
   -- the request isn't in service
-  pub not_out : (p : Parts A) (n : ℕ) (memory : Bool) (w : Whole) → IsLone p → whole_of p ≡ w → None ≡ slot_in (fin.get p.queue.out n) → Does {A = A} w w (step.Perform n memory) said.NotOut
-  not_out p n memory w is e none =
-      subst (λ (v : Whole). Does {A = A} v v (step.Perform n memory) said.NotOut) e
-      (record {
-        did = ap (λ (o : Option Job). when_some o (λ job. if not memory && may_want_memory job.request then moves {A = A} (undone (state_at p) job) (said.Performed false) else moves (done (state_at p) job) (said.Performed true)) (stays (state_at p) said.NotOut))
-            (missing_job n (fin.entries p.queue.out) (sym (fin.get-entries p.queue.out n) ∙ absent (fin.get p.queue.out n) none));
-        terms = refl;
-        inflight = refl;
-      })
+  pub no_job : (p : Parts A) (n : ℕ) → None ≡ slot_in (fin.get p.queue.out n) → find (λ job. job.number == n) (map out_job (fin.entries p.queue.out)) ≡ None
+  no_job p n none = missing_job n (fin.entries p.queue.out) (sym (fin.get-entries p.queue.out n) ∙ absent (fin.get p.queue.out n) none)
     where
       absent : (o : Option (ℕ × Row A)) → None ≡ slot_in o → o ≡ None
       absent None h = refl
       absent (Some r) h = absurd (cc)
+
+  pub not_out : (p : Parts A) (n : ℕ) (memory : Bool) (w : Whole) → IsLone p → whole_of p ≡ w → None ≡ slot_in (fin.get p.queue.out n) → Does {A = A} w w (step.Perform n memory) said.NotOut
+  not_out p n memory w is e none =
+      subst (λ (v : Whole). Does {A = A} v v (step.Perform n memory) said.NotOut) e
+      (record {
+        did = ap (λ (o : Option Job). when_some o (λ job. if not memory && may_want_memory job.request then moves {A = A} (undone (state_at p) job) (said.Performed false) else moves (done (state_at p) job) (said.Performed true)) (stays (state_at p) said.NotOut)) (no_job p n none);
+        terms = refl;
+        inflight = refl;
+      })
 
   -- the mark that it has now stands for the one that it had
   same_mark : (state : Alone) (job : Job) (memory : Bool)

@@ -6,6 +6,7 @@ pub mod Asked
 pub mod Done
 pub mod Opening
 pub mod Again
+pub mod Skip
 pub mod Tags
 pub mod Replays
 pub mod Bounds

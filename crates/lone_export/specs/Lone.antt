@@ -3,9 +3,9 @@ use Rattle.std.specs.Prelude.{◌≡◌, ◌⊎◌, ℕ, ◌+◌, ◌<◌, ◌�
 use Rattle.nbd_base.specs.Words.{when_some}
 use Rattle.nbd_wire.specs.Grammar.{RequestMessage}
 use Rattle.nbd_commands.specs.Terms.{Terms}
-use Rattle.nbd_commands.specs.Verdict.{verdict_of}
+use Rattle.nbd_commands.specs.Verdict.{is_read, verdict_of}
 use Rattle.nbd_commands.specs.Meaning.{may_want_memory}
-use Rattle.reply_box.specs.Sessions.{is_open_at, is_here, is_here_at}
+use Rattle.reply_box.specs.Sessions.{is_open_at, is_here, is_here_at, is_quiet_at}
 use Rattle.reply_box.specs.declared.fault.NotOpen.{NotOpen}
 use Rattle.reply_box.specs.declared.seat.Taken.{Taken}
 use Rattle.reply_box.specs.declared.seat.Taken.TheVariants as taking
@@ -86,6 +86,14 @@ MayArrive w s (Err arriving.Hold) = (is_open_at w.state.sessions s ≡ true) × 
 abbrev pub mark_again : Bool → RequestMessage → Bool
 mark_again memory request = not (not memory && may_want_memory request)
 
+-- the request that is in service under this number is a READ
+abbrev pub is_reading : Alone → ℕ → Bool
+is_reading state n = when_some (find (λ job. job.number == n) state.out) (λ job. is_read job.request) false
+
+-- it is one of session s, which has no reply that would be taken before
+abbrev pub is_read_next : Alone → ℕ → ℕ → Bool
+is_read_next state n s = when_some (find (λ job. job.number == n) state.out) (λ job. job.session == s && is_read job.request && is_quiet_at state.sessions s) false
+
 -- a request of session s would wait, if it arrived
 pub record Admits (terms : Terms) (state : Alone) (s : ℕ) (q : RequestMessage) : Type 0 where
   pub is_open : is_open_at state.sessions s ≡ true
@@ -98,6 +106,12 @@ module _ {A : Type 0} where
   -- a call is this step, with this answer
   pub record Does (old new : Whole) (step : Step A) (answer : StepAnswer A) : Type 0 where
     pub did : own_step old.terms old.state step ≡ record { state = new.state; answer = answer }
+    pub terms : new.terms ≡ old.terms
+    pub inflight : new.inflight ≡ old.inflight
+
+  -- a call is these two steps, one after the other
+  pub record DoesBoth (old new : Whole) (first second : Step A) : Type 0 where
+    pub state : new.state ≡ alone old.terms old.state (first ∷ second ∷ [])
     pub terms : new.terms ≡ old.terms
     pub inflight : new.inflight ≡ old.inflight
 

@@ -10,6 +10,7 @@ ghost use Rattle.lone_export.specs.Lone.{opening_of, Does, DoesOr, pick_said, le
 
 mod reading;
 mod replaying;
+mod skipping;
 
 use crate::refusal::{Arrived, NotArrived, NotAttached};
 use crate::row::Row;

@@ -13,6 +13,7 @@ use tag_clock::Moment;
 
 mod memory;
 mod runs;
+mod skipping;
 
 fn head_of(kind: u16, cookie: u64, offset: u64, length: u32) -> RequestHead
     ensures { result.kind ≡ kind }
