@@ -1,5 +1,5 @@
 -- A step and the same step as it is kept.
-use Rattle.std.proofs.Common.{◌≡◌, ℕ, ◌^◌, ◌==◌, ◌&&◌, nat_le, Bool, true, false, not, List, [], ◌∷◌, ◌++◌, map, length, filter, find, slice_get, Option, Some, None, refl, sym, ap, ◌∙◌}
+use Rattle.std.proofs.Common.{◌≡◌, ◌^◌, ◌==◌, ◌&&◌, nat_le, Bool, not, List, [], ◌∷◌, ◌++◌, length, filter, find, slice_get, Option, Some, None, refl, sym, ap, ◌∙◌}
 use Rattle.std.proofs.lemmas.List.{length-map}
 use Rattle.nbd_base.specs.Words.{when_some}
 use Rattle.nbd_commands.specs.Terms.{Terms}
@@ -13,7 +13,8 @@ use Rattle.lone_export.specs.declared.step.Step.{Step}
 use Rattle.lone_export.specs.declared.step.Step.TheVariants.{Attach, Arrive, Pick, Perform, Take, Leave, Gone}
 use Rattle.lone_export.specs.declared.step.StepAnswer.{StepAnswer}
 use Rattle.lone_export.proofs.Cases.{if_both}
-use Rattle.export_cell.specs.Journal.{KeptStep, kept_step, kept_log, Journal, noted}
+use Rattle.export_cell.specs.Journal.{KeptStep, kept_step, kept_log, noted}
+use Rattle.export_cell.specs.Past.{Goes}
 
 -- ---- lists of steps
 pub kept_push : {A : Type 0} (log : List (Step A)) (one : Step A) → kept_log (log ++ one ∷ []) ≡ kept_log log ++ kept_step one ∷ []
@@ -79,6 +80,13 @@ makes A old new one answer counted does is =
       inflight = does.inflight;
     }
 
--- whatever it answers
-pub makes_any : (A : Type 0) (old new : Whole) (one : Step A) (answer : StepAnswer A) → Does old new one answer → Makes old new (kept_step one) (is_counted answer)
-makes_any A old new one answer does = makes A old new one answer (is_counted answer) does refl
+-- the same of the base
+pub goes_makes : (A : Type 0) (old new : Whole) (one : Step A) → Goes old new one → Makes old new (kept_step one) (is_counted (own_step old.terms old.state one).answer)
+goes_makes A old new one goes =
+    let same = alike A old.terms old.state one in
+    record {
+      state = same.state ∙ sym goes.state;
+      told = same.counted;
+      terms = goes.terms;
+      inflight = goes.inflight;
+    }

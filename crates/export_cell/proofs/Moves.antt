@@ -1,28 +1,22 @@
 -- What a cell's calls answer, and how its journal moves.
-use Rattle.std.proofs.Common.{◌≡◌, ℕ, ◌≤◌, ◌<◌, ◌^◌, ◌==◌, nat_le, Bool, true, false, not, List, [], ◌∷◌, ◌++◌, length, filter, Option, Some, None, Result, Ok, Err, refl, sym, ap, subst, ◌∙◌, arith, if◌then◌else◌, inl, inr}
-use Rattle.std.proofs.lemmas.Bool.{cases_lt, cases_eq}
+use Rattle.std.proofs.Common.{◌≡◌, ℕ, ◌^◌, ◌==◌, nat_le, Bool, true, false, not, length, Option, Some, None, Result, Ok, Err, refl, sym, ap, ◌∙◌}
 use Rattle.std.specs.Prelude.{is_ok}
 use Rattle.nbd_commands.specs.Terms.{Terms}
 use Rattle.nbd_commands.specs.Verdict.{verdict_of}
-use Rattle.nbd_wire.specs.Grammar.{RequestMessage, IsRequest}
-use Rattle.reply_box.specs.Sessions.{is_open_at, is_here}
-use Rattle.lone_export.specs.Alone.{Alone, Moved, own_step, outstanding}
+use Rattle.nbd_wire.specs.Grammar.{RequestMessage}
+use Rattle.reply_box.specs.Sessions.{is_open_at}
+use Rattle.lone_export.specs.Alone.{Moved, own_step, outstanding}
 use Rattle.lone_export.specs.Calls.{is_counted}
-use Rattle.lone_export.specs.Lone.{Whole, Does, DoesOr, MayAttach, MayArrive, attach_said, attach_refusal_said, arrived_said, refusal_said}
+use Rattle.lone_export.specs.Lone.{Whole, Does, MayArrive, arrived_said, refusal_said}
 use Rattle.lone_export.specs.declared.step.Step.{Step}
-use Rattle.lone_export.specs.declared.step.Step.TheVariants.{Attach, Arrive}
+use Rattle.lone_export.specs.declared.step.Step.TheVariants.{Arrive}
 use Rattle.lone_export.specs.declared.step.StepAnswer.{StepAnswer}
-use Rattle.lone_export.specs.declared.refusal.AttachRefusal.{AttachRefusal}
-use Rattle.lone_export.specs.declared.refusal.AttachRefusal.TheVariants as attaching
-use Rattle.lone_export.specs.declared.refusal.NotAttached.{NotAttached}
-use Rattle.lone_export.specs.declared.refusal.NotAttached.TheVariants.{Refused, NoMemory}
 use Rattle.lone_export.specs.declared.refusal.ArriveRefusal.{ArriveRefusal}
 use Rattle.lone_export.specs.declared.refusal.ArriveRefusal.TheVariants as arriving
 use Rattle.lone_export.specs.declared.refusal.NotArrived.{NotArrived}
 use Rattle.lone_export.specs.declared.refusal.Arrived.{Arrived}
 use Rattle.lone_export.specs.declared.refusal.Arrived.TheVariants as arrival
 use Rattle.lone_export.proofs.Cases.{if_told, if_one, true_false}
-use Rattle.lone_export.proofs.Steps.{steps}
 use Rattle.export_cell.specs.Journal.{Journal, Cell, kept_step, JournalMove, IsReserved, reserved, noted, noted_as}
 
 pub refused_uncounted : (A : Type 0) (e : ArriveRefusal) → is_counted (refusal_said {A = A} e) ≡ false

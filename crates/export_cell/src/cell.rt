@@ -9,6 +9,7 @@ ghost use Rattle.export_cell.specs.declared.refusal.ArriveFault.{ArriveFault};
 
 mod trimming;
 
+use crate::base::Base;
 use crate::refusal::{ArriveFault, NotArrived};
 use export_queue::Picked;
 use export_store::Image;
@@ -25,7 +26,7 @@ use tag_clock::Moment;
 #[derive(Drop)]
 pub struct ExportCell<I: Image> {
     live: Lone<I>,
-    base: Lone<I>,
+    base: Base<I>,
     // It always has room for the steps that can still come of what is there.
     log: VecDeque<Step<I::Alloc>, I::Alloc>,
     // The bytes of payload in the log.
@@ -55,7 +56,7 @@ impl<I: Image> ExportCell<I> {
         ensures { IfOk result (λ cell. cell ≡ opening_cell (terms_of config.now) inflight) }
     {
         let live = Lone::new(alloc, config, inflight)?;
-        let base = Lone::new(alloc, config, inflight)?;
+        let base = Base::new(alloc, config, inflight)?;
         let log = VecDeque::with_capacity(alloc, 0)?;
         Ok(ExportCell {
             live,
@@ -80,7 +81,7 @@ impl<I: Image> ExportCell<I> {
     }
 
     /// The export as it was before the first step of the log.
-    pub fn base(&self) -> &Lone<I>
+    pub fn base(&self) -> &Base<I>
         ensures state { result.now.state ≡ self.now.journal.base }
         ensures terms { result.now.terms ≡ self.now.live.terms }
     {

@@ -1,9 +1,11 @@
 //! One export kept twice: as it is, and as it was before its latest steps, with the log of these.
 #![tactic(auto)]
 
+mod base;
 mod cell;
 mod refusal;
 
+pub use base::Base;
 pub use cell::ExportCell;
 pub use refusal::{ArriveFault, NotArrived};
 

@@ -14,6 +14,7 @@ use std::collections::VecDeque;
 use std::test::Fail;
 use tag_clock::Moment;
 
+mod late;
 mod memory;
 mod rows;
 

@@ -1,8 +1,8 @@
-use Rattle.std.proofs.Common.{◌≡◌, ◌<◌, true, Option, Some, None, Ok, ap, sym, ◌∙◌, subst, length, deque_capacity, arith, refl}
+use Rattle.std.proofs.Common.{◌≡◌, ◌<◌, true, Option, Some, None, ap, sym, ◌∙◌, subst, length, deque_capacity, arith}
 use Rattle.std.specs.Prelude.{is_some}
 use Rattle.nbd_wire.specs.Grammar.{RequestMessage}
 use Rattle.lone_export.specs.declared.step.Step.TheVariants.{Arrive}
-use Rattle.export_cell.specs.Journal.{Cell, kept_log, kept_step, KeptStep, HasRoom, IsReserved, cell_of, noted}
+use Rattle.export_cell.specs.Journal.{Cell, kept_log, HasRoom, IsReserved, cell_of, noted}
 use Rattle.export_cell.proofs.Kept.{Makes, kept_length, kept_pushed, pushed, makes}
 use Rattle.export_cell.proofs.Logs.{cell-heavy, cell-still, room_for_one}
 use Rattle.export_cell.proofs.Moves.{refused_uncounted, arrived_counted, arrive-counted, arrive-uncounted, told-uncounted, entered, never, refused_arrival}

@@ -1,4 +1,4 @@
-use Rattle.std.proofs.Common.{◌≡◌, ◌+◌, ◌≤◌, ◌∙◌, ap, List, length, deque_capacity, arith}
+use Rattle.std.proofs.Common.{◌+◌, ◌≤◌, ◌∙◌, ap, List, length, deque_capacity, arith}
 use Rattle.lone_export.specs.Calls.{to_come}
 use Rattle.lone_export.specs.declared.step.Step.{Step}
 use Rattle.export_cell.specs.Journal.{kept_log}
