@@ -3,7 +3,7 @@
 ghost use Rattle.std.specs.Prelude.{◌≡◌, ◌++◌, OnOk};
 ghost use Rattle.nbd_scripts.specs.Answers.{line_of, reply_line, picked_line, word_of_phase};
 
-use crate::writing::kept;
+use crate::writing::or_no_memory;
 use nbd_base::NoMemory;
 use nbd_wire::Reply;
 use server_table::Answer;
@@ -20,32 +20,34 @@ pub fn write_answer<A: Allocator, B: Allocator>(
     ensures { OnOk result (text.new.items ≡ text.old.items ++ line_of answer) }
 {
     match answer {
-        Answer::Session(session) => kept(writeln!(text, "session {session}")),
-        Answer::Accepted { number, limit_tag } => kept(writeln!(
+        Answer::Session(session) => or_no_memory(writeln!(text, "session {session}")),
+        Answer::Accepted { number, limit_tag } => or_no_memory(writeln!(
             text,
             "accepted {number} {limit_tag}"
         )),
-        Answer::Answered(error) => kept(writeln!(text, "answered {error}")),
+        Answer::Answered(error) => or_no_memory(writeln!(text, "answered {error}")),
         Answer::Picked {
             export,
             number,
             phase,
         } => write_picked(export, number, phase, text),
-        Answer::Nothing => kept(text.write_all(b"none\n")),
-        Answer::Performed { memory: true } => kept(text.write_all(b"performed\n")),
-        Answer::Performed { memory: false } => kept(text.write_all(b"performed without memory\n")),
+        Answer::Nothing => or_no_memory(text.write_all(b"none\n")),
+        Answer::Performed { memory: true } => or_no_memory(text.write_all(b"performed\n")),
+        Answer::Performed { memory: false } => or_no_memory(text.write_all(
+            b"performed without memory\n",
+        )),
         Answer::Reply(reply) => write_reply(alloc, &reply, text),
-        Answer::Empty => kept(text.write_all(b"empty\n")),
-        Answer::End => kept(text.write_all(b"end\n")),
-        Answer::Left => kept(text.write_all(b"left\n")),
-        Answer::Dropped => kept(text.write_all(b"gone\n")),
-        Answer::NoExport => kept(text.write_all(b"no export\n")),
-        Answer::NotOpen => kept(text.write_all(b"not open\n")),
-        Answer::Worn => kept(text.write_all(b"worn\n")),
-        Answer::Full => kept(text.write_all(b"full\n")),
-        Answer::Hold => kept(text.write_all(b"hold\n")),
-        Answer::NotOut => kept(text.write_all(b"not out\n")),
-        Answer::NoMemory => kept(text.write_all(b"no memory\n")),
+        Answer::Empty => or_no_memory(text.write_all(b"empty\n")),
+        Answer::End => or_no_memory(text.write_all(b"end\n")),
+        Answer::Left => or_no_memory(text.write_all(b"left\n")),
+        Answer::Dropped => or_no_memory(text.write_all(b"gone\n")),
+        Answer::NoExport => or_no_memory(text.write_all(b"no export\n")),
+        Answer::NotOpen => or_no_memory(text.write_all(b"not open\n")),
+        Answer::Worn => or_no_memory(text.write_all(b"worn\n")),
+        Answer::Full => or_no_memory(text.write_all(b"full\n")),
+        Answer::Hold => or_no_memory(text.write_all(b"hold\n")),
+        Answer::NotOut => or_no_memory(text.write_all(b"not out\n")),
+        Answer::NoMemory => or_no_memory(text.write_all(b"no memory\n")),
     }
 }
 
@@ -61,10 +63,10 @@ fn write_reply<A: Allocator, B: Allocator>(
     let error = reply.error();
     let content = reply.content().as_slice();
     if content.is_empty() {
-        return kept(writeln!(text, "reply {cookie} {error} -"));
+        return or_no_memory(writeln!(text, "reply {cookie} {error} -"));
     }
     let digits = hex::encode(alloc, content)?;
-    kept(writeln!(text, "reply {cookie} {error} {digits}"))
+    or_no_memory(writeln!(text, "reply {cookie} {error} {digits}"))
 }
 
 /// Writes the line of a choice.
@@ -77,7 +79,7 @@ fn write_picked<A: Allocator>(
     ensures { OnOk result (text.new.items ≡ text.old.items ++ picked_line export number phase) }
 {
     let phase = phase_word(phase);
-    kept(writeln!(text, "export {export} request {number} {phase}"))
+    or_no_memory(writeln!(text, "export {export} request {number} {phase}"))
 }
 
 fn phase_word(phase: Phase) -> &'static str

@@ -5,7 +5,7 @@ ghost use Rattle.nbd_scripts.specs.Told.{CountsWrite, refusal_line, TellsRefusal
 
 use crate::fault::LineFault;
 use crate::outcome::Outcome;
-use crate::writing::{kept, tell_text};
+use crate::writing::{or_no_memory, tell_text};
 use nbd_base::NoMemory;
 use nbd_session::Counted;
 use std::alloc::Allocator;
@@ -46,6 +46,6 @@ fn refusal_line<A: Allocator>(
             writeln!(text, "line {line} C{code}")
         }
     };
-    kept(written)?;
+    or_no_memory(written)?;
     Ok(text)
 }

@@ -14,7 +14,7 @@ use crate::reading::read_whole;
 use crate::refused::refuse_line;
 use crate::replay_line::ReplayLine;
 use crate::tags::write_tags;
-use crate::writing::{kept, tell_text};
+use crate::writing::{or_no_memory, tell_text};
 use eligibility::Heaped;
 use export_store::Paged;
 use nbd_base::NoMemory;
@@ -115,7 +115,7 @@ fn write_steps<A: Allocator, W: Write>(alloc: A, steps: u128, output: &mut Count
     ensures counted { CountsWrite result output.old.failures output.new.failures }
 {
     let mut text = Vec::new(alloc);
-    match kept(writeln!(text, "steps {steps}")) {
+    match or_no_memory(writeln!(text, "steps {steps}")) {
         Ok(()) => tell_text(&text, Outcome::Done, output),
         Err(NoMemory) => Outcome::NoMemory,
     }

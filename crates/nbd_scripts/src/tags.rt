@@ -3,7 +3,7 @@
 ghost use Rattle.std.specs.Prelude.{◌≡◌, ◌++◌, OnOk};
 ghost use Rattle.nbd_scripts.specs.Waiting.{number_text, reservation_word, rest_text, tag_line, tags_text, waiting_text};
 
-use crate::writing::kept;
+use crate::writing::or_no_memory;
 use eligibility::Heaped;
 use export_store::Paged;
 use nbd_base::NoMemory;
@@ -23,7 +23,7 @@ pub fn write_tags<A: Allocator + Copy>(
 {
     match server.tags(alloc, export) {
         Ok(told) => write_waiting(&told, text),
-        Err(NoTags::NoExport) => kept(text.write_all(b"no export\n")),
+        Err(NoTags::NoExport) => or_no_memory(text.write_all(b"no export\n")),
         Err(NoTags::NoMemory) => Err(NoMemory),
     }
 }
@@ -33,7 +33,7 @@ fn write_waiting<A: Allocator>(told: &[(u64, Tags)], text: &mut Vec<u8, A>) -> R
     ensures { OnOk result (text.new.items ≡ text.old.items ++ waiting_text told.now) }
 {
     let count = told.len();
-    kept(writeln!(text, "waiting {count}"))?;
+    or_no_memory(writeln!(text, "waiting {count}"))?;
     for &(number, tags) in told {
         write_tag(number, tags, text)?;
     }
@@ -53,7 +53,7 @@ fn write_tag<A: Allocator>(number: u64, tags: Tags, text: &mut Vec<u8, A>) -> Re
 fn write_number<A: Allocator>(number: u64, text: &mut Vec<u8, A>) -> Result<(), NoMemory>
     ensures { OnOk result (text.new.items ≡ text.old.items ++ number_text number) }
 {
-    kept(write!(text, "tag {number} "))
+    or_no_memory(write!(text, "tag {number} "))
 }
 
 /// Writes an R tag, which may be missing.
@@ -64,8 +64,8 @@ fn write_reservation<A: Allocator>(
     ensures { OnOk result (text.new.items ≡ text.old.items ++ reservation_word reservation) }
 {
     match reservation {
-        Some(tag) => kept(write!(text, "{tag}")),
-        None => kept(text.write_all(b"-")),
+        Some(tag) => or_no_memory(write!(text, "{tag}")),
+        None => or_no_memory(text.write_all(b"-")),
     }
 }
 
@@ -75,5 +75,5 @@ fn write_rest<A: Allocator>(tags: Tags, text: &mut Vec<u8, A>) -> Result<(), NoM
 {
     let limit = tags.l;
     let share = tags.p;
-    kept(writeln!(text, " {limit} {share}"))
+    or_no_memory(writeln!(text, " {limit} {share}"))
 }

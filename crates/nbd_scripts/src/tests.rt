@@ -1,6 +1,6 @@
 //! Scripts that are refused, the first line that is, want of memory, and writes that fail.
 
-use crate::{Outcome, kept, read_whole, replay_script, talk_script, tell_text};
+use crate::{Outcome, or_no_memory, read_whole, replay_script, talk_script, tell_text};
 use nbd_base::NoMemory;
 use nbd_session::Counted;
 use refusing::Refusing;
@@ -223,8 +223,8 @@ fn heads_are_refused_as_in_talk(rt: HostRuntime) {
 #[test]
 fn what_a_write_comes_to(rt: HostRuntime) {
     let failed = io::Error::from(io::ErrorKind::OutOfMemory);
-    assert_eq!(rt; kept(Ok(())), Ok(()));
-    assert_eq!(rt; kept(Err(failed)), Err(NoMemory));
+    assert_eq!(rt; or_no_memory(Ok(())), Ok(()));
+    assert_eq!(rt; or_no_memory(Err(failed)), Err(NoMemory));
     let mut output = Counted::new(Vec::new(rt.alloc()));
     let outcome = tell_text(b"hex refused\n", Outcome::Refused, &mut output);
     assert_eq!(rt; outcome, Outcome::Refused);

@@ -24,7 +24,7 @@ pub fn tell_text<W: Write>(text: &[u8], well: Outcome, output: &mut Counted<W>) 
 }
 
 /// What a write to a vector came to. A vector refuses one only for want of memory.
-pub fn kept(written: io::Result<()>) -> Result<(), NoMemory>
+pub fn or_no_memory(written: io::Result<()>) -> Result<(), NoMemory>
     ensures ok { OnOk written (IsOk result) }
     ensures err { OnErr written (IsErr result) }
 {

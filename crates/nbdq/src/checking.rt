@@ -7,7 +7,7 @@ ghost use Rattle.nbdq.specs.Checked.{disk_text, export_line, inflight_line, mode
 use nbd_base::NoMemory;
 use nbd_commands::{Config, ExportConfig};
 use nbd_config::{FileError, FileRefusal, Place, read_config};
-use nbd_scripts::{Outcome, kept, read_whole, tell_text};
+use nbd_scripts::{Outcome, or_no_memory, read_whole, tell_text};
 use nbd_session::Counted;
 use std::alloc::{Allocator, Global};
 use std::io::{Read, Write};
@@ -116,7 +116,7 @@ fn write_config<A: Allocator + Copy>(
 fn write_inflight<A: Allocator>(inflight: usize, text: &mut Vec<u8, A>) -> Result<(), NoMemory>
     ensures { OnOk result (text.new.items ≡ text.old.items ++ inflight_line inflight) }
 {
-    kept(writeln!(text, "inflight {inflight}"))
+    or_no_memory(writeln!(text, "inflight {inflight}"))
 }
 
 /// Writes the line of an export. The name is its last field, since it may have spaces.
@@ -145,7 +145,7 @@ fn write_disk<A: Allocator + Copy>(
 {
     let size = export.size();
     let mode = mode_word(export.is_read_only());
-    kept(write!(text, "{at} {size} {mode}"))
+    or_no_memory(write!(text, "{at} {size} {mode}"))
 }
 
 /// Writes the rates and the weight.
@@ -158,7 +158,7 @@ fn write_rates<A: Allocator + Copy>(
     let reservation = export.reservation();
     let limit = export.limit();
     let weight = export.weight();
-    kept(write!(text, " r={reservation} l={limit} w={weight}"))
+    or_no_memory(write!(text, " r={reservation} l={limit} w={weight}"))
 }
 
 /// Writes how many requests may wait, and how many of a session may be outstanding.
@@ -170,7 +170,7 @@ fn write_queue<A: Allocator + Copy>(
 {
     let depth = export.depth();
     let window = export.window();
-    kept(write!(text, " depth={depth} window={window} "))
+    or_no_memory(write!(text, " depth={depth} window={window} "))
 }
 
 fn mode_word(read_only: bool) -> &'static str
@@ -185,7 +185,7 @@ fn write_refusal<A: Allocator>(refusal: FileRefusal, text: &mut Vec<u8, A>) -> R
 {
     let code = refusal.reason.code();
     match refusal.place {
-        Place::Top => kept(writeln!(text, "C{code} top")),
-        Place::Export(at) => kept(writeln!(text, "C{code} export {at}")),
+        Place::Top => or_no_memory(writeln!(text, "C{code} top")),
+        Place::Export(at) => or_no_memory(writeln!(text, "C{code} export {at}")),
     }
 }
