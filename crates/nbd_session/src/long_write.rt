@@ -12,7 +12,7 @@ use std::alloc::Allocator;
 use std::io::Read;
 
 /// The most bytes of a payload that are read at once. They are set to zero before, so they are to stay in the cache.
-const STRETCH: usize = 131_072;
+const STRETCH: usize = 32_768;
 
 /// Reads the next bytes of a long WRITE. It is ready once it is whole.
 pub fn read_on<A: Allocator + Copy, R: Read>(
