@@ -2,9 +2,13 @@
 
 use super::*;
 use export_store::Image;
+use refusing::Refusing;
 
 // Sends one request more to the session, and serves the first that waits.
-fn asks_and_serves(cell: &mut ExportCell<Flat<Global>>, request: Request<Global>) -> bool {
+fn asks_and_serves<A: Allocator + Copy>(
+    cell: &mut ExportCell<Flat<A>>,
+    request: Request<A>,
+) -> bool {
     cell.arrive(0, Moment::zero(), request).is_ok() && serves(cell)
 }
 
@@ -65,5 +69,35 @@ fn reads_are_made_with_the_next_step(rt: HostRuntime) -> Result<(), Fail> {
         assert_eq!(rt; pushed(&mut cell, rt.alloc())?, (steps, b'p'));
     }
     cell.laws();
+    Ok(())
+}
+
+// An export whose log is full of READs of one session, each of which was served.
+fn full_of_reads<A: Allocator + Copy>(alloc: A) -> Result<ExportCell<Flat<A>>, Fail> {
+    let mut cell = opened(alloc, &ExportSettings::new(b"a", 8))?;
+    let mut served = cell.attach() == Ok(0);
+    for _ in 0..1100u64 {
+        served = served && asks_and_serves(&mut cell, read(8));
+    }
+    if served {
+        Ok(cell)
+    } else {
+        Err(Fail::from("served"))
+    }
+}
+
+// The base makes READs, and no memory is there: their data aren't read.
+#[test]
+fn the_base_reads_no_data(rt: HostRuntime) -> Result<(), Fail> {
+    let heap = Refusing::new(rt.alloc(), 0);
+    let mut cell = full_of_reads(&heap)?;
+    for _ in 0..9u64 {
+        let base = cell.base().steps();
+        heap.arm(1);
+        assert!(rt; cell.arrive(0, Moment::zero(), read(8)).is_ok());
+        assert!(rt; heap.is_armed() && cell.base().steps() > base);
+        heap.arm(0);
+        assert!(rt; serves(&mut cell));
+    }
     Ok(())
 }
