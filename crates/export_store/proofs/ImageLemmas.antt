@@ -1,5 +1,5 @@
 -- The image after one of its pages has changed: held, given back, or written.
-use Rattle.std.proofs.Common.{◌≡◌, ◌≢◌, ℕ, zero, suc, ◌+◌, ◌*◌, ◌/◌, ◌%◌, ◌<◌, ◌≤◌, inl, inr, Bool, true, false, is_some, unwrap_or, Option, Some, None, List, [], ◌++◌, length, take, replicate, min, refl, sym, ap, subst, ◌∙◌, arith, length-append}
+use Rattle.std.proofs.Common.{◌≡◌, ◌≢◌, ℕ, zero, suc, ◌+◌, ◌*◌, ◌/◌, ◌%◌, ◌<◌, ◌≤◌, inl, inr, true, false, is_some, unwrap_or, Option, Some, None, List, [], ◌++◌, length, take, replicate, min, refl, sym, ap, subst, ◌∙◌, arith, length-append}
 use Rattle.std.specs.Ordering.{nat_cmp, is_eq}
 use Rattle.std.specs.Cmp.{nat_cmp_is}
 use Rattle.std.specs.declared.cmp.Ordering.TheVariants.{Less, Greater}
@@ -14,7 +14,6 @@ use Rattle.std.proofs.lemmas.Bool.Decides.{nat_tests}
 use Rattle.std.proofs.lemmas.List.{length-take, length-replicate, replicate-append-replicate, take-replicate}
 use Rattle.export_store.specs.Bytes.{range_of, overwritten}
 use Rattle.export_store.specs.Pages.{Pages, zero_page, held_page, is_held, page_of, in_a_row, image_of, IsPaged, lies_whole_in}
-use Rattle.export_store.proofs.BytesLemmas.{length-overwritten}
 use Rattle.export_store.proofs.Overwriting.{overwritten-all, take-overwritten, range_of-take, range_of-zeros, zeros_stay, zeroed_front}
 use Rattle.export_store.proofs.PageLemmas.{length-in_a_row, same_row, range_of-in_a_row, overwritten-in_a_row}
 
@@ -26,6 +25,16 @@ length-zero_page = length-replicate {A = ℕ} 4096 0
 zero_page_is : (n : ℕ) → n ≡ 4096 → zero_page ≡ replicate n 0
 unfolding zero_page
 zero_page_is n e = ap (λ (k : ℕ). replicate k 0) (sym e)
+
+-- a whole page that is made zero
+pub cleared_whole : (page : List ℕ) (start count : ℕ) → length page ≡ 4096 → start + count ≤ 4096 → count ≡ 4096 → zero_page ≡ overwritten page start count (replicate count 0)
+cleared_whole page start count whole within all =
+    let zeros : length (replicate count 0) ≡ count = length-replicate {A = ℕ} count 0 in
+    let first : start ≡ 0 = omega arith in
+    zero_page_is count all
+    ∙ sym (overwritten-all page (replicate count 0) (omega (arith, zeros)))
+    ∙ ap (λ (n : ℕ). overwritten page 0 n (replicate count 0)) zeros
+    ∙ ap (λ (at : ℕ). overwritten page at count (replicate count 0)) (sym first)
 
 -- the new pages are the old ones, but for what is held under a number
 pub record Changes (old new : Pages) (number : ℕ) (page : Option (List ℕ)) : Type 0 where
@@ -75,15 +84,6 @@ page_absent pages number absent = ap (λ (p : Option (List ℕ)). unwrap_or p ze
 pub same_image : (old new : Pages) → new.size ≡ old.size → ((k : ℕ) → page_of new k ≡ page_of old k) → image_of new ≡ image_of old
 unfolding image_of
 same_image old new size same = rw (size, same_row (page_of old) (page_of new) (old.size / 4096 + 1) (λ k _. same k)) refl
-
--- images are the same where some pages are held in neither, and the others are the same
-pub same_but_absent : (old new : Pages) (some : ℕ → Bool) → new.size ≡ old.size → ((k : ℕ) → some k ≡ true → is_held old k ≡ false) → ((k : ℕ) → some k ≡ true → is_held new k ≡ false)
-    → ((k : ℕ) → some k ≡ false → held_page new k ≡ held_page old k) → image_of new ≡ image_of old
-same_but_absent old new some size was gone others =
-    same_image old new size (λ k. elim (some k) as (λ (b : Bool). some k ≡ b → page_of new k ≡ page_of old k) [
-      | true ↦ λ e. page_absent new k (gone k e) ∙ sym (page_absent old k (was k e))
-      | false ↦ λ e. ap (λ (p : Option (List ℕ)). unwrap_or p zero_page) (others k e)
-    ] refl)
 
 -- how long the image is
 pub length-image_of : (pages : Pages) → IsPaged pages → length (image_of pages) ≡ pages.size
@@ -243,21 +243,12 @@ module _ (found now : Pages) (seen : found ≡ now) (is : IsPaged found) where
   IsPaged-hold new number page zeros change begins =
       IsPaged-changes found new number (Some page) change is (ap length zeros ∙ length-zero_page) (λ _. rw (← length_seen) begins)
 
-  -- bytes that are put into a page that becomes held
-  pub image_put_new : (new : Pages) (at : ℕ) (bytes page : List ℕ) → at % 4096 + length bytes ≤ 4096 → at + length bytes ≤ length (image_of now) → is_held now (at / 4096) ≡ false
-      → page ≡ overwritten zero_page (at % 4096) (length bytes) bytes → Changes found new (at / 4096) (Some page) → image_of new ≡ overwritten (image_of now) at (length bytes) bytes
-  image_put_new new at bytes page one within absent holds change =
-      let here : page_of found (at / 4096) ≡ zero_page = page_absent found (at / 4096) (rw seen absent) in
-      let room : at + length bytes ≤ length (image_of found) = rw seen within in
-      let same : page_of new (at / 4096) ≡ overwritten (page_of found (at / 4096)) (at % 4096) (length bytes) bytes = rw here (page_here found new (at / 4096) (Some page) change ∙ holds) in
-      rw (← seen) (image_written found new at bytes is change.size one room same (page_others found new (at / 4096) (Some page) change))
+  -- a page that has other bytes
+  pub IsPaged-replace : (new : Pages) (number : ℕ) (page : List ℕ) → length page ≡ 4096 → 4096 * number < length (image_of now) → Changes found new number (Some page) → IsPaged new
+  IsPaged-replace new number page whole begins change = IsPaged-changes found new number (Some page) change is whole (λ _. rw (← length_seen) begins)
 
-  pub IsPaged-put_new : (new : Pages) (at : ℕ) (bytes page : List ℕ) → at % 4096 + length bytes ≤ 4096 → 0 < length bytes → at + length bytes ≤ length (image_of now)
-      → page ≡ overwritten zero_page (at % 4096) (length bytes) bytes → Changes found new (at / 4096) (Some page) → IsPaged new
-  IsPaged-put_new new at bytes page one some within holds change =
-      let long : length page ≡ 4096 = ap length holds ∙ length-overwritten zero_page (at % 4096) (length bytes) bytes (omega (arith, length-zero_page)) refl ∙ length-zero_page in
-      let size : length (image_of now) ≡ found.size = length_seen in
-      IsPaged-changes found new (at / 4096) (Some page) change is long (λ _. omega arith)
+  pub length-replace : (new : Pages) (number : ℕ) (page : List ℕ) → length page ≡ 4096 → 4096 * number < length (image_of now) → Changes found new number (Some page) → length (image_of new) ≡ length (image_of now)
+  length-replace new number page whole begins change = length-image_of new (IsPaged-replace new number page whole begins change) ∙ change.size ∙ sym length_seen
 
   -- a page that is given back
   pub IsPaged-give_back : (new : Pages) (number : ℕ) → Changes found new number None → IsPaged new

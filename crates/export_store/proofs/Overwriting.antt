@@ -3,11 +3,6 @@ use Rattle.std.proofs.Common.{◌≡◌, ℕ, ◌+◌, ◌-◌, ◌≤◌, List,
 use Rattle.std.proofs.lemmas.List.{places, same_lists}
 use Rattle.export_store.specs.Bytes.{range_of, overwritten}
 
--- a write behind a write is one write
-pub overwritten-next : (image front back : List ℕ) (at : ℕ) → at + (length front + length back) ≤ length image
-    → overwritten (overwritten image at (length front) front) (at + length front) (length back) back ≡ overwritten image at (length (front ++ back)) (front ++ back)
-overwritten-next image front back at within = same_lists _ _ (search (rules, places)) (λ k d h. grind (arith, places))
-
 -- the next part of a range is made zero
 pub zeroed-next : (image : List ℕ) (at n end : ℕ) → at + n ≤ end → end ≤ length image
     → overwritten (overwritten image at n (replicate n 0)) (at + n) (end - (at + n)) (replicate (end - (at + n)) 0) ≡ overwritten image at (end - at) (replicate (end - at) 0)

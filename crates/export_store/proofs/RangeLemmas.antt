@@ -1,5 +1,5 @@
 -- Which pages lie whole in a range or have a byte of it, and which of them are held after some were given back or made.
-use Rattle.std.proofs.Common.{◌≡◌, ◌≢◌, ◌∙◌, ℕ, ◌+◌, ◌-◌, ◌*◌, ◌/◌, ◌%◌, ◌||◌, ◌<◌, ◌≤◌, ◌⊎◌, inl, inr, Bool, true, false, ◌&&◌, not, nat_lt, nat_le, nat_eq, min, max, refl, sym, ap, arith}
+use Rattle.std.proofs.Common.{◌≡◌, ℕ, ◌+◌, ◌*◌, ◌/◌, ◌<◌, ◌≤◌, ◌⊎◌, inl, inr, Bool, true, false, ◌&&◌, not, nat_lt, nat_le, nat_eq, min, max, refl, sym, ap, arith}
 use Rattle.std.specs.Int.{div_ceil}
 use Rattle.std.proofs.lemmas.Bool.{cases_lt, cases_eq}
 use Rattle.std.proofs.lemmas.Bool.Decides.{nat_tests}
@@ -42,59 +42,10 @@ has_byte offset count number some above below =
 pub byte_places : (offset count number : ℕ) → has_byte_of offset count number ≡ true → (offset < 4096 * number + 4096) × (4096 * number < offset + count)
 byte_places offset count number has = (grind (arith, nat_tests), grind (arith, nat_tests))
 
--- numbers that a test tells apart
-pub apart : (test : ℕ → Bool) (k number : ℕ) → test k ≡ false → test number ≡ true → k ≢ number
-apart test k number fails passes e = let bad : false ≡ true = sym fails ∙ ap test e ∙ passes in absurd (cc)
-
--- what is held no more after one more page was given back
-pub gone_step : (old : Bool) (k number : ℕ) → (k < number → old ≡ false) → k < number + 1 → old && not (nat_eq k number) ≡ false
-gone_step false k number before to = refl
-gone_step true k number before to =
-    elim (cases_lt k number) [
-      | inl lt ↦ let bad : true ≡ false = before lt in absurd (cc)
-      | inr le ↦ let same : k ≡ number = omega arith in grind (arith, nat_tests)
-    ]
-
 same_tests : (a b : Bool) → (a ≡ true → b ≡ true) → (b ≡ true → a ≡ true) → a ≡ b
 same_tests true b there back = sym (there refl)
 same_tests false true there back = back refl
 same_tests false false there back = refl
-
--- which pages have a byte of the next part of a range
-pub absent_step : (at n end k : ℕ) → n ≡ min (end - at) (4096 - at % 4096) → has_byte_of (at + n) (end - (at + n)) k ≡ true → (k ≢ at / 4096) × (has_byte_of at (end - at) k ≡ true)
-absent_step at n end k count has =
-    let some : 0 < end - (at + n) = grind (arith, nat_tests) in
-    let from : at + n < 4096 * k + 4096 = grind (arith, nat_tests) in
-    let to : 4096 * k < (at + n) + (end - (at + n)) = grind (arith, nat_tests) in
-    let rest : 0 < end - at = omega arith in
-    let above : at < 4096 * k + 4096 = omega arith in
-    let below : 4096 * k < at + (end - at) = omega arith in
-    (λ e. omega arith, grind (arith, nat_tests))
-
--- which pages have a byte of the parts so far
-pub made_here : (old : Bool) (offset at n : ℕ) → offset ≤ at → 0 < n → true ≡ (old || has_byte_of offset (at + n - offset) (at / 4096))
-made_here old offset at n begun some =
-    let count : 0 < at + n - offset = omega arith in
-    let from : offset < 4096 * (at / 4096) + 4096 = omega arith in
-    let to : 4096 * (at / 4096) < offset + (at + n - offset) = omega arith in
-    let has : has_byte_of offset (at + n - offset) (at / 4096) ≡ true = grind (arith, nat_tests) in
-    rw has (elim old as (λ (b : Bool). true ≡ (b || true)) [ true ↦ refl | false ↦ refl ])
-
-pub made_before : (offset at n k : ℕ) → offset ≤ at → at % 4096 + n ≤ 4096 → k ≢ at / 4096 → has_byte_of offset (at - offset) k ≡ has_byte_of offset (at + n - offset) k
-made_before offset at n k begun one other = same_tests _ _
-    (λ h. let some : 0 < at - offset = grind (arith, nat_tests) in
-    let from : offset < 4096 * k + 4096 = grind (arith, nat_tests) in
-    let to : 4096 * k < offset + (at - offset) = grind (arith, nat_tests) in
-    let more : 0 < at + n - offset = omega arith in
-    let below : 4096 * k < offset + (at + n - offset) = omega arith in
-    grind (arith, nat_tests))
-    (λ h. let some : 0 < at + n - offset = grind (arith, nat_tests) in
-    let from : offset < 4096 * k + 4096 = grind (arith, nat_tests) in
-    let to : 4096 * k < offset + (at + n - offset) = grind (arith, nat_tests) in
-    let less : k < at / 4096 = omega arith in
-    let fewer : 0 < at - offset = omega arith in
-    let below : 4096 * k < offset + (at - offset) = omega arith in
-    grind (arith, nat_tests))
 
 -- what is held in the end: of the pages within the image, those that don't lie whole in the range
 pub held_end : (old : Bool) (size offset count first last number k : ℕ) → (old ≡ true → 4096 * k < size) → first ≡ div_ceil offset 4096 → IsLast size (offset + count) last

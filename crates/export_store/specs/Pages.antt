@@ -1,8 +1,9 @@
 -- An image in pages, of which some are held in memory.
-use Rattle.std.specs.Prelude.{◌≡◌, ℕ, zero, suc, ◌+◌, ◌*◌, ◌/◌, ◌<◌, Bool, true, ◌&&◌, nat_lt, nat_le, min, is_some, unwrap_or, Option, List, [], ◌++◌, length, take, replicate}
+use Rattle.std.specs.Prelude.{◌≡◌, ℕ, zero, suc, ◌+◌, ◌-◌, ◌*◌, ◌/◌, ◌<◌, Bool, true, ◌&&◌, nat_lt, nat_le, min, is_some, unwrap_or, Option, List, [], ◌∷◌, ◌++◌, length, take, replicate}
 use Rattle.std.specs.Ordering.{nat_cmp}
 use Rattle.std.specs.BTreeMap.{is_at}
 use Rattle.std.specs.Map.{lookup}
+use Rattle.export_store.specs.Bytes.{range_of, overwritten}
 
 -- how many bytes an image has, and the pages that are held: each with its number, from 0, in that order
 pub record Pages : Type 0 where
@@ -38,6 +39,19 @@ image_of pages = take pages.size (in_a_row (page_of pages) (pages.size / 4096 + 
 pub record IsPaged (pages : Pages) : Type 0 where
   pub whole : (number : ℕ) → length (page_of pages number) ≡ 4096
   pub within : (number : ℕ) → is_held pages number ≡ true → 4096 * number < pages.size
+
+-- what lies in a page of a piece that is written at an offset
+abbrev pub part_in : ℕ → List ℕ → ℕ → List ℕ
+part_in offset piece number = range_of piece (4096 * number - offset) (4096 - (offset - 4096 * number))
+
+-- a page once the piece is written
+unfoldable pub page_after : ℕ → List ℕ → ℕ → List ℕ → List ℕ
+page_after offset piece number page = overwritten page (offset - 4096 * number) (length (part_in offset piece number)) (part_in offset piece number)
+
+-- so many pages from one on once the piece is written
+abbrev pub pages_after : (ℕ → List ℕ) → ℕ → List ℕ → ℕ → ℕ → List (List ℕ)
+pages_after page offset piece first zero = []
+pages_after page offset piece first (suc count) = pages_after page offset piece first count ++ page_after offset piece (first + count) (page (first + count)) ∷ []
 
 -- whether a page has a byte of a range
 abbrev pub has_byte_of : ℕ → ℕ → ℕ → Bool

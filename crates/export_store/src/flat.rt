@@ -3,6 +3,7 @@ ghost use Rattle.std.specs.Bool.{OnFalse};
 ghost use Rattle.export_store.specs.Bytes.{range_of, overwritten};
 
 use crate::image::Image;
+use bytes::Bytes;
 use nbd_base::NoMemory;
 use std::alloc::Allocator;
 use std::marker::Model;
@@ -47,6 +48,14 @@ impl<A: Allocator + Copy> Image for Flat<A> {
     {
         self.kept[offset..offset + piece.len()].copy_from_slice(piece);
         Ok(())
+    }
+
+    fn write_shared(&mut self, offset: usize, piece: &Bytes<A>) -> Result<(), NoMemory>
+        requires { offset + length piece.now ≤ length self.old }
+        ensures never_fails { IsOk result }
+        ensures written { self.new ≡ overwritten self.old offset (length piece.now) piece.now }
+    {
+        self.write(offset, piece.as_slice())
     }
 
     fn zero(&mut self, offset: usize, count: usize, _keep: bool) -> Result<(), NoMemory>

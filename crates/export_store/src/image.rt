@@ -2,6 +2,7 @@ ghost use Rattle.std.specs.Prelude.{◌≡◌, ℕ, ◌+◌, ◌≤◌, List, �
 ghost use Rattle.std.specs.Bool.{OnFalse};
 ghost use Rattle.export_store.specs.Bytes.{range_of, overwritten};
 
+use bytes::Bytes;
 use nbd_base::NoMemory;
 use std::alloc::Allocator;
 
@@ -40,8 +41,15 @@ pub trait Image: Sized + Drop {
             ≡ overwritten (bytes self.old) offset (length piece.now) piece.now) }
         ensures no_memory { OnErr result (bytes self.new ≡ bytes self.old) };
 
+    /// As `write`, of bytes that others hold too. A form may keep a handle to them in place of a copy.
+    fn write_shared(&mut self, offset: usize, piece: &Bytes<Self::Alloc>) -> Result<(), NoMemory>
+        requires { offset + length piece.now ≤ length (bytes self.old) }
+        ensures written { OnOk result (bytes self.new
+            ≡ overwritten (bytes self.old) offset (length piece.now) piece.now) }
+        ensures no_memory { OnErr result (bytes self.new ≡ bytes self.old) };
+
     /// Makes a range zero. With `keep` a form may keep memory for the range; without `keep` its memory may be given back,
-    /// and the call takes none and succeeds.
+    /// and the call succeeds even where there is none.
     fn zero(&mut self, offset: usize, count: usize, keep: bool) -> Result<(), NoMemory>
         requires { offset + count ≤ length (bytes self.old) }
         ensures gives_back { OnFalse keep (IsOk result) }

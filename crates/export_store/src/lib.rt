@@ -4,7 +4,9 @@
 //! held from the first write on. Offsets, counts and sizes are in bytes.
 #![tactic(auto)]
 
+mod content;
 mod flat;
+mod holes;
 mod image;
 mod page;
 mod paged;

@@ -1,14 +1,18 @@
-ghost use Rattle.std.specs.Prelude.{◌≡◌, ℕ, ◌+◌, ◌-◌, ◌*◌, ◌/◌, ◌%◌, ◌<◌, ◌≤◌, ◌≢◌, ◌++◌, ◌||◌, ◌&&◌, ◌==◌, length, replicate, min, not, if◌then◌else◌, true, false, IfOk, IsOk, OnOk, OnErr, vec_len, vec_capacity};
+ghost use Rattle.std.specs.Prelude.{◌≡◌, ℕ, ◌+◌, ◌-◌, ◌*◌, ◌/◌, ◌%◌, ◌<◌, ◌≤◌, ◌≢◌, ◌++◌, ◌||◌, ◌&&◌, ◌==◌, length, replicate, min, not, if◌then◌else◌, true, false, Some, IfOk, IsOk, OnOk, OnErr, vec_len, vec_capacity};
 ghost use Rattle.std.specs.Bool.{OnFalse};
+ghost use Rattle.std.specs.Int.{div_ceil};
 ghost use Rattle.export_store.specs.Bytes.{range_of, overwritten};
-ghost use Rattle.export_store.specs.Pages.{image_of, held_page, is_held, has_byte_of, lies_whole_in};
+ghost use Rattle.export_store.specs.Pages.{IsPaged, image_of, held_page, is_held, page_of, page_after, pages_after, has_byte_of, lies_whole_in};
 
+use crate::content::{Content, Extent, Sharing};
 use crate::image::Image;
 use crate::page::{PAGE, Page};
+use bytes::Bytes;
 use nbd_base::NoMemory;
 use std::alloc::Allocator;
 use std::collections::BTreeMap;
 use std::marker::Model;
+use std::sync::Arc;
 
 /// An image in pages of 4,096 bytes, the last of which ends with the image. A page that isn't held in memory is zeros.
 ///
@@ -49,7 +53,8 @@ impl<A: Allocator + Copy> Paged<A> {
     // Where a range of the image ends.
     fn end_of(&self, offset: usize, count: usize) -> usize
         requires { offset + count ≤ length (image_of self.now) }
-        ensures { result ≡ offset + count }
+        ensures end { result ≡ offset + count }
+        ensures pages { IsPaged self.now }
     {
         // No position in an image is past the greatest usize, since its size is one.
         let _size = self.size;
@@ -88,14 +93,6 @@ impl<A: Allocator + Copy> Paged<A> {
         absent
     }
 
-    // Whether none of the pages from one on up to an end is held.
-    fn holds_none(&self, first: usize, end: usize) -> bool
-        requires { first ≤ end }
-        ensures { result ≡ true → (k : ℕ) → first ≤ k → k < end → is_held self.now k ≡ false }
-    {
-        self.pages.range(first..end).next().is_none()
-    }
-
     // Holds the pages of a range.
     fn hold_all(&mut self, offset: usize, count: usize) -> Result<(), NoMemory>
         requires { offset + count ≤ length (image_of self.old) }
@@ -113,8 +110,38 @@ impl<A: Allocator + Copy> Paged<A> {
         Ok(())
     }
 
-    // Gives a page back, which is then zeros.
-    fn give_back(&mut self, number: usize)
+    // Copies a page out of the payload that filled these pages, where it is a part of it and there is memory.
+    fn unshare(&mut self, number: usize, filled: &Extent)
+        ensures size { self.new.size ≡ self.old.size }
+        ensures pages { (k : ℕ) → held_page self.new k ≡ held_page self.old k }
+    {
+        let Some(page) = self.pages.get_mut(&number) else {
+            return;
+        };
+        page.unshare(self.alloc, filled);
+    }
+
+    // What a page held goes, if it held any. Where it was a part of a payload of whose pages fewer are left than there are
+    // others, those are copied, so that the payload goes; unless all its pages lie from `first` on before `end`, for they
+    // go too.
+    fn give_up(&mut self, content: Option<Content<A>>, first: usize, end: usize)
+        ensures size { self.new.size ≡ self.old.size }
+        ensures pages { (k : ℕ) → held_page self.new k ≡ held_page self.old k }
+        ensures bytes { image_of self.new ≡ image_of self.old }
+    {
+        let Some(content) = content else {
+            return;
+        };
+        let Some(filled) = content.sparse(first, end) else {
+            return;
+        };
+        for number in filled.first..filled.first.saturating_add(filled.pages) {
+            self.unshare(number, &filled);
+        }
+    }
+
+    // Takes a page out, which is then zeros, and gives back what it held.
+    fn take_out(&mut self, number: usize) -> Option<Content<A>>
         requires { 4096 * number < length (image_of self.old) }
         ensures size { self.new.size ≡ self.old.size }
         ensures long { length (image_of self.new) ≡ length (image_of self.old) }
@@ -123,23 +150,26 @@ impl<A: Allocator + Copy> Paged<A> {
             → overwritten (image_of self.new) offset count (replicate count 0)
             ≡ overwritten (image_of self.old) offset count (replicate count 0) }
         ensures held { (k : ℕ) → is_held self.new k ≡ (is_held self.old k && not (k == number)) }
-        ensures others { (k : ℕ) → k ≢ number → held_page self.new k ≡ held_page self.old k }
     {
-        self.pages.remove(&number);
+        match self.pages.remove(&number) {
+            Some(page) => Some(page.into_content()),
+            None => None,
+        }
     }
 
-    // Gives back the pages that have a byte of a range.
-    fn give_back_touched(&mut self, offset: usize, count: usize)
-        requires some { 0 < count }
-        requires within { offset + count ≤ length (image_of self.old) }
+    // Gives a page back, which is then zeros, one of those from `first` on before `end` that are given back.
+    fn give_back(&mut self, number: usize, first: usize, end: usize)
+        requires { 4096 * number < length (image_of self.old) }
         ensures size { self.new.size ≡ self.old.size }
-        ensures gone { (k : ℕ) → has_byte_of offset count k ≡ true → is_held self.new k ≡ false }
-        ensures others { (k : ℕ) → has_byte_of offset count k ≡ false → held_page self.new k ≡ held_page self.old k }
+        ensures long { length (image_of self.new) ≡ length (image_of self.old) }
+        ensures bytes { (offset count : ℕ) → offset + count ≤ length (image_of self.old)
+            → lies_whole_in self.old.size offset count number ≡ true
+            → overwritten (image_of self.new) offset count (replicate count 0)
+            ≡ overwritten (image_of self.old) offset count (replicate count 0) }
+        ensures held { (k : ℕ) → is_held self.new k ≡ (is_held self.old k && not (k == number)) }
     {
-        let end = self.end_of(offset, count).div_ceil(PAGE);
-        for number in offset / PAGE..end {
-            self.give_back(number);
-        }
+        let before = self.take_out(number);
+        self.give_up(before, first, end);
     }
 
     // Gives back the pages that lie whole in a range, which is then to be made zero.
@@ -160,12 +190,12 @@ impl<A: Allocator + Copy> Paged<A> {
             end / PAGE
         };
         for number in first..last {
-            self.give_back(number);
+            self.give_back(number, first, last);
         }
     }
 
-    // Makes a range zero that lies in one page.
-    fn clear(&mut self, at: usize, count: usize)
+    // Makes a range zero that lies in one page, and gives back what that held where it holds other bytes then.
+    fn blank(&mut self, at: usize, count: usize) -> Option<Content<A>>
         requires one_page { at % 4096 + count ≤ 4096 }
         requires within { at + count ≤ length (image_of self.old) }
         ensures size { self.new.size ≡ self.old.size }
@@ -173,9 +203,21 @@ impl<A: Allocator + Copy> Paged<A> {
         ensures held { (k : ℕ) → is_held self.new k ≡ is_held self.old k }
     {
         let Some(page) = self.pages.get_mut(&(at / PAGE)) else {
-            return;
+            return None;
         };
-        page.clear(at % PAGE, count);
+        page.clear(self.alloc, at % PAGE, count)
+    }
+
+    // Makes a range zero that lies in one page, one of those from `first` on before `end` of which bytes are made zero.
+    fn clear(&mut self, at: usize, count: usize, first: usize, end: usize)
+        requires one_page { at % 4096 + count ≤ 4096 }
+        requires within { at + count ≤ length (image_of self.old) }
+        ensures size { self.new.size ≡ self.old.size }
+        ensures zeroed { image_of self.new ≡ overwritten (image_of self.old) at count (replicate count 0) }
+        ensures held { (k : ℕ) → is_held self.new k ≡ is_held self.old k }
+    {
+        let before = self.blank(at, count);
+        self.give_up(before, first, end);
     }
 
     // Makes a range zero.
@@ -189,112 +231,160 @@ impl<A: Allocator + Copy> Paged<A> {
         let mut at = offset;
         while at < end {
             let n = in_page(at, end - at);
-            self.clear(at, n);
+            self.clear(at, n, offset / PAGE, end.div_ceil(PAGE));
             at += n;
         }
     }
 
-    // Puts the bytes in place of those from a position on, in one page, where that is held, and says whether it is.
-    fn put(&mut self, at: usize, part: &[u8]) -> bool
-        requires one_page { at % 4096 + length part.now ≤ 4096 }
-        requires within { at + length part.now ≤ length (image_of self.old) }
-        ensures found { result ≡ is_held self.old (at / 4096) }
+    // A page has these bytes from now on, and those that it had are given back where it was held.
+    fn exchange(
+        &mut self,
+        number: usize,
+        content: Content<A>,
+    ) -> Result<Option<Content<A>>, NoMemory>
+        requires begins { 4096 * number < length (image_of self.old) }
+        requires whole { length content ≡ 4096 }
         ensures size { self.new.size ≡ self.old.size }
-        ensures written { result ≡ true
-            → image_of self.new ≡ overwritten (image_of self.old) at (length part.now) part.now }
-        ensures absent { result ≡ false → image_of self.new ≡ image_of self.old }
-        ensures held { (k : ℕ) → is_held self.new k ≡ is_held self.old k }
-    {
-        let Some(page) = self.pages.get_mut(&(at / PAGE)) else {
-            return false;
-        };
-        page.put(at % PAGE, part);
-        true
-    }
-
-    // Puts the bytes in place of those from a position on, in one page that isn't held and then is.
-    fn put_new(&mut self, at: usize, part: &[u8]) -> Result<(), NoMemory>
-        requires one_page { at % 4096 + length part.now ≤ 4096 }
-        requires some { 0 < length part.now }
-        requires within { at + length part.now ≤ length (image_of self.old) }
-        requires absent { is_held self.old (at / 4096) ≡ false }
-        ensures size { self.new.size ≡ self.old.size }
-        ensures written { OnOk result (image_of self.new
-            ≡ overwritten (image_of self.old) at (length part.now) part.now) }
-        ensures held { OnOk result (is_held self.new (at / 4096) ≡ true) }
-        ensures others { (k : ℕ) → k ≢ at / 4096 → held_page self.new k ≡ held_page self.old k }
+        ensures long { length (image_of self.new) ≡ length (image_of self.old) }
+        ensures here { OnOk result (held_page self.new number ≡ Some content) }
+        ensures others { (k : ℕ) → k ≢ number → held_page self.new k ≡ held_page self.old k }
+        ensures held { is_held self.old number ≡ true → IsOk result }
         ensures no_memory { OnErr result (image_of self.new ≡ image_of self.old) }
     {
-        let page = Page::holding(self.alloc, at % PAGE, part)?;
-        self.pages.insert(at / PAGE, page)?;
+        if let Some(page) = self.pages.get_mut(&number) {
+            return Ok(Some(page.put(content)));
+        }
+        let page = Page::holding(self.alloc, content)?;
+        self.pages.insert(number, page)?;
+        Ok(None)
+    }
+
+    // A page has these bytes from now on, one of those from `first` on before `end` that are written.
+    fn replace(
+        &mut self,
+        number: usize,
+        content: Content<A>,
+        first: usize,
+        end: usize,
+    ) -> Result<(), NoMemory>
+        requires begins { 4096 * number < length (image_of self.old) }
+        requires whole { length content ≡ 4096 }
+        ensures size { self.new.size ≡ self.old.size }
+        ensures long { length (image_of self.new) ≡ length (image_of self.old) }
+        ensures here { OnOk result (held_page self.new number ≡ Some content) }
+        ensures others { (k : ℕ) → k ≢ number → held_page self.new k ≡ held_page self.old k }
+        ensures held { is_held self.old number ≡ true → IsOk result }
+        ensures no_memory { OnErr result (image_of self.new ≡ image_of self.old) }
+    {
+        let before = self.exchange(number, content)?;
+        self.give_up(before, first, end);
         Ok(())
     }
 
-    // Puts the bytes in place of those from the offset on, in pages that are held.
-    fn put_all(&mut self, offset: usize, piece: &[u8])
+    // How the pages of a piece may hold it: by handles where it begins and ends with a page.
+    fn sharing(&self, offset: usize, piece: &Bytes<A>) -> Result<Sharing<A>, NoMemory> {
+        if piece.len() == PAGE {
+            return Ok(Sharing::Alone);
+        }
+        if offset % PAGE != 0 || piece.len() % PAGE != 0 {
+            return Ok(Sharing::Copied);
+        }
+        let extent = Extent {
+            first: offset / PAGE,
+            pages: piece.len() / PAGE,
+        };
+        let extent = Arc::new(self.alloc, extent)?;
+        Ok(Sharing::Among(extent))
+    }
+
+    // The bytes of a page with others in place of those from the start on.
+    fn page_with(&self, number: usize, start: usize, part: &[u8]) -> Result<Bytes<A>, NoMemory>
+        requires { start + length part.now ≤ 4096 }
+        ensures { IfOk result (λ bytes. bytes
+            ≡ overwritten (page_of self.now number) start (length part.now) part.now) }
+    {
+        match self.pages.get(&number) {
+            Some(page) => page.with(self.alloc, start, part),
+            None => Page::zeros(self.alloc)?.with(self.alloc, start, part),
+        }
+    }
+
+    // The bytes of a page once a piece is written that has some of them.
+    fn page_after(
+        &self,
+        number: usize,
+        offset: usize,
+        piece: &Bytes<A>,
+        sharing: &Sharing<A>,
+    ) -> Result<Content<A>, NoMemory>
+        requires within { offset + length piece.now ≤ length (image_of self.now) }
+        requires touched { has_byte_of offset (length piece.now) number ≡ true }
+        ensures content { IfOk result (λ content. content
+            ≡ page_after offset piece.now number (page_of self.now number)) }
+        ensures pages { IsPaged self.now }
+    {
+        let end = self.end_of(offset, piece.len());
+        let begin = number * PAGE;
+        let start = offset.saturating_sub(begin);
+        let from = begin.saturating_sub(offset);
+        let upto = (end - offset).min(from + (PAGE - start));
+        let part = piece.slice(from..upto)?;
+        if part.len() == PAGE {
+            let content = Content::part(self.alloc, part, sharing)?;
+            return Ok(content);
+        }
+        let bytes = self.page_with(number, start, part.as_slice())?;
+        Ok(Content::alone(bytes))
+    }
+
+    // The bytes of each page that has some of a piece, once that is written.
+    fn pages_after(&self, offset: usize, piece: &Bytes<A>) -> Result<Vec<Content<A>, A>, NoMemory>
+        requires some { 0 < length piece.now }
+        requires within { offset + length piece.now ≤ length (image_of self.now) }
+        ensures { IfOk result (λ pages. pages.items ≡ pages_after (page_of self.now) offset piece.now
+            (offset / 4096) (div_ceil (offset + length piece.now) 4096 - offset / 4096)) }
+    {
+        let first = offset / PAGE;
+        let end = self.end_of(offset, piece.len()).div_ceil(PAGE);
+        let sharing = self.sharing(offset, piece)?;
+        let mut pages = Vec::with_capacity(self.alloc, end - first)?;
+        for number in first..end {
+            let page = self.page_after(number, offset, piece, &sharing)?;
+            pages.push(page)?;
+        }
+        Ok(pages)
+    }
+
+    // Writes a piece, of which each page is held and has its bytes ready. It takes no memory.
+    fn put_all(
+        &mut self,
+        offset: usize,
+        piece: &Bytes<A>,
+        mut pages: Vec<Content<A>, A>,
+    ) -> Result<(), NoMemory>
+        requires some { 0 < length piece.now }
         requires within { offset + length piece.now ≤ length (image_of self.old) }
         requires held { (k : ℕ) → has_byte_of offset (length piece.now) k ≡ true → is_held self.old k ≡ true }
+        requires ready { pages.items ≡ pages_after (page_of self.old) offset piece.now
+            (offset / 4096) (div_ceil (offset + length piece.now) 4096 - offset / 4096) }
+        ensures never_fails { IsOk result }
         ensures size { self.new.size ≡ self.old.size }
         ensures written { image_of self.new ≡ overwritten (image_of self.old) offset (length piece.now) piece.now }
         ensures held { (k : ℕ) → is_held self.new k ≡ is_held self.old k }
     {
-        let end = self.end_of(offset, piece.len());
-        let mut at = offset;
-        let mut rest = piece;
-        while at < end {
-            let (part, others) = rest.split_at(in_page(at, end - at));
-            self.put(at, part);
-            at += part.len();
-            rest = others;
-        }
-    }
-
-    // Puts the bytes in place of those from the offset on, in pages that aren't held and then are. Where memory is refused,
-    // those that were made are given back.
-    fn put_new_all(&mut self, offset: usize, piece: &[u8]) -> Result<(), NoMemory>
-        requires within { offset + length piece.now ≤ length (image_of self.old) }
-        requires absent { (k : ℕ) → has_byte_of offset (length piece.now) k ≡ true → is_held self.old k ≡ false }
-        ensures size { self.new.size ≡ self.old.size }
-        ensures written { OnOk result (image_of self.new
-            ≡ overwritten (image_of self.old) offset (length piece.now) piece.now) }
-        ensures held { OnOk result ((k : ℕ) → is_held self.new k
-            ≡ (is_held self.old k || has_byte_of offset (length piece.now) k)) }
-        ensures no_memory { OnErr result (image_of self.new ≡ image_of self.old) }
-    {
-        let end = self.end_of(offset, piece.len());
-        let mut at = offset;
-        let mut rest = piece;
-        while at < end {
-            let (part, others) = rest.split_at(in_page(at, end - at));
-            if let Err(refused) = self.put_new(at, part) {
-                self.give_back_touched(offset, piece.len());
-                return Err(refused);
-            }
-            at += part.len();
-            rest = others;
+        let first = offset / PAGE;
+        let end = self.end_of(offset, piece.len()).div_ceil(PAGE);
+        let mut number = end;
+        while let Some(page) = pages.pop() {
+            number -= 1;
+            self.replace(number, page, first, end)?;
         }
         Ok(())
     }
 
-    // Writes bytes that lie in one page.
-    fn write_one(&mut self, at: usize, part: &[u8]) -> Result<(), NoMemory>
-        requires one_page { at % 4096 + length part.now ≤ 4096 }
-        requires within { at + length part.now ≤ length (image_of self.old) }
-        ensures written { OnOk result (image_of self.new
-            ≡ overwritten (image_of self.old) at (length part.now) part.now) }
-        ensures held { OnOk result ((k : ℕ) → is_held self.new k
-            ≡ (is_held self.old k || has_byte_of at (length part.now) k)) }
-        ensures no_memory { OnErr result (image_of self.new ≡ image_of self.old) }
-    {
-        if part.is_empty() || self.put(at, part) {
-            return Ok(());
-        }
-        self.put_new(at, part)
-    }
-
-    // Writes bytes, wherever they lie. No page that is held changes before all others have their memory: those are made with
-    // their bytes where they end the range, and else as zeros.
-    fn write_many(&mut self, offset: usize, piece: &[u8]) -> Result<(), NoMemory>
+    // Writes a piece that lies in one page.
+    fn write_one(&mut self, offset: usize, piece: &Bytes<A>) -> Result<(), NoMemory>
+        requires one_page { offset % 4096 + length piece.now ≤ 4096 }
         requires some { 0 < length piece.now }
         requires within { offset + length piece.now ≤ length (image_of self.old) }
         ensures written { OnOk result (image_of self.new
@@ -303,19 +393,26 @@ impl<A: Allocator + Copy> Paged<A> {
             ≡ (is_held self.old k || has_byte_of offset (length piece.now) k)) }
         ensures no_memory { OnErr result (image_of self.new ≡ image_of self.old) }
     {
-        let end = self.end_of(offset, piece.len()).div_ceil(PAGE);
-        let absent = self.first_absent(offset / PAGE, end);
-        if absent < end && self.holds_none(absent, end) {
-            let (held, new) = piece.split_at((absent * PAGE).saturating_sub(offset));
-            self.put_new_all(offset + held.len(), new)?;
-            self.put_all(offset, held);
-            return Ok(());
-        }
-        if absent < end {
-            self.hold_all(offset, piece.len())?;
-        }
-        self.put_all(offset, piece);
+        let number = offset / PAGE;
+        let sharing = self.sharing(offset, piece)?;
+        let page = self.page_after(number, offset, piece, &sharing)?;
+        self.replace(number, page, number, number)?;
         Ok(())
+    }
+
+    // Writes a piece, wherever it lies. No page changes before each is held and has its bytes ready.
+    fn write_many(&mut self, offset: usize, piece: &Bytes<A>) -> Result<(), NoMemory>
+        requires some { 0 < length piece.now }
+        requires within { offset + length piece.now ≤ length (image_of self.old) }
+        ensures written { OnOk result (image_of self.new
+            ≡ overwritten (image_of self.old) offset (length piece.now) piece.now) }
+        ensures held { OnOk result ((k : ℕ) → is_held self.new k
+            ≡ (is_held self.old k || has_byte_of offset (length piece.now) k)) }
+        ensures no_memory { OnErr result (image_of self.new ≡ image_of self.old) }
+    {
+        self.hold_all(offset, piece.len())?;
+        let pages = self.pages_after(offset, piece)?;
+        self.put_all(offset, piece, pages)
     }
 
     // Appends a range that lies in one page to bytes that have room for it.
@@ -329,7 +426,7 @@ impl<A: Allocator + Copy> Paged<A> {
         ensures room { vec_capacity out.old ≤ vec_capacity out.new }
     {
         match self.pages.get(&(at / PAGE)) {
-            Some(page) => out.extend_from_slice(page.part(at % PAGE, count))?,
+            Some(page) => page.append(at % PAGE, count, out)?,
             None => out.resize(out.len() + count, 0)?,
         }
         Ok(())
@@ -374,6 +471,21 @@ impl<A: Allocator + Copy> Image for Paged<A> {
             ≡ (is_held self.old k || has_byte_of offset (length piece.now) k)) }
         ensures no_memory { OnErr result (image_of self.new ≡ image_of self.old) }
     {
+        let piece = Bytes::copy_from_slice(self.alloc, piece)?;
+        self.write_shared(offset, &piece)
+    }
+
+    fn write_shared(&mut self, offset: usize, piece: &Bytes<A>) -> Result<(), NoMemory>
+        requires { offset + length piece.now ≤ length (image_of self.old) }
+        ensures written { OnOk result (image_of self.new
+            ≡ overwritten (image_of self.old) offset (length piece.now) piece.now) }
+        ensures held { OnOk result ((k : ℕ) → is_held self.new k
+            ≡ (is_held self.old k || has_byte_of offset (length piece.now) k)) }
+        ensures no_memory { OnErr result (image_of self.new ≡ image_of self.old) }
+    {
+        if piece.is_empty() {
+            return Ok(());
+        }
         if in_page(offset, piece.len()) == piece.len() {
             return self.write_one(offset, piece);
         }

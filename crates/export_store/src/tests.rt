@@ -1,4 +1,5 @@
 use crate::{Flat, Image, Paged};
+use bytes::Bytes;
 use nbd_base::NoMemory;
 use refusing::Refusing;
 use std::alloc::{Allocator, Global};
@@ -7,6 +8,12 @@ use std::alloc::{Allocator, Global};
 fn writes<I: Image>(image: &mut I, offset: usize, piece: &[u8]) -> bool {
     let size = image.size();
     offset <= size && piece.len() <= size - offset && image.write(offset, piece).is_ok()
+}
+
+// Writes bytes that others hold too, likewise.
+fn shares<I: Image>(image: &mut I, offset: usize, piece: &Bytes<I::Alloc>) -> bool {
+    let size = image.size();
+    offset <= size && piece.len() <= size - offset && image.write_shared(offset, piece).is_ok()
 }
 
 // Makes a range zero, likewise.
@@ -186,5 +193,154 @@ fn a_refused_write_changes_no_byte(rt: HostRuntime) -> Result<(), NoMemory> {
         }
         assert!(rt; written && met >= 3, "with {held}");
     }
+    Ok(())
+}
+
+// Whether the bytes of an image, but for those of a range, are all the same one, and those are zeros.
+fn is_but<I: Image>(
+    alloc: I::Alloc,
+    image: &I,
+    byte: u8,
+    start: usize,
+    end: usize,
+) -> Result<bool, NoMemory> {
+    let bytes = all_of(alloc, image)?;
+    let right = bytes.iter().enumerate().filter(|(at, found)| {
+        let zero = start <= *at && *at < end;
+        **found == if zero { 0 } else { byte }
+    });
+    Ok(right.count() == image.size())
+}
+
+// Whether two images of two pages that share their bytes change apart.
+fn change_apart<I: Image>(alloc: I::Alloc) -> Result<bool, NoMemory> {
+    let Ok(piece) = Bytes::from_vec(Vec::from_elem(alloc, 7u8, 8192)?) else {
+        return Err(NoMemory);
+    };
+    let mut image = I::zeros(alloc, 8192)?;
+    let mut other = I::zeros(alloc, 8192)?;
+    let shared = shares(&mut image, 0, &piece) && shares(&mut other, 0, &piece);
+    drop(piece);
+    let changed = zeroes(&mut image, 100, 5000, false) && writes(&mut other, 5, &[1]);
+    let zeroed = is_but(alloc, &image, 7, 100, 5100)?;
+    let bytes = all_of(alloc, &other)?;
+    let written = bytes.get(5) == Some(&1)
+        && bytes.iter().filter(|byte| **byte == 7).count() == 8191;
+    Ok(shared && changed && zeroed && written)
+}
+
+#[test]
+fn images_that_share_their_bytes_change_apart(rt: HostRuntime) -> Result<(), NoMemory> {
+    assert!(rt; change_apart::<Flat<Global>>(rt.alloc())?);
+    assert!(rt; change_apart::<Paged<Global>>(rt.alloc())?);
+    Ok(())
+}
+
+// An image of sixteen pages that were written as one piece, which they share.
+fn one_piece<A: Allocator + Copy>(alloc: A) -> Result<(Paged<A>, Bytes<A>), NoMemory> {
+    let Ok(piece) = Bytes::from_vec(Vec::from_elem(alloc, 7u8, 65536)?) else {
+        return Err(NoMemory);
+    };
+    let mut image: Paged<A> = Paged::zeros(alloc, 65536)?;
+    if shares(&mut image, 0, &piece) {
+        Ok((image, piece))
+    } else {
+        Err(NoMemory)
+    }
+}
+
+// A list of the pages and a count of owners take memory, the pages none. Bytes that don't fill theirs are copied.
+#[test]
+fn a_piece_is_shared(rt: HostRuntime) -> Result<(), NoMemory> {
+    let heap = Refusing::new(rt.alloc(), 0);
+    let (mut image, piece) = one_piece(&heap)?;
+    for (offset, count, growths) in [
+        (0, 65536, 2u64),
+        (4096, 4096, 0),
+        (4096, 8192, 2),
+        (1, 8192, 7),
+    ] {
+        let part = match piece.slice(0..piece.len().min(count)) {
+            Ok(part) => part,
+            Err(_) => return Err(NoMemory),
+        };
+        heap.arm(growths.saturating_add(1));
+        assert!(rt;
+            shares(&mut image, offset, &part) && heap.is_armed(),
+            "at {offset}"
+        );
+        if growths > 0 {
+            heap.arm(growths);
+            assert!(rt;
+                !shares(&mut image, offset, &part) && !heap.is_armed(),
+                "at {offset}"
+            );
+        }
+    }
+    assert!(rt; is_but(&heap, &image, 7, 0, 0)?);
+    Ok(())
+}
+
+// Once more pages of a piece were written again than weren't, the others are copied, which takes memory where there is some.
+// Where all are written again at once, none is.
+#[test]
+fn a_piece_is_kept_for_half_its_pages(rt: HostRuntime) -> Result<(), NoMemory> {
+    let heap = Refusing::new(rt.alloc(), 0);
+    let (mut image, piece) = one_piece(&heap)?;
+    let Ok(page) = Bytes::from_vec(Vec::from_elem(&heap, 8u8, 4096)?) else {
+        return Err(NoMemory);
+    };
+    for number in 0..9usize {
+        heap.arm(1);
+        assert!(rt; shares(&mut image, number * 4096, &page));
+        assert_eq!(rt; heap.is_armed(), number < 8);
+    }
+    let bytes = all_of(&heap, &image)?;
+    let (front, back) = bytes.as_slice().split_at_checked(36864).ok_or(NoMemory)?;
+    assert!(rt; front.iter().all(|byte| *byte == 8) && back.iter().all(|byte| *byte == 7));
+    assert!(rt; shares(&mut image, 0, &piece));
+    heap.arm(3);
+    assert!(rt; shares(&mut image, 0, &piece) && heap.is_armed());
+    Ok(())
+}
+
+// So it is where pages of it are given back.
+#[test]
+fn a_piece_is_given_back_with_most_of_its_pages(rt: HostRuntime) -> Result<(), NoMemory> {
+    for (start, end, copies) in [
+        (0, 65536, false),
+        (0, 32768, false),
+        (4096, 36864, false),
+        (4096, 40960, true),
+    ] {
+        let heap = Refusing::new(rt.alloc(), 0);
+        let (mut image, _) = one_piece(&heap)?;
+        heap.arm(1);
+        assert!(rt; zeroes(&mut image, start, end - start, false));
+        assert_eq!(rt; heap.is_armed(), !copies);
+        assert!(rt; is_but(&heap, &image, 7, start, end)?);
+    }
+    Ok(())
+}
+
+// Where memory is refused it is noted which bytes of a page are zeros, and a write ends that.
+#[test]
+fn a_range_is_made_zero_without_memory(rt: HostRuntime) -> Result<(), NoMemory> {
+    let heap = Refusing::new(rt.alloc(), 0);
+    let Ok(piece) = Bytes::from_vec(Vec::from_elem(&heap, 7u8, 8192)?) else {
+        return Err(NoMemory);
+    };
+    let mut image: Paged<&Refusing<Global>> = Paged::zeros(&heap, 8192)?;
+    assert!(rt; shares(&mut image, 0, &piece));
+    for (start, end) in [(4000, 4100), (3000, 4000), (4100, 8191)] {
+        heap.arm(1);
+        assert!(rt; zeroes(&mut image, start, end - start, false) && !heap.is_armed());
+    }
+    assert_eq!(rt; image.held(), 2);
+    assert!(rt; is_but(&heap, &image, 7, 3000, 8191)?);
+    assert!(rt; writes(&mut image, 3000, &[7]));
+    assert!(rt; is_but(&heap, &image, 7, 3001, 8191)?);
+    assert!(rt; shares(&mut image, 0, &piece));
+    assert!(rt; is_but(&heap, &image, 7, 0, 0)?);
     Ok(())
 }

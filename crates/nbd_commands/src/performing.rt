@@ -59,14 +59,14 @@ fn read<I: Image>(alloc: I::Alloc, image: &I, offset: usize, count: usize) -> Do
     }
 }
 
-fn write<I: Image>(image: &mut I, offset: usize, piece: &[u8]) -> Done<I::Alloc>
+fn write<I: Image>(image: &mut I, offset: usize, piece: &Bytes<I::Alloc>) -> Done<I::Alloc>
     requires { offset + length piece.now ≤ length (I.bytes image.old) }
     ensures done { OnTrue result.memory ((result.error ≡ 0) × (result.content ≡ [])
         × (I.bytes image.new ≡ overwritten (I.bytes image.old) offset (length piece.now) piece.now)) }
     ensures no_memory { OnFalse result.memory ((result.error ≡ 12) × (result.content ≡ [])
         × (I.bytes image.new ≡ I.bytes image.old)) }
 {
-    match image.write(offset, piece) {
+    match image.write_shared(offset, piece) {
         Ok(()) => Done::with(Bytes::new()),
         Err(_) => Done::without_memory(),
     }
@@ -122,7 +122,7 @@ pub fn apply<I: Image>(
     let count = head.length as usize;
     match head.kind {
         READ => read(alloc, image, offset, count),
-        WRITE => write(image, offset, request.payload().as_slice()),
+        WRITE => write(image, offset, request.payload()),
         TRIM => zero(image, offset, count, false),
         WRITE_ZEROES => zero(image, offset, count, head.flags / NO_HOLE % 2 == 1),
         _ => Done::with(Bytes::new()),

@@ -1,17 +1,19 @@
-use Rattle.std.proofs.Common.{◌≡◌, ℕ, ◌+◌, ◌-◌, ◌≤◌, length}
-use Rattle.export_store.specs.Bytes.{overwritten}
-use Rattle.export_store.specs.Pages.{image_of, is_held}
+use Rattle.std.proofs.Common.{◌≡◌, ℕ, ◌+◌, ◌-◌, ◌/◌, ◌≤◌, nat_le, if◌then◌else◌, length}
+use Rattle.std.specs.Int.{div_ceil}
+use Rattle.export_store.specs.Pages.{image_of, is_held, page_of, page_after, pages_after}
 use Rattle.export_store.proofs.paged.Paged.put_all.Given as goal
 
-abbrev pub invariant-loop-at : goal.invariant-loop-at
-invariant-loop-at g l = record {
+-- the pages from the next on are written
+abbrev pub invariant-loop-page : goal.invariant-loop-page
+invariant-loop-page g l = record {
   size : l.self.size ≡ l.fn.self.size;
   long : length (image_of l.self) ≡ length (image_of l.fn.self);
-  begun : l.offset ≤ l.at;
-  place : l.at + length l.rest ≡ l.end;
-  bytes : overwritten (image_of l.self) l.at (length l.rest) l.rest ≡ overwritten (image_of l.fn.self) l.offset (length l.piece) l.piece;
+  begun : l.offset / 4096 ≤ l.number;
+  upto : l.number ≤ div_ceil (l.offset + length l.piece) 4096;
+  left : l.pages.items ≡ pages_after (page_of l.fn.self) l.offset l.piece (l.offset / 4096) (l.number - l.offset / 4096);
+  written : (k : ℕ) → page_of l.self k ≡ (if nat_le l.number k then page_after l.offset l.piece k (page_of l.fn.self k) else page_of l.fn.self k);
   held : (k : ℕ) → is_held l.self k ≡ is_held l.fn.self k;
 }
 
-abbrev pub decreases-loop-at : goal.decreases-loop-at
-decreases-loop-at g l = l.end - l.at
+abbrev pub decreases-loop-page : goal.decreases-loop-page
+decreases-loop-page g l = l.number - l.offset / 4096

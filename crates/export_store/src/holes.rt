@@ -1,0 +1,81 @@
+ghost use Rattle.std.specs.Prelude.{◌≡◌, ◌≢◌, ℕ, ◌+◌, ◌<◌, ◌≤◌, ◌||◌, true, false, IfOk};
+ghost use Rattle.export_store.specs.Holes.{is_hole, lies_in};
+
+use nbd_base::NoMemory;
+use std::alloc::Allocator;
+use std::marker::Model;
+
+/// Which bytes of a page are zeros, whatever else stands there.
+#[derive(Drop)]
+pub(crate) struct Holes<A: Allocator + Copy> {
+    // A bit for each byte, the lowest of the first word for the first.
+    words: Vec<u64, A>,
+    // Whether any of them may be set.
+    any: bool,
+}
+
+impl<A: Allocator + Copy> Model for Holes<A> {
+    ghost use Rattle.std.specs.Prelude.{ℕ, List};
+    ghost use Rattle.export_store.specs.Holes.{AreHoles};
+
+    ghost Value = { List ℕ };
+
+    ghost view = { λ holes. holes.words.items };
+
+    ghost invariant = { λ holes. AreHoles holes.words.items holes.any };
+}
+
+impl<A: Allocator + Copy> Holes<A> {
+    /// None of 4,096 bytes.
+    pub(crate) fn none(alloc: A) -> Result<Holes<A>, NoMemory>
+        ensures { IfOk result (λ holes. (k : ℕ) → is_hole holes k ≡ false) }
+    {
+        let words = Vec::from_elem(alloc, 0u64, 64)?;
+        Ok(Holes { words, any: false })
+    }
+
+    /// Whether there may be any.
+    pub(crate) fn any(&self) -> bool
+        ensures { result ≡ false → (k : ℕ) → is_hole self.now k ≡ false }
+    {
+        self.any
+    }
+
+    /// Whether a byte is one.
+    pub(crate) fn has(&self, number: usize) -> bool
+        requires { number < 4096 }
+        ensures { result ≡ is_hole self.now number }
+    {
+        self.words[number / 64] & (1 << (number % 64)) != 0
+    }
+
+    // A byte is one from now on.
+    fn dig_one(&mut self, number: usize)
+        requires { number < 4096 }
+        ensures here { is_hole self.new number ≡ true }
+        ensures others { (k : ℕ) → k ≢ number → is_hole self.new k ≡ is_hole self.old k }
+    {
+        self.any = true;
+        self.words[number / 64] |= 1 << (number % 64);
+    }
+
+    /// The bytes of a range are such from now on.
+    pub(crate) fn dig(&mut self, start: usize, count: usize)
+        requires { start + count ≤ 4096 }
+        ensures { (k : ℕ) → is_hole self.new k ≡ (is_hole self.old k || lies_in start count k) }
+    {
+        for number in start..start + count {
+            self.dig_one(number);
+        }
+    }
+
+    /// No byte is one any more.
+    pub(crate) fn fill(&mut self)
+        ensures { (k : ℕ) → is_hole self.new k ≡ false }
+    {
+        if self.any {
+            self.words.as_mut_slice().fill(0);
+            self.any = false;
+        }
+    }
+}
