@@ -1,13 +1,13 @@
 ghost use Rattle.std.specs.Prelude.{◌≡◌, ◌≤◌, length};
 
 use crate::*;
-use bytes::Bytes;
 use export_store::Flat;
 use lone_export::{ArriveRefusal, Arrived, NotAttached, Step};
 use nbd_base::NoMemory;
 use nbd_commands::{Config, ExportConfig, ExportList, ExportSettings};
 use nbd_wire::protocol::{FLUSH, READ, WRITE};
 use nbd_wire::{Request, RequestHead};
+use payload::Payload;
 use reply_box::Taken;
 use std::alloc::{Allocator, Global};
 use std::collections::VecDeque;
@@ -55,15 +55,15 @@ fn head_of(kind: u16, length: u32) -> RequestHead
 }
 
 fn flush<A: Allocator>() -> Request<A> {
-    Request::new(head_of(FLUSH, 0), Bytes::new())
+    Request::new(head_of(FLUSH, 0), Payload::new())
 }
 
 fn read<A: Allocator>(length: u32) -> Request<A> {
-    Request::new(head_of(READ, length), Bytes::new())
+    Request::new(head_of(READ, length), Payload::new())
 }
 
 // None where the payload is longer than a WRITE's may be.
-fn write_of<A: Allocator>(payload: Bytes<A>) -> Option<Request<A>> {
+fn write_of<A: Allocator>(payload: Payload<A>) -> Option<Request<A>> {
     if payload.len() > 33_554_432 {
         return None;
     }

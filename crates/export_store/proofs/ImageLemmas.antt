@@ -1,21 +1,14 @@
 -- The image after one of its pages has changed: held, given back, or written.
-use Rattle.std.proofs.Common.{◌≡◌, ◌≢◌, ℕ, zero, suc, ◌+◌, ◌*◌, ◌/◌, ◌%◌, ◌<◌, ◌≤◌, inl, inr, true, false, is_some, unwrap_or, Option, Some, None, List, [], ◌++◌, length, take, replicate, min, refl, sym, ap, subst, ◌∙◌, arith, length-append}
-use Rattle.std.specs.Ordering.{nat_cmp, is_eq}
-use Rattle.std.specs.Cmp.{nat_cmp_is}
-use Rattle.std.specs.declared.cmp.Ordering.TheVariants.{Less, Greater}
-use Rattle.std.specs.BTreeMap.{BTreeMap, is_at, UpdatesBy}
-use Rattle.std.specs.BTreeMap.Range.{IsEntryInRange}
-use Rattle.std.specs.declared.ops.Bound.TheVariants.{Included, Excluded}
-use Rattle.std.specs.List.{All}
-use Rattle.std.proofs.lemmas.Cmp.{ranked}
-use Rattle.std.proofs.lemmas.List.Elements.{All-weaker}
-use Rattle.std.proofs.lemmas.Bool.{cases_lt, cases_eq}
+use Rattle.std.proofs.Common.{◌≡◌, ◌≢◌, ℕ, zero, suc, ◌+◌, ◌*◌, ◌/◌, ◌%◌, ◌<◌, ◌≤◌, inl, inr, true, false, is_some, unwrap_or, Option, Some, None, List, ◌++◌, length, take, drop, replicate, min, refl, sym, ap, subst, ◌∙◌, arith, length-append}
+use Rattle.std.proofs.lemmas.Bool.{cases_eq}
 use Rattle.std.proofs.lemmas.Bool.Decides.{nat_tests}
 use Rattle.std.proofs.lemmas.List.{length-take, length-replicate, replicate-append-replicate, take-replicate}
-use Rattle.export_store.specs.Bytes.{range_of, overwritten}
-use Rattle.export_store.specs.Pages.{Pages, zero_page, held_page, is_held, page_of, in_a_row, image_of, IsPaged, lies_whole_in}
-use Rattle.export_store.proofs.Overwriting.{overwritten-all, take-overwritten, range_of-take, range_of-zeros, zeros_stay, zeroed_front}
-use Rattle.export_store.proofs.PageLemmas.{length-in_a_row, same_row, range_of-in_a_row, overwritten-in_a_row}
+use Rattle.payload.specs.Bytes.{range_of, overwritten}
+use Rattle.payload.specs.Rows.{zero_page}
+use Rattle.export_store.specs.Table.{in_table, cleared}
+use Rattle.export_store.specs.Pages.{Pages, held_page, is_held, page_of, in_a_row, image_of, IsPaged, lies_whole_in}
+use Rattle.payload.proofs.Overwriting.{overwritten-all, take-overwritten, range_of-take, zeros_stay, zeroed_front}
+use Rattle.export_store.proofs.PageLemmas.{length-in_a_row, same_row, range_of-in_a_row, range_of-pages, overwritten-in_a_row}
 
 pub length-zero_page : length zero_page ≡ 4096
 unfolding zero_page
@@ -25,6 +18,11 @@ length-zero_page = length-replicate {A = ℕ} 4096 0
 zero_page_is : (n : ℕ) → n ≡ 4096 → zero_page ≡ replicate n 0
 unfolding zero_page
 zero_page_is n e = ap (λ (k : ℕ). replicate k 0) (sym e)
+
+-- a part of one
+pub zeros_of : (zeros : List ℕ) (count : ℕ) → zeros ≡ zero_page → count ≤ 4096 → take count zeros ≡ replicate count 0
+zeros_of zeros count is within =
+    ap (take count) (is ∙ zero_page_is (length zero_page) length-zero_page) ∙ take-replicate count (length zero_page) 0 (omega (arith, length-zero_page))
 
 -- a whole page that is made zero
 pub cleared_whole : (page : List ℕ) (start count : ℕ) → length page ≡ 4096 → start + count ≤ 4096 → count ≡ 4096 → zero_page ≡ overwritten page start count (replicate count 0)
@@ -42,17 +40,10 @@ pub record Changes (old new : Pages) (number : ℕ) (page : Option (List ℕ)) :
   pub here : held_page new number ≡ page
   pub others : (k : ℕ) → k ≢ number → held_page new k ≡ held_page old k
 
-at_other : (k q : ℕ) → q ≢ k → is_at (nat_cmp k) q ≡ false
-at_other k q apart =
-    elim (cases_lt k q) [
-      | inl lt ↦ ap is_eq (sym (nat_cmp_is k q Less lt))
-      | inr le ↦ let lt : q < k = omega arith in ap is_eq (sym (nat_cmp_is k q Greater lt))
-    ]
-
--- what a map of pages is after a change at one number
-pub changes : (size : ℕ) (m n : BTreeMap ℕ (List ℕ)) (number : ℕ) (page : Option (List ℕ)) → UpdatesBy nat_cmp (nat_cmp number) m n page
-    → Changes (record { size = size; held = m.entries }) (record { size = size; held = n.entries }) number page
-changes size m n number page updates = record { size = refl; here = updates.1; others = λ k apart. updates.2 k (at_other number k apart) }
+-- what a table of pages is after a change at one number
+pub changes : (size : ℕ) (m n : List (ℕ × List (Option (List ℕ)))) (number : ℕ) (page : Option (List ℕ)) → in_table n number ≡ page
+    → ((k : ℕ) → k ≢ number → in_table n k ≡ in_table m k) → Changes (record { size = size; chunks = m }) (record { size = size; chunks = n }) number page
+changes size m n number page here others = record { size = refl; here = here; others = others }
 
 module _ (old new : Pages) (number : ℕ) (page : Option (List ℕ)) (change : Changes old new number page) where
   pub page_here : page_of new number ≡ unwrap_or page zero_page
@@ -103,6 +94,20 @@ range_of-image pages is at n one within =
     range_of-take pages.size row at n (omega arith) (omega arith)
     ∙ ap (λ (k : ℕ). range_of row k n) (sym place)
     ∙ range_of-in_a_row (page_of pages) is.whole count (at / 4096) (at % 4096) n (omega arith) one
+
+-- a range that lies in the pages from one on before an end
+pub range_of-several : (pages : Pages) → IsPaged pages → (at n first end : ℕ) → at + n ≤ length (image_of pages) → first ≡ at / 4096 → at + n ≤ 4096 * end
+    → range_of (drop (4096 * first) (in_a_row (page_of pages) end)) (at % 4096) n ≡ range_of (image_of pages) at n
+unfolding image_of
+range_of-several pages is at n first end within begins ends =
+    let count : ℕ = pages.size / 4096 + 1 in
+    let row : List ℕ = in_a_row (page_of pages) count in
+    let long : length row ≡ 4096 * count = length-in_a_row (page_of pages) is.whole count in
+    let cut : length (take pages.size row) ≡ min pages.size (length row) = length-take pages.size row in
+    let place : 4096 * first + at % 4096 ≡ at = omega arith in
+    range_of-pages (page_of pages) is.whole first end count (at % 4096) n (omega arith) (omega arith)
+    ∙ ap (λ (k : ℕ). range_of row k n) place
+    ∙ sym (range_of-take pages.size row at n (omega arith) (omega arith))
 
 -- the image after a page has become held
 pub image_held : (old new : Pages) (number : ℕ) → Changes old new number (Some zero_page) → is_held old number ≡ false → image_of new ≡ image_of old
@@ -166,51 +171,25 @@ zeros_in_a_row page none (suc count) =
     ap (λ (xs : List ℕ). xs ++ page count) (zeros_in_a_row page none count) ∙ ap (λ (ys : List ℕ). replicate (length front) 0 ++ ys) last in
     rw length-append (both ∙ replicate-append-replicate (length front) (length (page count)) 0)
 
-pub IsPaged-none : (pages : Pages) → pages.held ≡ [] → IsPaged pages
+pub IsPaged-none : (pages : Pages) → ((k : ℕ) → held_page pages k ≡ None) → IsPaged pages
 IsPaged-none pages none = record {
-  whole = λ k. ap (λ (held : List (ℕ × List ℕ)). length (page_of (record { size = pages.size; held = held }) k)) none ∙ length-zero_page;
-  within = λ k held. let bad : false ≡ true = ap (λ (es : List (ℕ × List ℕ)). is_held (record { size = pages.size; held = es }) k) (sym none) ∙ held in absurd (cc);
+  whole = λ k. ap (λ (p : Option (List ℕ)). length (unwrap_or p zero_page)) (none k) ∙ length-zero_page;
+  within = λ k held. let bad : false ≡ true = ap is_some (sym (none k)) ∙ held in absurd (cc);
 }
 
-pub image_of-none : (pages : Pages) → pages.held ≡ [] → image_of pages ≡ replicate pages.size 0
+pub image_of-none : (pages : Pages) → ((k : ℕ) → held_page pages k ≡ None) → image_of pages ≡ replicate pages.size 0
 unfolding image_of
 image_of-none pages none =
     let count : ℕ = pages.size / 4096 + 1 in
     let row : List ℕ = in_a_row (page_of pages) count in
-    let zeros : row ≡ replicate (length row) 0 = zeros_in_a_row (page_of pages) (λ k. ap (λ (held : List (ℕ × List ℕ)). page_of (record { size = pages.size; held = held }) k) none) count in
+    let zeros : row ≡ replicate (length row) 0 = zeros_in_a_row (page_of pages) (λ k. ap (λ (p : Option (List ℕ)). unwrap_or p zero_page) (none k)) count in
     let long : length row ≡ 4096 * count = length-in_a_row (page_of pages) (IsPaged-none pages none).whole count in
     ap (take pages.size) zeros ∙ take-replicate pages.size (length row) 0 (omega arith)
-
--- an entry of a page before an end, which is held
-abbrev pub IsHeldBefore : Pages → ℕ → ℕ × List ℕ → Type 0
-IsHeldBefore pages end e = (e.0 < end) × (is_held pages e.0 ≡ true)
-
--- what a map of pages has between two numbers
-pub held_between : (size first end : ℕ) (m : BTreeMap ℕ (List ℕ)) (now : Pages) → record { size = size; held = m.entries } ≡ now
-    → (entries : List (ℕ × List ℕ)) → All (IsEntryInRange nat_cmp (Included first) (Excluded end) m) entries → All (IsHeldBefore now end) entries
-held_between size first end m now seen entries between =
-    All-weaker (IsEntryInRange nat_cmp (Included first) (Excluded end) m) (IsHeldBefore now end)
-    (λ e i. (ranked e.0 end Less (sym i.0.1), ap (λ (p : Pages). is_held p e.0) (sym seen) ∙ ap is_some i.1)) entries between
 
 -- The same of an image as its fields were found, where `now` is what contracts see of it.
 module _ (found now : Pages) (seen : found ≡ now) (is : IsPaged found) where
   pub length_seen : length (image_of now) ≡ found.size
   length_seen = ap (λ (p : Pages). length (image_of p)) (sym seen) ∙ length-image_of found is
-
-  -- what is read of one page
-  pub read_held : (at n : ℕ) (page : List ℕ) → at % 4096 + n ≤ 4096 → at + n ≤ length (image_of now) → Some page ≡ held_page found (at / 4096) → range_of (image_of now) at n ≡ range_of page (at % 4096) n
-  read_held at n page one within there =
-      let here : page_of found (at / 4096) ≡ page = ap (λ (p : Option (List ℕ)). unwrap_or p zero_page) (sym there) in
-      let room : at + n ≤ length (image_of found) = rw seen within in
-      ap (λ (p : Pages). range_of (image_of p) at n) (sym seen) ∙ range_of-image found is at n one room ∙ ap (λ (p : List ℕ). range_of p (at % 4096) n) here
-
-  pub read_absent : (at n : ℕ) → at % 4096 + n ≤ 4096 → at + n ≤ length (image_of now) → None ≡ held_page found (at / 4096) → range_of (image_of now) at n ≡ replicate n 0
-  read_absent at n one within absent =
-      let here : page_of found (at / 4096) ≡ zero_page = ap (λ (p : Option (List ℕ)). unwrap_or p zero_page) (sym absent) in
-      let room : at + n ≤ length (image_of found) = rw seen within in
-      ap (λ (p : Pages). range_of (image_of p) at n) (sym seen) ∙ range_of-image found is at n one room
-      ∙ ap (λ (p : List ℕ). range_of p (at % 4096) n) (here ∙ zero_page_is (length zero_page) length-zero_page)
-      ∙ range_of-zeros (length zero_page) (at % 4096) n (omega (arith, length-zero_page))
 
   -- a write to one page that is held
   pub image_put : (new : Pages) (at n : ℕ) (bytes page written : List ℕ) → n ≡ length bytes → at % 4096 + n ≤ 4096 → at + n ≤ length (image_of now) → Some page ≡ held_page found (at / 4096)
@@ -233,6 +212,28 @@ module _ (found now : Pages) (seen : found ≡ now) (is : IsPaged found) where
       let same : page_of found (at / 4096) ≡ overwritten (page_of found (at / 4096)) (at % 4096) (length (replicate n 0)) (replicate n 0) = rw (here, ← count) (zeros_of_page (at % 4096) n one) in
       let all : image_of found ≡ overwritten (image_of found) at (length (replicate n 0)) (replicate n 0) = image_written found found at (replicate n 0) is refl fits room same (λ k _. refl) in
       rw (← seen) (subst (λ (m : ℕ). image_of found ≡ overwritten (image_of found) at m (replicate n 0)) (sym count) all)
+
+  -- a range of a page that is made zero, whether it is held or not
+  cleared_page : (new : Pages) (at n : ℕ) (page : Option (List ℕ)) → page ≡ held_page found (at / 4096) → new.size ≡ found.size → at % 4096 + n ≤ 4096 → at + n ≤ length (image_of now)
+      → held_page new (at / 4096) ≡ cleared (at % 4096) n page → ((k : ℕ) → k ≢ at / 4096 → held_page new k ≡ held_page found k) → image_of new ≡ overwritten (image_of now) at n (replicate n 0)
+  cleared_page new at n None there size one within here others =
+      same_image found new size (λ k. ap (λ (p : Option (List ℕ)). unwrap_or p zero_page) (elim (cases_eq k (at / 4096)) [
+        | inl e ↦ ap (held_page new) e ∙ here ∙ there ∙ ap (held_page found) (sym e)
+        | inr apart ↦ others k apart
+      ]))
+      ∙ ap image_of seen ∙ image_zero at n one within there
+  cleared_page new at n (Some page) there size one within here others =
+      image_put new at n (replicate n 0) page (overwritten page (at % 4096) n (replicate n 0)) (sym (length-replicate {A = ℕ} n 0)) one within there
+      (record { size = size; here = here; others = others }) refl
+
+  pub image_cleared : (new : Pages) (at n : ℕ) → new.size ≡ found.size → at % 4096 + n ≤ 4096 → at + n ≤ length (image_of now)
+      → held_page new (at / 4096) ≡ cleared (at % 4096) n (held_page found (at / 4096)) → ((k : ℕ) → k ≢ at / 4096 → held_page new k ≡ held_page found k)
+      → image_of new ≡ overwritten (image_of now) at n (replicate n 0)
+  image_cleared new at n = cleared_page new at n (held_page found (at / 4096)) refl
+
+  -- where no page has changed
+  pub image_same : (new : Pages) → new.size ≡ found.size → ((k : ℕ) → held_page new k ≡ held_page found k) → image_of new ≡ image_of now
+  image_same new size same = same_image found new size (λ k. ap (λ (p : Option (List ℕ)). unwrap_or p zero_page) (same k)) ∙ ap image_of seen
 
   -- a page that becomes held
   pub image_hold : (new : Pages) (number : ℕ) (page : List ℕ) → page ≡ zero_page → Changes found new number (Some page) → is_held found number ≡ false → image_of new ≡ image_of now

@@ -1,8 +1,8 @@
-pub mod BytesLemmas
-pub mod Overwriting
 pub mod PageLemmas
 pub mod HolesLemmas
 pub mod ShownLemmas
+pub mod TableLemmas
 pub mod ImageLemmas
 pub mod PieceLemmas
 pub mod RangeLemmas
+pub mod FlatLemmas

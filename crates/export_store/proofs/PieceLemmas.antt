@@ -1,24 +1,24 @@
 -- A page after a piece is written, and the image after each page is.
-use Rattle.std.proofs.Common.{◌≡◌, ◌≢◌, ℕ, zero, suc, ◌+◌, ◌-◌, ◌*◌, ◌/◌, ◌%◌, ◌<◌, ◌≤◌, ◌&&◌, Bool, true, false, nat_le, nat_lt, if◌then◌else◌, inl, inr, List, [], ◌∷◌, ◌++◌, length, take, min, get_or, slice_range, refl, sym, ap, ◌∙◌, arith, rules, length-append}
+use Rattle.std.proofs.Common.{◌≡◌, ◌≢◌, ℕ, zero, suc, ◌+◌, ◌-◌, ◌*◌, ◌/◌, ◌%◌, ◌<◌, ◌≤◌, ◌&&◌, Bool, true, false, nat_le, nat_lt, if◌then◌else◌, inl, inr, List, [], ◌∷◌, ◌++◌, length, take, min, get_or, refl, sym, ap, ◌∙◌, arith, rules, length-append}
 use Rattle.std.specs.Int.{div_ceil}
 use Rattle.std.proofs.lemmas.Bool.{cases_lt, cases_eq}
 use Rattle.std.proofs.lemmas.Bool.Decides.{nat_tests}
 use Rattle.std.proofs.lemmas.List.{places, same_lists, length-take}
-use Rattle.export_store.specs.Bytes.{range_of, overwritten}
+use Rattle.payload.specs.Bytes.{range_of, overwritten}
 use Rattle.export_store.specs.Pages.{Pages, IsPaged, page_of, in_a_row, image_of, part_in, page_after, pages_after, has_byte_of}
-use Rattle.export_store.proofs.Overwriting.{overwritten-all, take-overwritten}
+use Rattle.payload.proofs.Overwriting.{overwritten-all, take-overwritten}
 use Rattle.export_store.proofs.RangeLemmas.{byte_places}
-use Rattle.export_store.proofs.PageLemmas.{AreWhole, length-in_a_row}
+use Rattle.export_store.proofs.PageLemmas.{AreWhole, length-in_a_row, at_row}
 
--- a part by where it begins and ends
-pub part_is : (piece : List ℕ) (from count : ℕ) → from ≤ length piece → slice_range piece from (min (length piece) (from + count)) ≡ range_of piece from count
+-- a part that ends with the piece
+part_is : (piece : List ℕ) (from count : ℕ) → from ≤ length piece → range_of piece from (min (length piece - from) count) ≡ range_of piece from count
 part_is piece from count within = same_lists _ _ (search (rules, places)) (λ k d h. grind (arith, places))
 
 length-part : (offset : ℕ) (piece : List ℕ) (number : ℕ) → length (part_in offset piece number) ≡ min (4096 - (offset - 4096 * number)) (length piece - (4096 * number - offset))
 length-part offset piece number = grind (arith, places)
 
 -- a page that lies whole in the piece
-pub page_whole : (offset : ℕ) (piece : List ℕ) (number : ℕ) (page : List ℕ) → length page ≡ 4096 → length (part_in offset piece number) ≡ 4096 → page_after offset piece number page ≡ part_in offset piece number
+page_whole : (offset : ℕ) (piece : List ℕ) (number : ℕ) (page : List ℕ) → length page ≡ 4096 → length (part_in offset piece number) ≡ 4096 → page_after offset piece number page ≡ part_in offset piece number
 unfolding page_after
 page_whole offset piece number page whole full =
     let start : offset - 4096 * number ≡ 0 = omega (arith, length-part offset piece number) in
@@ -37,18 +37,6 @@ at_page : (offset : ℕ) (piece : List ℕ) (number : ℕ) (page : List ℕ) (k 
     → get_or (page_after offset piece number page) k d ≡ (if nat_le offset (4096 * number + k) && nat_lt (4096 * number + k) (offset + length piece) then get_or piece (4096 * number + k - offset) d else get_or page k d)
 unfolding page_after
 at_page offset piece number page k d whole below = grind (arith, places, nat_tests)
-
--- the bytes of pages in a row
-at_row : (page : ℕ → List ℕ) → AreWhole page → (count k d : ℕ) → k < 4096 * count → get_or (in_a_row page count) k d ≡ get_or (page (k / 4096)) (k % 4096) d
-at_row page whole zero k d below = absurd (omega arith)
-at_row page whole (suc count) k d below =
-    let long = length-in_a_row page whole count in
-    elim (cases_lt k (4096 * count)) [
-      | inl lt ↦ grind (arith, places, at_row page whole count k d lt)
-      | inr le ↦ let here : k / 4096 ≡ count = omega arith in
-          let place : k % 4096 ≡ k - 4096 * count = omega arith in
-          rw (here, place) (grind (arith, places))
-    ]
 
 pub length-page_after : (offset : ℕ) (piece : List ℕ) (number : ℕ) (page : List ℕ) → length page ≡ 4096 → length (page_after offset piece number page) ≡ 4096
 unfolding page_after
@@ -87,21 +75,35 @@ image_after old new offset piece is size within written =
     let cut : length (take old.size row) ≡ min old.size (length row) = length-take old.size row in
     rw (size, row_after (page_of old) (page_of new) is.whole offset piece count (omega arith) written) (take-overwritten old.size row piece offset (omega arith) (omega arith))
 
--- what a page gets of the piece, as it is found
-pub part_found : (offset : ℕ) (piece : List ℕ) (number begin start from end upto : ℕ) → has_byte_of offset (length piece) number ≡ true → begin ≡ number * 4096 → start ≡ offset - begin → from ≡ begin - offset
-    → end ≡ offset + length piece → upto ≡ min (end - offset) (from + (4096 - start)) → slice_range piece from upto ≡ part_in offset piece number
-part_found offset piece number begin start from end upto touched begins starts comes ends goes =
-    let inside = byte_places offset (length piece) number touched in
-    let here : begin ≡ 4096 * number = omega arith in
-    let first : from ≡ 4096 * number - offset = omega arith in
-    let last : upto ≡ min (length piece) (4096 * number - offset + (4096 - (offset - 4096 * number))) = omega arith in
-    rw (first, last) (part_is piece (4096 * number - offset) (4096 - (offset - 4096 * number)) (omega (arith, inside.1)))
+-- What a page gets of the piece, as it is found.
+module _ (offset : ℕ) (piece : List ℕ) (number begin start from end count : ℕ) (touched : has_byte_of offset (length piece) number ≡ true) (begins : begin ≡ number * 4096) (starts : start ≡ offset - begin)
+    (comes : from ≡ begin - offset) (ends : end ≡ offset + length piece) (goes : count ≡ min (end - offset - from) (4096 - start)) where
+  part_size : count ≡ min (length piece - (4096 * number - offset)) (4096 - (offset - 4096 * number))
+  part_size = omega arith
 
-pub page_changed : (offset : ℕ) (piece : List ℕ) (number start : ℕ) (page part : List ℕ) → start ≡ offset - number * 4096 → part ≡ part_in offset piece number → overwritten page start (length part) part ≡ page_after offset piece number page
-unfolding page_after
-page_changed offset piece number start page part starts is =
-    let here : start ≡ offset - 4096 * number = omega arith in
-    rw (here, is) refl
+  pub part_long : count ≡ length (part_in offset piece number)
+  part_long = omega (arith, part_size, length-part offset piece number)
+
+  part_found : range_of piece from count ≡ part_in offset piece number
+  part_found =
+      let inside = byte_places offset (length piece) number touched in
+      let first : from ≡ 4096 * number - offset = omega arith in
+      rw (first, part_size) (part_is piece (4096 * number - offset) (4096 - (offset - 4096 * number)) (omega (arith, inside.1)))
+
+  pub page_changed : (page : List ℕ) → overwritten page start count (range_of piece from count) ≡ page_after offset piece number page
+  unfolding page_after
+  page_changed page =
+      let part : List ℕ = part_in offset piece number in
+      let here : start ≡ offset - 4096 * number = omega arith in
+      ap (λ (bytes : List ℕ). overwritten page start count bytes) part_found
+      ∙ ap (λ (n : ℕ). overwritten page start n part) part_long
+      ∙ ap (λ (at : ℕ). overwritten page at (length part) part) here
+
+  -- what stood in it doesn't matter where the piece covers it
+  pub page_covered : count ≡ 4096 → (page other : List ℕ) → length page ≡ 4096 → length other ≡ 4096 → page_after offset piece number page ≡ page_after offset piece number other
+  page_covered full page other whole all =
+      let covered : length (part_in offset piece number) ≡ 4096 = sym part_long ∙ full in
+      page_whole offset piece number page whole covered ∙ sym (page_whole offset piece number other all covered)
 
 -- one more page that is ready
 pub next_page : (page : ℕ → List ℕ) (offset : ℕ) (piece : List ℕ) (first number : ℕ) → first ≤ number

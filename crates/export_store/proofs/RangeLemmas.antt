@@ -1,5 +1,5 @@
 -- Which pages lie whole in a range or have a byte of it, and which of them are held after some were given back or made.
-use Rattle.std.proofs.Common.{◌≡◌, ℕ, ◌+◌, ◌*◌, ◌/◌, ◌<◌, ◌≤◌, ◌⊎◌, inl, inr, Bool, true, false, ◌&&◌, not, nat_lt, nat_le, nat_eq, min, max, refl, sym, ap, arith}
+use Rattle.std.proofs.Common.{◌≡◌, ℕ, ◌+◌, ◌*◌, ◌/◌, ◌<◌, ◌≤◌, ◌⊎◌, inl, inr, Bool, true, false, ◌||◌, ◌&&◌, not, nat_lt, nat_le, nat_eq, min, max, refl, sym, ap, arith}
 use Rattle.std.specs.Int.{div_ceil}
 use Rattle.std.proofs.lemmas.Bool.{cases_lt, cases_eq}
 use Rattle.std.proofs.lemmas.Bool.Decides.{nat_tests}
@@ -27,6 +27,16 @@ pub held_step : (old : Bool) (offset number k : ℕ) → offset ≤ 4096 * numbe
     → (old && not (nat_le offset (4096 * k) && nat_lt k number)) && not (nat_eq k number) ≡ old && not (nat_le offset (4096 * k) && nat_lt k (number + 1))
 held_step false offset number k above = refl
 held_step true offset number k above =
+    elim (cases_lt k number) [
+      | inl lt ↦ grind (arith, nat_tests)
+      | inr le ↦ elim (cases_eq k number) [ inl e ↦ grind (arith, nat_tests) | inr apart ↦ grind (arith, nat_tests) ]
+    ]
+
+-- what is held after one more page has become held
+pub hold_step : (old : Bool) (first number k : ℕ) → first ≤ number
+    → (old || (nat_le first k && nat_lt k number)) || nat_eq k number ≡ old || (nat_le first k && nat_lt k (number + 1))
+hold_step true first number k above = refl
+hold_step false first number k above =
     elim (cases_lt k number) [
       | inl lt ↦ grind (arith, nat_tests)
       | inr le ↦ elim (cases_eq k number) [ inl e ↦ grind (arith, nat_tests) | inr apart ↦ grind (arith, nat_tests) ]

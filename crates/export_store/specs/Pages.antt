@@ -1,26 +1,27 @@
 -- An image in pages, of which some are held in memory.
-use Rattle.std.specs.Prelude.{◌≡◌, ℕ, zero, suc, ◌+◌, ◌-◌, ◌*◌, ◌/◌, ◌<◌, Bool, true, ◌&&◌, nat_lt, nat_le, min, is_some, unwrap_or, Option, List, [], ◌∷◌, ◌++◌, length, take, replicate}
-use Rattle.std.specs.Ordering.{nat_cmp}
-use Rattle.std.specs.BTreeMap.{is_at}
-use Rattle.std.specs.Map.{lookup}
-use Rattle.export_store.specs.Bytes.{range_of, overwritten}
+use Rattle.std.specs.Prelude.{◌≡◌, ℕ, zero, suc, ◌+◌, ◌-◌, ◌*◌, ◌/◌, ◌<◌, Bool, true, ◌&&◌, nat_lt, nat_le, min, is_some, unwrap_or, Option, List, [], ◌∷◌, ◌++◌, length, take}
+use Rattle.std.specs.Int.{div_ceil}
+use Rattle.std.specs.List.{filter, range_with_len}
+use Rattle.payload.specs.Bytes.{range_of, overwritten}
+use Rattle.payload.specs.Rows.{zero_page}
+use Rattle.export_store.specs.Table.{in_table}
 
--- how many bytes an image has, and the pages that are held: each with its number, from 0, in that order
+-- how many bytes an image has, and the pages that are held, in chunks: each has its number, from 0
 pub record Pages : Type 0 where
   pub size : ℕ
-  pub held : List (ℕ × List ℕ)
-
--- a page of zeros
-unfoldable pub zero_page : List ℕ
-zero_page = replicate 4096 0
+  pub chunks : List (ℕ × List (Option (List ℕ)))
 
 -- the page that is held under a number
 abbrev pub held_page : Pages → ℕ → Option (List ℕ)
-held_page pages number = lookup (is_at (nat_cmp number)) pages.held
+held_page pages number = in_table pages.chunks number
 
 -- whether a page is held
 abbrev pub is_held : Pages → ℕ → Bool
 is_held pages number = is_some (held_page pages number)
+
+-- the numbers of the pages that are held
+abbrev pub held_pages : Pages → List ℕ
+held_pages pages = filter (is_held pages) (range_with_len 0 (div_ceil pages.size 4096))
 
 -- the bytes of a page, whether it is held or not
 abbrev pub page_of : Pages → ℕ → List ℕ

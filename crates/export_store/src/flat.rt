@@ -1,16 +1,17 @@
-ghost use Rattle.std.specs.Prelude.{◌≡◌, ◌+◌, ◌≤◌, ◌++◌, length, replicate, IfOk, IsOk, OnOk, OnErr};
+ghost use Rattle.std.specs.Prelude.{◌≡◌, ◌+◌, ◌≤◌, length, replicate, IfOk, IsOk, OnOk, OnErr};
 ghost use Rattle.std.specs.Bool.{OnFalse};
-ghost use Rattle.export_store.specs.Bytes.{range_of, overwritten};
+ghost use Rattle.payload.specs.Bytes.{range_of, overwritten};
 
 use crate::image::Image;
-use bytes::Bytes;
 use nbd_base::NoMemory;
+use payload::Payload;
 use std::alloc::Allocator;
 use std::marker::Model;
 
 /// An image in one piece. Its memory is all there from the start, so `write` and `zero` never fail.
 #[derive(Drop)]
 pub struct Flat<A: Allocator + Copy> {
+    alloc: A,
     kept: Vec<u8, A>,
 }
 
@@ -22,6 +23,27 @@ impl<A: Allocator + Copy> Model for Flat<A> {
     ghost view = { λ flat. flat.kept.items };
 }
 
+// Puts bytes in place of those from one on.
+fn put(kept: &mut [u8], begin: usize, part: &[u8])
+    requires { begin + length part.now ≤ length kept.old }
+    ensures { kept.new ≡ overwritten kept.old begin (length part.now) part.now }
+{
+    kept[begin..begin + part.len()].copy_from_slice(part);
+}
+
+// Puts a payload in place of the bytes from the offset on.
+fn put_all<A: Allocator + Copy>(kept: &mut [u8], offset: usize, piece: &Payload<A>)
+    requires { offset + length piece.now ≤ length kept.old }
+    ensures { kept.new ≡ overwritten kept.old offset (length piece.now) piece.now }
+{
+    let mut at = 0;
+    while at < piece.len() {
+        let part = piece.from(at);
+        put(kept, offset + at, part);
+        at += part.len();
+    }
+}
+
 impl<A: Allocator + Copy> Image for Flat<A> {
     type Alloc = A;
 
@@ -29,33 +51,28 @@ impl<A: Allocator + Copy> Image for Flat<A> {
 
     fn zeros(alloc: A, size: usize) -> Result<Flat<A>, NoMemory> {
         let kept = Vec::from_elem(alloc, 0, size)?;
-        Ok(Flat { kept })
+        Ok(Flat { alloc, kept })
     }
 
     fn size(&self) -> usize {
         self.kept.len()
     }
 
-    fn read(&self, offset: usize, count: usize, out: &mut Vec<u8, A>) -> Result<(), NoMemory> {
-        out.extend_from_slice(&self.kept[offset..offset + count])?;
-        Ok(())
+    fn read(&self, offset: usize, count: usize) -> Result<Payload<A>, NoMemory> {
+        Payload::copied(
+            self.alloc,
+            offset as u64,
+            &self.kept[offset..offset + count],
+        )
     }
 
-    fn write(&mut self, offset: usize, piece: &[u8]) -> Result<(), NoMemory>
+    fn write(&mut self, offset: usize, piece: &Payload<A>) -> Result<(), NoMemory>
         requires { offset + length piece.now ≤ length self.old }
         ensures never_fails { IsOk result }
         ensures written { self.new ≡ overwritten self.old offset (length piece.now) piece.now }
     {
-        self.kept[offset..offset + piece.len()].copy_from_slice(piece);
+        put_all(self.kept.as_mut_slice(), offset, piece);
         Ok(())
-    }
-
-    fn write_shared(&mut self, offset: usize, piece: &Bytes<A>) -> Result<(), NoMemory>
-        requires { offset + length piece.now ≤ length self.old }
-        ensures never_fails { IsOk result }
-        ensures written { self.new ≡ overwritten self.old offset (length piece.now) piece.now }
-    {
-        self.write(offset, piece.as_slice())
     }
 
     fn zero(&mut self, offset: usize, count: usize, _keep: bool) -> Result<(), NoMemory>

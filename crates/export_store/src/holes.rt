@@ -1,5 +1,5 @@
-ghost use Rattle.std.specs.Prelude.{◌≡◌, ◌≢◌, ℕ, ◌+◌, ◌<◌, ◌≤◌, ◌||◌, true, false, IfOk};
-ghost use Rattle.export_store.specs.Holes.{is_hole, lies_in};
+ghost use Rattle.std.specs.Prelude.{◌≡◌, ◌≢◌, ℕ, ◌+◌, ◌<◌, ◌≤◌, ◌||◌, if◌then◌else◌, true, false, IfOk};
+ghost use Rattle.export_store.specs.Holes.{is_hole, lies_in, shown};
 
 use nbd_base::NoMemory;
 use std::alloc::Allocator;
@@ -57,6 +57,24 @@ impl<A: Allocator + Copy> Holes<A> {
     {
         self.any = true;
         self.words[number / 64] |= 1 << (number % 64);
+    }
+
+    // A byte with this number, or zero where it is one.
+    fn show_one(&self, number: usize, byte: u8) -> u8
+        requires { number < 4096 }
+        ensures { result ≡ (if is_hole self.now number then 0 else byte) }
+    {
+        if self.has(number) { 0 } else { byte }
+    }
+
+    /// The bytes of a page, with zeros for those that are such.
+    pub(crate) fn show(&self, mut bytes: [u8; 4096]) -> [u8; 4096]
+        ensures { result ≡ shown self.now bytes }
+    {
+        for number in 0..4096usize {
+            bytes[number] = self.show_one(number, bytes[number]);
+        }
+        bytes
     }
 
     /// The bytes of a range are such from now on.

@@ -1,9 +1,9 @@
-ghost use Rattle.std.specs.Prelude.{◌≡◌, ℕ, ◌+◌, ◌≤◌, List, ◌++◌, length, replicate, IfOk, IsOk, OnOk, OnErr};
+ghost use Rattle.std.specs.Prelude.{◌≡◌, ℕ, ◌+◌, ◌≤◌, List, length, replicate, IfOk, IsOk, OnOk, OnErr};
 ghost use Rattle.std.specs.Bool.{OnFalse};
-ghost use Rattle.export_store.specs.Bytes.{range_of, overwritten};
+ghost use Rattle.payload.specs.Bytes.{range_of, overwritten};
 
-use bytes::Bytes;
 use nbd_base::NoMemory;
+use payload::Payload;
 use std::alloc::Allocator;
 
 /// The bytes of an export, however they are kept. What a contract sees of an image is the list of its bytes.
@@ -23,26 +23,13 @@ pub trait Image: Sized + Drop {
     fn size(&self) -> usize
         ensures { result ≡ length (bytes self.now) };
 
-    /// Appends a range of the bytes to `out`.
-    fn read(
-        &self,
-        offset: usize,
-        count: usize,
-        out: &mut Vec<u8, Self::Alloc>,
-    ) -> Result<(), NoMemory>
+    /// A range of the bytes, which may be shared with the image.
+    fn read(&self, offset: usize, count: usize) -> Result<Payload<Self::Alloc>, NoMemory>
         requires { offset + count ≤ length (bytes self.now) }
-        ensures read { OnOk result (out.new.items ≡ out.old.items ++ range_of (bytes self.now) offset count) }
-        ensures no_memory { OnErr result (out.new.items ≡ out.old.items) };
+        ensures { IfOk result (λ payload. payload ≡ range_of (bytes self.now) offset count) };
 
-    /// Puts the bytes in place of those from the offset on.
-    fn write(&mut self, offset: usize, piece: &[u8]) -> Result<(), NoMemory>
-        requires { offset + length piece.now ≤ length (bytes self.old) }
-        ensures written { OnOk result (bytes self.new
-            ≡ overwritten (bytes self.old) offset (length piece.now) piece.now) }
-        ensures no_memory { OnErr result (bytes self.new ≡ bytes self.old) };
-
-    /// As `write`, of bytes that others hold too. A form may keep a handle to them in place of a copy.
-    fn write_shared(&mut self, offset: usize, piece: &Bytes<Self::Alloc>) -> Result<(), NoMemory>
+    /// Puts a payload in place of the bytes from the offset on. A form may keep its pages in place of a copy.
+    fn write(&mut self, offset: usize, piece: &Payload<Self::Alloc>) -> Result<(), NoMemory>
         requires { offset + length piece.now ≤ length (bytes self.old) }
         ensures written { OnOk result (bytes self.new
             ≡ overwritten (bytes self.old) offset (length piece.now) piece.now) }

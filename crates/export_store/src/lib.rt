@@ -4,12 +4,12 @@
 //! held from the first write on. Offsets, counts and sizes are in bytes.
 #![tactic(auto)]
 
-mod content;
 mod flat;
 mod holes;
 mod image;
-mod page;
+mod leaf;
 mod paged;
+mod table;
 #[cfg(test)]
 mod tests;
 

@@ -1,19 +1,21 @@
 use crate::{Flat, Image, Paged};
-use bytes::Bytes;
 use nbd_base::NoMemory;
+use payload::Payload;
 use refusing::Refusing;
 use std::alloc::{Allocator, Global};
 
-// Writes at an offset, and says whether memory was there; false too where the range is past the end.
-fn writes<I: Image>(image: &mut I, offset: usize, piece: &[u8]) -> bool {
+// Writes a payload at an offset, and says whether memory was there; false too where the range is past the end.
+fn puts<I: Image>(image: &mut I, offset: usize, piece: &Payload<I::Alloc>) -> bool {
     let size = image.size();
     offset <= size && piece.len() <= size - offset && image.write(offset, piece).is_ok()
 }
 
-// Writes bytes that others hold too, likewise.
-fn shares<I: Image>(image: &mut I, offset: usize, piece: &Bytes<I::Alloc>) -> bool {
-    let size = image.size();
-    offset <= size && piece.len() <= size - offset && image.write_shared(offset, piece).is_ok()
+// Writes bytes, likewise.
+fn writes<I: Image>(alloc: I::Alloc, image: &mut I, offset: usize, bytes: &[u8]) -> bool {
+    match Payload::copied(alloc, offset as u64, bytes) {
+        Ok(piece) => puts(image, offset, &piece),
+        Err(NoMemory) => false,
+    }
 }
 
 // Makes a range zero, likewise.
@@ -28,7 +30,8 @@ fn changed<I: Image>(alloc: I::Alloc) -> Result<I, NoMemory> {
         Ok(image) => image,
         Err(NoMemory) => I::zeros(alloc, 6)?,
     };
-    let written = writes(&mut image, 1, &[1, 2, 3, 4]) || writes(&mut image, 1, &[1, 2, 3, 4]);
+    let bytes = [1, 2, 3, 4];
+    let written = writes(alloc, &mut image, 1, &bytes) || writes(alloc, &mut image, 1, &bytes);
     let zeroed = zeroes(&mut image, 2, 1, false);
     let kept = zeroes(&mut image, 3, 1, true) || zeroes(&mut image, 3, 1, true);
     if written && zeroed && kept {
@@ -38,10 +41,15 @@ fn changed<I: Image>(alloc: I::Alloc) -> Result<I, NoMemory> {
     }
 }
 
+// The bytes of an image. A call that found no memory is made again.
 fn all_of<I: Image>(alloc: I::Alloc, image: &I) -> Result<Vec<u8, I::Alloc>, NoMemory> {
+    let payload = match image.read(0, image.size()) {
+        Ok(payload) => payload,
+        Err(NoMemory) => image.read(0, image.size())?,
+    };
     let mut out = Vec::new(alloc);
-    if image.read(0, image.size(), &mut out).is_err() {
-        image.read(0, image.size(), &mut out)?;
+    if payload.append(&mut out).is_err() {
+        payload.append(&mut out)?;
     }
     Ok(out)
 }
@@ -93,7 +101,7 @@ fn held_after(image: &mut Paged<Global>, offset: usize, count: usize, keep: bool
 fn pages_are_held_and_given_back(rt: HostRuntime) -> Result<(), NoMemory> {
     let mut image: Paged<Global> = Paged::zeros(rt.alloc(), 12288)?;
     assert_eq!(rt; image.held(), 0);
-    assert!(rt; writes(&mut image, 4095, &[1, 2]));
+    assert!(rt; writes(rt.alloc(), &mut image, 4095, &[1, 2]));
     assert_eq!(rt; image.held(), 2);
     assert_eq!(rt; held_after(&mut image, 0, 4096, false), 1);
     assert_eq!(rt; held_after(&mut image, 0, 12288, true), 3);
@@ -107,7 +115,9 @@ fn pages_are_held_and_given_back(rt: HostRuntime) -> Result<(), NoMemory> {
 #[test]
 fn edges_of_a_range_are_overwritten(rt: HostRuntime) -> Result<(), NoMemory> {
     let mut image: Paged<Global> = Paged::zeros(rt.alloc(), 12288)?;
-    assert!(rt; writes(&mut image, 0, &[1, 2]) && writes(&mut image, 12286, &[3, 4]));
+    assert!(rt;
+        writes(rt.alloc(), &mut image, 0, &[1, 2]) && writes(rt.alloc(), &mut image, 12286, &[3, 4])
+    );
     assert_eq!(rt; held_after(&mut image, 1, 12286, false), 2);
     let bytes = all_of(rt.alloc(), &image)?;
     assert!(rt; bytes.first() == Some(&1) && bytes.last() == Some(&4));
@@ -120,7 +130,7 @@ fn edges_of_a_range_are_overwritten(rt: HostRuntime) -> Result<(), NoMemory> {
 #[test]
 fn the_last_page_is_short(rt: HostRuntime) -> Result<(), NoMemory> {
     let mut image: Paged<Global> = Paged::zeros(rt.alloc(), 5000)?;
-    assert!(rt; writes(&mut image, 4999, &[7]));
+    assert!(rt; writes(rt.alloc(), &mut image, 4999, &[7]));
     assert_eq!(rt; held_after(&mut image, 4096, 903, false), 1);
     assert_eq!(rt; held_after(&mut image, 4096, 904, false), 0);
     Ok(())
@@ -130,36 +140,36 @@ fn the_last_page_is_short(rt: HostRuntime) -> Result<(), NoMemory> {
 fn nothing_is_held_for_no_bytes(rt: HostRuntime) -> Result<(), NoMemory> {
     let mut image: Paged<Global> = Paged::zeros(rt.alloc(), 4097)?;
     for offset in [0, 100, 4096, 4097] {
-        assert!(rt; writes(&mut image, offset, &[]));
+        assert!(rt; writes(rt.alloc(), &mut image, offset, &[]));
         assert_eq!(rt; held_after(&mut image, offset, 0, true), 0);
     }
-    assert!(rt; writes(&mut image, 0, &[1]));
+    assert!(rt; writes(rt.alloc(), &mut image, 0, &[1]));
     assert_eq!(rt; held_after(&mut image, 0, 0, false), 1);
     Ok(())
 }
 
-// A hundred pages, more than one node of the map holds, written at once from the midst of one to that of another.
+// A hundred pages in two chunks, written at once from the midst of one page to that of another.
 #[test]
 fn a_write_goes_over_many_pages(rt: HostRuntime) -> Result<(), NoMemory> {
     let mut piece = Vec::new(rt.alloc());
     for n in 0..409_600u32 {
         piece.push((n % 251) as u8)?;
     }
-    let mut image: Paged<Global> = Paged::zeros(rt.alloc(), 1 << 20)?;
-    assert!(rt; writes(&mut image, 100, piece.as_slice()));
+    let mut image: Paged<Global> = Paged::zeros(rt.alloc(), 1 << 21)?;
+    assert!(rt; writes(rt.alloc(), &mut image, 819_300, piece.as_slice()));
     assert_eq!(rt; image.held(), 101);
     let bytes = all_of(rt.alloc(), &image)?;
-    let (front, rest) = bytes.as_slice().split_at_checked(100).ok_or(NoMemory)?;
+    let (front, rest) = bytes.as_slice().split_at_checked(819_300).ok_or(NoMemory)?;
     let (written, behind) = rest.split_at_checked(409_600).ok_or(NoMemory)?;
     assert!(rt; written == piece.as_slice() && are_zeros(front) && are_zeros(behind));
-    assert_eq!(rt; held_after(&mut image, 4096, 401_408, false), 3);
+    assert_eq!(rt; held_after(&mut image, 823_296, 401_408, false), 3);
     Ok(())
 }
 
 // Four pages, of which the one at a position alone is held.
 fn one_of_four_pages<A: Allocator + Copy>(alloc: A, held: usize) -> Option<Paged<A>> {
     let mut image: Paged<A> = Paged::zeros(alloc, 16384).ok()?;
-    if writes(&mut image, held, &[9]) {
+    if writes(alloc, &mut image, held, &[9]) {
         Some(image)
     } else {
         None
@@ -177,7 +187,7 @@ fn a_refused_write_changes_no_byte(rt: HostRuntime) -> Result<(), NoMemory> {
             let Some(mut image) = one_of_four_pages(&heap, held) else {
                 continue;
             };
-            written = writes(&mut image, 4095, piece.as_slice());
+            written = writes(&heap, &mut image, 4095, piece.as_slice());
             if heap.is_armed() {
                 break;
             }
@@ -187,7 +197,7 @@ fn a_refused_write_changes_no_byte(rt: HostRuntime) -> Result<(), NoMemory> {
                 !written && others == 1 && bytes.get(held) == Some(&9),
                 "at {nth}"
             );
-            assert!(rt; writes(&mut image, 4095, piece.as_slice()));
+            assert!(rt; writes(&heap, &mut image, 4095, piece.as_slice()));
             assert_eq!(rt; image.held(), 4);
             met = met.saturating_add(1);
         }
@@ -212,16 +222,24 @@ fn is_but<I: Image>(
     Ok(right.count() == image.size())
 }
 
-// Whether two images of two pages that share their bytes change apart.
+// A payload of so many sevens, the first of which has this offset in an image.
+fn sevens<A: Allocator + Copy>(
+    alloc: A,
+    offset: u64,
+    count: usize,
+) -> Result<Payload<A>, NoMemory> {
+    let bytes = Vec::from_elem(alloc, 7u8, count)?;
+    Payload::copied(alloc, offset, bytes.as_slice())
+}
+
+// Whether two images of two pages that hold the same payload change apart.
 fn change_apart<I: Image>(alloc: I::Alloc) -> Result<bool, NoMemory> {
-    let Ok(piece) = Bytes::from_vec(Vec::from_elem(alloc, 7u8, 8192)?) else {
-        return Err(NoMemory);
-    };
+    let piece = sevens(alloc, 0, 8192)?;
     let mut image = I::zeros(alloc, 8192)?;
     let mut other = I::zeros(alloc, 8192)?;
-    let shared = shares(&mut image, 0, &piece) && shares(&mut other, 0, &piece);
+    let shared = puts(&mut image, 0, &piece) && puts(&mut other, 0, &piece);
     drop(piece);
-    let changed = zeroes(&mut image, 100, 5000, false) && writes(&mut other, 5, &[1]);
+    let changed = zeroes(&mut image, 100, 5000, false) && writes(alloc, &mut other, 5, &[1]);
     let zeroed = is_but(alloc, &image, 7, 100, 5100)?;
     let bytes = all_of(alloc, &other)?;
     let written = bytes.get(5) == Some(&1)
@@ -230,49 +248,64 @@ fn change_apart<I: Image>(alloc: I::Alloc) -> Result<bool, NoMemory> {
 }
 
 #[test]
-fn images_that_share_their_bytes_change_apart(rt: HostRuntime) -> Result<(), NoMemory> {
+fn images_that_hold_the_same_payload_change_apart(rt: HostRuntime) -> Result<(), NoMemory> {
     assert!(rt; change_apart::<Flat<Global>>(rt.alloc())?);
     assert!(rt; change_apart::<Paged<Global>>(rt.alloc())?);
     Ok(())
 }
 
-// An image of sixteen pages that were written as one piece, which they share.
-fn one_piece<A: Allocator + Copy>(alloc: A) -> Result<(Paged<A>, Bytes<A>), NoMemory> {
-    let Ok(piece) = Bytes::from_vec(Vec::from_elem(alloc, 7u8, 65536)?) else {
-        return Err(NoMemory);
-    };
-    let mut image: Paged<A> = Paged::zeros(alloc, 65536)?;
-    if shares(&mut image, 0, &piece) {
-        Ok((image, piece))
-    } else {
-        Err(NoMemory)
+// Whether what was read of an image stays as it was, of one page and of several, when the image changes.
+fn stays_as_read<I: Image>(alloc: I::Alloc) -> Result<bool, NoMemory> {
+    let mut image = I::zeros(alloc, 12288)?;
+    let mut stays = puts(&mut image, 0, &sevens(alloc, 0, 12288)?) && image.size() == 12288;
+    for (offset, count) in [(100usize, 50usize), (0, 4096), (4095, 8000)] {
+        if offset + count > image.size() {
+            return Ok(false);
+        }
+        let payload = image.read(offset, count)?;
+        let changed = zeroes(&mut image, 0, 5000, false)
+            && writes(alloc, &mut image, 4096, &[1, 2, 3])
+            && zeroes(&mut image, 4096, 8192, true);
+        let mut bytes = Vec::new(alloc);
+        payload.append(&mut bytes)?;
+        let same = bytes.len() == count && bytes.iter().all(|byte| *byte == 7);
+        stays = stays && changed && same && is_but(alloc, &image, 0, 0, 0)?;
+        stays = stays && puts(&mut image, 0, &sevens(alloc, 0, 12288)?);
     }
+    Ok(stays)
 }
 
-// A list of the pages and a count of owners take memory, the pages none. Bytes that don't fill theirs are copied.
 #[test]
-fn a_piece_is_shared(rt: HostRuntime) -> Result<(), NoMemory> {
+fn what_was_read_stays_as_it_was(rt: HostRuntime) -> Result<(), NoMemory> {
+    assert!(rt; stays_as_read::<Flat<Global>>(rt.alloc())?);
+    assert!(rt; stays_as_read::<Paged<Global>>(rt.alloc())?);
+    Ok(())
+}
+
+// A list of the pages takes memory, the pages of the payload none. A page of the image that isn't one of them is copied.
+#[test]
+fn pages_are_taken_from_a_payload(rt: HostRuntime) -> Result<(), NoMemory> {
     let heap = Refusing::new(rt.alloc(), 0);
-    let (mut image, piece) = one_piece(&heap)?;
-    for (offset, count, growths) in [
-        (0, 65536, 2u64),
-        (4096, 4096, 0),
-        (4096, 8192, 2),
-        (1, 8192, 7),
+    let mut image: Paged<&Refusing<Global>> = Paged::zeros(&heap, 65536)?;
+    assert!(rt; puts(&mut image, 0, &sevens(&heap, 0, 65536)?));
+    for (offset, begin, count, growths) in [
+        (0usize, 0, 65536, 1u64),
+        (4096, 0, 4096, 0),
+        (4096, 0, 8192, 1),
+        (4100, 4100, 4096, 3),
+        (4096, 1, 4096, 1),
     ] {
-        let part = match piece.slice(0..piece.len().min(count)) {
-            Ok(part) => part,
-            Err(_) => return Err(NoMemory),
-        };
+        heap.arm(0);
+        let piece = sevens(&heap, begin, count)?;
         heap.arm(growths.saturating_add(1));
         assert!(rt;
-            shares(&mut image, offset, &part) && heap.is_armed(),
+            puts(&mut image, offset, &piece) && heap.is_armed(),
             "at {offset}"
         );
         if growths > 0 {
             heap.arm(growths);
             assert!(rt;
-                !shares(&mut image, offset, &part) && !heap.is_armed(),
+                !puts(&mut image, offset, &piece) && !heap.is_armed(),
                 "at {offset}"
             );
         }
@@ -281,66 +314,22 @@ fn a_piece_is_shared(rt: HostRuntime) -> Result<(), NoMemory> {
     Ok(())
 }
 
-// Once more pages of a piece were written again than weren't, the others are copied, which takes memory where there is some.
-// Where all are written again at once, none is.
-#[test]
-fn a_piece_is_kept_for_half_its_pages(rt: HostRuntime) -> Result<(), NoMemory> {
-    let heap = Refusing::new(rt.alloc(), 0);
-    let (mut image, piece) = one_piece(&heap)?;
-    let Ok(page) = Bytes::from_vec(Vec::from_elem(&heap, 8u8, 4096)?) else {
-        return Err(NoMemory);
-    };
-    for number in 0..9usize {
-        heap.arm(1);
-        assert!(rt; shares(&mut image, number * 4096, &page));
-        assert_eq!(rt; heap.is_armed(), number < 8);
-    }
-    let bytes = all_of(&heap, &image)?;
-    let (front, back) = bytes.as_slice().split_at_checked(36864).ok_or(NoMemory)?;
-    assert!(rt; front.iter().all(|byte| *byte == 8) && back.iter().all(|byte| *byte == 7));
-    assert!(rt; shares(&mut image, 0, &piece));
-    heap.arm(3);
-    assert!(rt; shares(&mut image, 0, &piece) && heap.is_armed());
-    Ok(())
-}
-
-// So it is where pages of it are given back.
-#[test]
-fn a_piece_is_given_back_with_most_of_its_pages(rt: HostRuntime) -> Result<(), NoMemory> {
-    for (start, end, copies) in [
-        (0, 65536, false),
-        (0, 32768, false),
-        (4096, 36864, false),
-        (4096, 40960, true),
-    ] {
-        let heap = Refusing::new(rt.alloc(), 0);
-        let (mut image, _) = one_piece(&heap)?;
-        heap.arm(1);
-        assert!(rt; zeroes(&mut image, start, end - start, false));
-        assert_eq!(rt; heap.is_armed(), !copies);
-        assert!(rt; is_but(&heap, &image, 7, start, end)?);
-    }
-    Ok(())
-}
-
 // Where memory is refused it is noted which bytes of a page are zeros, and a write ends that.
 #[test]
 fn a_range_is_made_zero_without_memory(rt: HostRuntime) -> Result<(), NoMemory> {
     let heap = Refusing::new(rt.alloc(), 0);
-    let Ok(piece) = Bytes::from_vec(Vec::from_elem(&heap, 7u8, 8192)?) else {
-        return Err(NoMemory);
-    };
+    let piece = sevens(&heap, 0, 8192)?;
     let mut image: Paged<&Refusing<Global>> = Paged::zeros(&heap, 8192)?;
-    assert!(rt; shares(&mut image, 0, &piece));
+    assert!(rt; puts(&mut image, 0, &piece));
     for (start, end) in [(4000, 4100), (3000, 4000), (4100, 8191)] {
         heap.arm(1);
         assert!(rt; zeroes(&mut image, start, end - start, false) && !heap.is_armed());
     }
     assert_eq!(rt; image.held(), 2);
     assert!(rt; is_but(&heap, &image, 7, 3000, 8191)?);
-    assert!(rt; writes(&mut image, 3000, &[7]));
+    assert!(rt; writes(&heap, &mut image, 3000, &[7]));
     assert!(rt; is_but(&heap, &image, 7, 3001, 8191)?);
-    assert!(rt; shares(&mut image, 0, &piece));
+    assert!(rt; puts(&mut image, 0, &piece));
     assert!(rt; is_but(&heap, &image, 7, 0, 0)?);
     Ok(())
 }

@@ -23,7 +23,7 @@ use Rattle.lone_export.specs.declared.step.Step.TheVariants as step
 use Rattle.lone_export.specs.declared.step.StepAnswer.TheVariants as said
 use Rattle.nbd_base.proofs.Numbers.{tied_same, tied_other}
 use Rattle.nbd_base.proofs.Words.{length-change_at}
-use Rattle.export_store.proofs.BytesLemmas.{length-overwritten}
+use Rattle.payload.proofs.BytesLemmas.{length-overwritten}
 use Rattle.lone_export.proofs.Entries.{entries-remove}
 use Rattle.lone_export.proofs.Cases.{if_told}
 use Rattle.lone_export.proofs.Steps.{worth-post, one_out}

@@ -40,7 +40,6 @@ pub struct Lone<I: Image> {
     count: u64,
     // How many of the counted steps are attaches and arrivals.
     asked: u64,
-    alloc: I::Alloc,
 }
 
 impl<I: Image> Model for Lone<I> {
@@ -173,7 +172,7 @@ impl<I: Image> Lone<I> {
         let Some(row) = self.queue.held(slot, number) else {
             return None;
         };
-        let done = apply(self.alloc, &mut self.image, &row.request);
+        let done = apply(&mut self.image, &row.request);
         let memory = done.memory;
         settle(&mut self.queue, &mut self.sessions, slot, number, done);
         self.count += 1;
@@ -203,7 +202,6 @@ impl<I: Image> Lone<I> {
             sessions: ReplyBox::new(alloc, config.window()),
             count: 0,
             asked: 0,
-            alloc,
         })
     }
 }

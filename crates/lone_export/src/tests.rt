@@ -2,12 +2,12 @@ ghost use Rattle.std.specs.Prelude.{◌≡◌, ◌≤◌, length};
 
 use crate::said::{arrived_said, attach_said, gone_said, leave_said, pick_said, take_said};
 use crate::*;
-use bytes::Bytes;
 use export_store::{Flat, Image};
 use nbd_base::NoMemory;
 use nbd_commands::{Config, ExportList, ExportSettings};
 use nbd_wire::protocol::{READ, WRITE};
 use nbd_wire::{Request, RequestHead};
+use payload::Payload;
 use std::alloc::Allocator;
 use tag_clock::Moment;
 
@@ -28,7 +28,7 @@ fn head_of(kind: u16, cookie: u64, offset: u64, length: u32) -> RequestHead
 }
 
 fn read_of<A: Allocator>(cookie: u64, offset: u64, length: u32) -> Request<A> {
-    Request::new(head_of(READ, cookie, offset, length), Bytes::new())
+    Request::new(head_of(READ, cookie, offset, length), Payload::new())
 }
 
 fn write_of<A: Allocator + Copy>(
@@ -38,9 +38,9 @@ fn write_of<A: Allocator + Copy>(
 ) -> Result<Request<A>, NoMemory>
     requires { length bytes.now ≤ 4096 }
 {
-    let payload = match Bytes::copy_from_slice(alloc, bytes) {
+    let payload = match Payload::copied(alloc, 0, bytes) {
         Ok(payload) => payload,
-        Err(_) => Bytes::copy_from_slice(alloc, bytes)?,
+        Err(_) => Payload::copied(alloc, 0, bytes)?,
     };
     let head = RequestHead {
         flags: 0,
@@ -144,7 +144,8 @@ fn text<A: Allocator, B: Allocator + Copy>(
         StepAnswer::Nothing => format!(in alloc; "none")?,
         StepAnswer::Performed { memory } => format!(in alloc; "performed {memory}")?,
         StepAnswer::Reply(reply) => {
-            let content = reply.content().as_slice();
+            let mut content = Vec::new(alloc);
+            reply.content().append(&mut content)?;
             format!(in alloc; "reply {} {} {content:?}", reply.cookie(), reply.error())?
         }
         StepAnswer::Empty => format!(in alloc; "empty")?,

@@ -1,6 +1,6 @@
 -- What a request that isn't refused means for the bytes of an export.
 use Rattle.std.specs.Prelude.{ℕ, ◌/◌, ◌%◌, Bool, ◌&&◌, ◌||◌, ◌==◌, if◌then◌else◌, List, [], replicate}
-use Rattle.export_store.specs.Bytes.{range_of, overwritten}
+use Rattle.payload.specs.Bytes.{range_of, overwritten}
 use Rattle.nbd_wire.specs.Grammar.{RequestMessage}
 use Rattle.nbd_commands.specs.Verdict.{is_read, is_write, is_trim, is_write_zeroes}
 

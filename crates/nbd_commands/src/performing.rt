@@ -1,25 +1,25 @@
 ghost use Rattle.std.specs.Prelude.{◌≡◌, ◌+◌, ◌≤◌, [], length, replicate, false, IsTrue};
 ghost use Rattle.std.specs.Bool.{OnTrue, OnFalse};
-ghost use Rattle.export_store.specs.Bytes.{range_of, overwritten};
+ghost use Rattle.payload.specs.Bytes.{range_of, overwritten};
 ghost use Rattle.nbd_commands.specs.Verdict.{verdict_at};
 ghost use Rattle.nbd_commands.specs.Meaning.{image_after, data_of, may_want_memory};
 
-use bytes::Bytes;
 use export_store::Image;
 use nbd_wire::Request;
 use nbd_wire::protocol::{ENOMEM, NO_HOLE, READ, TRIM, WRITE, WRITE_ZEROES};
+use payload::Payload;
 use std::alloc::Allocator;
 
 /// What a request that was performed gives back: the error and the data of its reply, and whether memory was there.
 #[derive(Drop)]
 pub struct Done<A: Allocator> {
     pub error: u32,
-    pub content: Bytes<A>,
+    pub content: Payload<A>,
     pub memory: bool,
 }
 
 impl<A: Allocator> Done<A> {
-    fn with(content: Bytes<A>) -> Done<A>
+    fn with(content: Payload<A>) -> Done<A>
         ensures error { result.error ≡ 0 }
         ensures content { result.content ≡ content }
         ensures memory { IsTrue result.memory }
@@ -38,36 +38,32 @@ impl<A: Allocator> Done<A> {
     {
         Done {
             error: ENOMEM,
-            content: Bytes::new(),
+            content: Payload::new(),
             memory: false,
         }
     }
 }
 
-fn read<I: Image>(alloc: I::Alloc, image: &I, offset: usize, count: usize) -> Done<I::Alloc>
+fn read<I: Image>(image: &I, offset: usize, count: usize) -> Done<I::Alloc>
     requires { offset + count ≤ length (I.bytes image.now) }
     ensures done { OnTrue result.memory ((result.error ≡ 0) × (result.content ≡ range_of (I.bytes image.now) offset count)) }
     ensures no_memory { OnFalse result.memory ((result.error ≡ 12) × (result.content ≡ [])) }
 {
-    let mut content = Vec::new(alloc);
-    if image.read(offset, count, &mut content).is_err() {
-        return Done::without_memory();
-    }
-    match Bytes::from_vec(content) {
+    match image.read(offset, count) {
         Ok(content) => Done::with(content),
         Err(_) => Done::without_memory(),
     }
 }
 
-fn write<I: Image>(image: &mut I, offset: usize, piece: &Bytes<I::Alloc>) -> Done<I::Alloc>
+fn write<I: Image>(image: &mut I, offset: usize, piece: &Payload<I::Alloc>) -> Done<I::Alloc>
     requires { offset + length piece.now ≤ length (I.bytes image.old) }
     ensures done { OnTrue result.memory ((result.error ≡ 0) × (result.content ≡ [])
         × (I.bytes image.new ≡ overwritten (I.bytes image.old) offset (length piece.now) piece.now)) }
     ensures no_memory { OnFalse result.memory ((result.error ≡ 12) × (result.content ≡ [])
         × (I.bytes image.new ≡ I.bytes image.old)) }
 {
-    match image.write_shared(offset, piece) {
-        Ok(()) => Done::with(Bytes::new()),
+    match image.write(offset, piece) {
+        Ok(()) => Done::with(Payload::new()),
         Err(_) => Done::without_memory(),
     }
 }
@@ -80,7 +76,7 @@ fn zero<I: Image>(image: &mut I, offset: usize, count: usize, keep: bool) -> Don
         × (I.bytes image.new ≡ I.bytes image.old) × IsTrue keep) }
 {
     match image.zero(offset, count, keep) {
-        Ok(()) => Done::with(Bytes::new()),
+        Ok(()) => Done::with(Payload::new()),
         Err(_) => Done::without_memory(),
     }
 }
@@ -104,11 +100,7 @@ pub fn may_want_memory<A: Allocator>(request: &Request<A>) -> bool
 /// Where memory was refused the error is ENOMEM (12) and no byte changed; that is so of READ, WRITE and WRITE_ZEROES
 /// with NO_HOLE alone. The condition is the verdict of an export that isn't read-only: what a read-only export serves,
 /// each export of its size serves.
-pub fn apply<I: Image>(
-    alloc: I::Alloc,
-    image: &mut I,
-    request: &Request<I::Alloc>,
-) -> Done<I::Alloc>
+pub fn apply<I: Image>(image: &mut I, request: &Request<I::Alloc>) -> Done<I::Alloc>
     requires { verdict_at (length (I.bytes image.old)) false request.now ≡ 0 }
     ensures done { OnTrue result.memory ((result.error ≡ 0)
         × (result.content ≡ data_of (I.bytes image.old) request.now)
@@ -121,10 +113,10 @@ pub fn apply<I: Image>(
     let offset = head.offset as usize;
     let count = head.length as usize;
     match head.kind {
-        READ => read(alloc, image, offset, count),
+        READ => read(image, offset, count),
         WRITE => write(image, offset, request.payload()),
         TRIM => zero(image, offset, count, false),
         WRITE_ZEROES => zero(image, offset, count, head.flags / NO_HOLE % 2 == 1),
-        _ => Done::with(Bytes::new()),
+        _ => Done::with(Payload::new()),
     }
 }

@@ -1,11 +1,11 @@
 ghost use Rattle.std.specs.Prelude.{◌≤◌, ◌≢◌, length};
 
 use crate::*;
-use bytes::Bytes;
 use export_store::{Flat, Image};
 use nbd_base::NoMemory;
 use nbd_wire::protocol::WRITE;
 use nbd_wire::{Request, RequestHead};
+use payload::Payload;
 use refusing::Refusing;
 use std::alloc::{Allocator, Global};
 
@@ -19,7 +19,7 @@ fn asked<A: Allocator>(kind: u16, flags: u16, offset: u64, length: u32) -> Reque
         offset,
         length,
     };
-    Request::new(head, Bytes::new())
+    Request::new(head, Payload::new())
 }
 
 fn write_of<A: Allocator + Copy>(
@@ -30,9 +30,9 @@ fn write_of<A: Allocator + Copy>(
 ) -> Result<Request<A>, NoMemory>
     requires { length bytes.now ≤ 4096 }
 {
-    let payload = match Bytes::copy_from_slice(alloc, bytes) {
+    let payload = match Payload::copied(alloc, offset, bytes) {
         Ok(payload) => payload,
-        Err(_) => Bytes::copy_from_slice(alloc, bytes)?,
+        Err(_) => Payload::copied(alloc, offset, bytes)?,
     };
     let head = RequestHead {
         flags,
@@ -102,7 +102,7 @@ fn a_write_past_the_end_finds_no_space(rt: HostRuntime) -> Result<(), NoMemory> 
 }
 
 // Performed where it is served, and once more where it found no memory.
-fn serve<I: Image>(alloc: I::Alloc, image: &mut I, request: &Request<I::Alloc>) -> Done<I::Alloc> {
+fn serve<I: Image>(image: &mut I, request: &Request<I::Alloc>) -> Done<I::Alloc> {
     let info = ExportInfo {
         size: image.size() as u64,
         read_only: false,
@@ -111,11 +111,11 @@ fn serve<I: Image>(alloc: I::Alloc, image: &mut I, request: &Request<I::Alloc>) 
     if error != 0 {
         return Done {
             error,
-            content: Bytes::new(),
+            content: Payload::new(),
             memory: true,
         };
     }
-    apply(alloc, image, request)
+    apply(image, request)
 }
 
 // Of a request that brings nothing.
@@ -136,26 +136,26 @@ fn some_requests_want_memory(rt: HostRuntime) -> Result<(), NoMemory> {
     Ok(())
 }
 
-fn insist<I: Image>(alloc: I::Alloc, image: &mut I, request: &Request<I::Alloc>) -> Done<I::Alloc> {
-    let done = serve(alloc, image, request);
+fn insist<I: Image>(image: &mut I, request: &Request<I::Alloc>) -> Done<I::Alloc> {
+    let done = serve(image, request);
     if done.memory {
         return done;
     }
-    serve(alloc, image, request)
+    serve(image, request)
 }
 
 // What is read after a write, a trim and two zeroings.
-fn read_after_changes<A: Allocator + Copy>(alloc: A) -> Result<Bytes<A>, NoMemory> {
+fn read_after_changes<A: Allocator + Copy>(alloc: A) -> Result<Payload<A>, NoMemory> {
     let mut image: Flat<A> = match Flat::zeros(alloc, 4096) {
         Ok(image) => image,
         Err(NoMemory) => Flat::zeros(alloc, 4096)?,
     };
     let write = write_of(alloc, 0, 0, &[1, 2, 3, 4, 5])?;
-    let _ = insist(alloc, &mut image, &write);
-    let _ = insist(alloc, &mut image, &asked(4, 0, 1, 2));
-    let _ = insist(alloc, &mut image, &asked(6, 2, 4, 1));
-    let _ = insist(alloc, &mut image, &asked(6, 4, 0, 1));
-    Ok(insist(alloc, &mut image, &asked(0, 0, 0, 5)).content)
+    let _ = insist(&mut image, &write);
+    let _ = insist(&mut image, &asked(4, 0, 1, 2));
+    let _ = insist(&mut image, &asked(6, 2, 4, 1));
+    let _ = insist(&mut image, &asked(6, 4, 0, 1));
+    Ok(insist(&mut image, &asked(0, 0, 0, 5)).content)
 }
 
 #[test]
@@ -164,12 +164,14 @@ fn each_growth_of_the_requests_is_refused_in_turn(rt: HostRuntime) -> Result<(),
     for nth in 1..100u64 {
         let heap = Refusing::new(rt.alloc(), nth);
         let content = read_after_changes(&heap)?;
-        assert_eq!(rt; content.as_slice(), [1, 0, 0, 4, 0].as_slice(), "at {nth}");
+        let mut read = Vec::new(rt.alloc());
+        content.append(&mut read)?;
+        assert_eq!(rt; read.as_slice(), [1, 0, 0, 4, 0].as_slice(), "at {nth}");
         if heap.is_armed() {
             break;
         }
         refused = nth;
     }
-    assert!(rt; refused > 3);
+    assert!(rt; refused >= 3);
     Ok(())
 }

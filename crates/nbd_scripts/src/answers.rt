@@ -12,7 +12,7 @@ use std::io::Write;
 use tag_clock::Phase;
 
 /// Writes the line of an answer.
-pub fn write_answer<A: Allocator, B: Allocator>(
+pub fn write_answer<A: Allocator + Copy, B: Allocator>(
     alloc: A,
     answer: Answer<B>,
     text: &mut Vec<u8, A>,
@@ -52,7 +52,7 @@ pub fn write_answer<A: Allocator, B: Allocator>(
 }
 
 /// Writes the line of a reply: its cookie, its error, and the hex of what it brings.
-fn write_reply<A: Allocator, B: Allocator>(
+fn write_reply<A: Allocator + Copy, B: Allocator>(
     alloc: A,
     reply: &Reply<B>,
     text: &mut Vec<u8, A>,
@@ -61,11 +61,12 @@ fn write_reply<A: Allocator, B: Allocator>(
 {
     let cookie = reply.cookie();
     let error = reply.error();
-    let content = reply.content().as_slice();
-    if content.is_empty() {
+    if reply.content().is_empty() {
         return or_no_memory(writeln!(text, "reply {cookie} {error} -"));
     }
-    let digits = hex::encode(alloc, content)?;
+    let mut content = Vec::new(alloc);
+    reply.content().append(&mut content)?;
+    let digits = hex::encode(alloc, content.as_slice())?;
     or_no_memory(writeln!(text, "reply {cookie} {error} {digits}"))
 }
 

@@ -13,10 +13,10 @@ use crate::lines::{fields_of, first_line, is_comment, only};
 use crate::numbers::{half_word, moment, number, word};
 use crate::replay_line::ReplayLine;
 use crate::verbs::{Verb, verb_of};
-use bytes::Bytes;
 use hex::FromHexError;
 use nbd_wire::protocol::WRITE;
 use nbd_wire::{MAX_PAYLOAD, Request, RequestHead};
+use payload::Payload;
 use server_table::Event;
 use std::alloc::Allocator;
 use tag_clock::Moment;
@@ -235,7 +235,7 @@ fn bare_request<A: Allocator + Copy>(head: RequestHead) -> Result<Request<A>, Li
     if brings_payload(head) {
         return Err(LineFault::Form);
     }
-    Ok(Request::new(head, Bytes::new()))
+    Ok(Request::new(head, Payload::new()))
 }
 
 /// A request that writes the bytes of these digits, if they are as many as it says.
@@ -258,6 +258,6 @@ fn write_request<A: Allocator + Copy>(
     if payload.len() != head.length as usize {
         return Err(LineFault::Form);
     }
-    let payload = Bytes::from_vec(payload)?;
+    let payload = Payload::copied(alloc, head.offset, payload.as_slice())?;
     Ok(Request::new(head, payload))
 }

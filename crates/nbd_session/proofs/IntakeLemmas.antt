@@ -1,8 +1,7 @@
--- What is taken in by pieces and straight into a payload.
-use Rattle.std.proofs.Common.{◌≡◌, ℕ, ◌+◌, ◌<◌, ◌≤◌, ◌⊎◌, false, List, [], ◌∷◌, ◌++◌, Option, Some, None, Ok, Err, reverse, length, take, drop, get_or, refl, sym, ap, subst, ◌∙◌, inl, inr, arith, append_assoc}
+-- What is taken in by pieces, and what comes behind a payload.
+use Rattle.std.proofs.Common.{◌≡◌, ℕ, ◌+◌, ◌<◌, ◌≤◌, ◌⊎◌, false, List, [], ◌∷◌, ◌++◌, Option, Some, None, Ok, Err, reverse, length, take, get_or, refl, sym, ap, subst, ◌∙◌, inl, inr, arith, append_assoc}
 use Rattle.std.specs.List.{AllByRecursion}
-use borrow.Rule.Slice.PartMut.{put_mid}
-use Rattle.std.proofs.lemmas.List.{append-nil, length-append, length-take, take_all, take_at, take-take, take-append-le, get_or-append-add, get_or_past}
+use Rattle.std.proofs.lemmas.List.{append-nil, length-append, length-take, get_or-take, get_or_past}
 use Rattle.std.proofs.lemmas.Bool.{cases_lt}
 use Rattle.std.specs.Io.KnownBytes.{Consumes}
 use Rattle.nbd_wire.specs.declared.requests.RequestHead.{RequestHead}
@@ -15,7 +14,6 @@ use Rattle.nbd_session.specs.declared.ending.Ending.{Ending}
 use Rattle.nbd_session.specs.Conversation.{AreBytes}
 use Rattle.nbd_session.specs.Frames.{kept_of, IsBehindReady, TakesIn, Fetches, IsEnded}
 use Rattle.nbd_session.specs.Intake.{taken_in, nothing_held, IsPartly, Lengthens, EndsWithin}
-use Rattle.nbd_session.proofs.BufferLemmas.{put_more, put_long}
 
 abbrev pub written : RequestHead → List ℕ → RequestMessage
 written h p = record { head = h; payload = p }
@@ -115,37 +113,26 @@ ended_within left later before now m ready e b none ends =
       );
     }
 
-bytes_behind : (old more new : List ℕ) → new ≡ old ++ more → ((i d : ℕ) → i < length new → get_or new i d < 256) → AreBytes more
-bytes_behind old more new is fit i =
-    elim (cases_lt i (length more)) [
-      | inl lt ↦
-          let same : get_or new (length old + i) 0 ≡ get_or more i 0 = ap (λ (t : List ℕ). get_or t (length old + i) 0) is ∙ get_or-append-add old more i 0 in
-          omega (arith, same, fit (length old + i) 0 (omega (arith, ap length is, length-append old more, lt)))
-      | inr le ↦ rw (get_or_past more i 0 le) (omega arith)
+bytes_in_front : (room : List ℕ) (n : ℕ) → n ≤ length room → ((i : ℕ) → get_or room i 0 < 256) → AreBytes (take n room)
+bytes_in_front room n short fit i =
+    elim (cases_lt i n) [
+      | inl lt ↦ omega (arith, get_or-take n room i 0 lt, fit i)
+      | inr past ↦ rw (get_or_past (take n room) i 0 (omega (arith, past, length-take n room))) (omega arith)
     ]
 
--- a payload was widened, filled up to a place, and cut there
-pub lengthened : (left later : Option (List ℕ)) (old wide buf part new : List ℕ) (at n k room whole : ℕ) → at ≡ length old → take at buf ≡ old → at ≤ length buf → n ≤ length part → 0 < n
-    → at + n ≤ room → room ≤ whole → new ≡ take (at + n) (take room (put_mid at k buf part ++ drop (length (put_mid at k buf part)) wide)) → Consumes left later (take n part)
-    → ((i d : ℕ) → i < length new → get_or new i d < 256) → Lengthens left later old new whole
-lengthened left later old wide buf part new at n k room whole is front fits short some within bound cut took fit =
-    let filled : List ℕ = put_mid at k buf part in
-    let long : at + n ≤ length filled = put_long buf part at k n fits short in
-    let once : new ≡ take (at + n) filled = cut ∙ (take-take (at + n) room (filled ++ drop (length filled) wide) within ∙ take-append-le (at + n) filled (drop (length filled) wide) long) in
-    let all : new ≡ old ++ take n part = once ∙ (put_more buf part at k n fits short ∙ ap (λ (t : List ℕ). t ++ take n part) front) in
-    let count : length (take n part) ≡ n = omega (arith, length-take n part, short) in
+-- bytes were read for a payload
+pub lengthened : (left later : Option (List ℕ)) (old room : List ℕ) (n whole : ℕ) → n ≤ length room → 0 < n → length old + length room ≤ whole → Consumes left later (take n room)
+    → ((i : ℕ) → get_or room i 0 < 256) → Lengthens left later old (old ++ take n room) whole
+lengthened left later old room n whole short some bound took fit =
+    let count : length (take n room) ≡ n = omega (arith, length-take n room, short) in
     record {
-      bytes = take n part;
+      bytes = take n room;
       took = took;
-      are_bytes = bytes_behind old (take n part) new all fit;
-      added = all;
+      are_bytes = bytes_in_front room n short fit;
+      added = refl;
       some = omega (arith, count, some);
-      within = omega (arith, ap length all, length-append old (take n part), count, is, within, bound);
+      within = omega (arith, length-append old (take n room), count, short, bound);
     }
-
-pub front_of : (old zeros wide : List ℕ) (at n : ℕ) → at ≡ length old → at ≤ n → wide ≡ take n old ++ zeros → take at wide ≡ old
-front_of old zeros wide at n is le wider =
-    ap (take at) (wider ∙ ap (λ (t : List ℕ). t ++ zeros) (take_all n old (omega (arith, is, le)))) ∙ take_at old zeros at (sym is)
 
 -- nothing was taken out of the decoder
 pub not_begun : (begun : Option RequestMessage) (d : Decoding) → begun ≡ None → taken_in begun d ≡ d

@@ -1,4 +1,4 @@
--- The bytes that stand in no request yet: those of a decoder, or of a long WRITE whose payload is read straight into its place.
+-- The bytes that stand in no request yet: those of a decoder, or of a long WRITE whose payload goes into its pages as it comes.
 use Rattle.std.specs.Prelude.{◌≡◌, ℕ, ◌<◌, ◌≤◌, false, List, [], ◌++◌, length, Option, Some, None}
 use Rattle.std.specs.Io.KnownBytes.{Consumes}
 use Rattle.nbd_wire.specs.Grammar.{request_text, RequestMessage, IsHead, IsTooLong, IsUnfinished}

@@ -10,8 +10,8 @@ use nbd_wire::{FeedFault, Request};
 use std::alloc::{AllocError, Allocator};
 use std::io::Read;
 
-/// The most bytes that are read at once.
-const PIECE: usize = 65_536;
+/// The most bytes that are read at once: a request's head and 65,536 bytes behind it.
+const PIECE: usize = 65_564;
 
 /// The next request: the first that is ready, or else the first of those that the bytes read next make whole. Requests
 /// are given before the fault that was met behind them.

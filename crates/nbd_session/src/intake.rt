@@ -12,11 +12,11 @@ use std::alloc::Allocator;
 use std::io::Read;
 use std::marker::Model;
 
-/// The least payload, in bytes, that is read straight into its place. It costs one more read where further requests wait behind
-/// it, and saves its copies.
+/// The least payload, in bytes, that goes into its pages as it comes. It costs one more read where further requests wait behind
+/// it, and saves a copy of it.
 const LONG: usize = 32_768;
 
-/// The bytes that stand in no request yet: what a decoder holds, or a long WRITE whose payload is read straight into its place.
+/// The bytes that stand in no request yet: what a decoder holds, or a long WRITE whose payload goes into its pages as it comes.
 #[derive(Drop)]
 pub struct Intake<A: Allocator + Copy> {
     decoder: Decoder<A>,
@@ -50,7 +50,7 @@ impl<A: Allocator + Copy> Intake<A> {
         }
     }
 
-    /// Reads once: a piece into the buffer, or the next bytes of a long WRITE straight into their place.
+    /// Reads once into the buffer: a piece, or the next bytes of a long WRITE.
     pub fn fetch<R: Read>(
         &mut self,
         reader: &mut Counted<R>,
@@ -65,7 +65,7 @@ impl<A: Allocator + Copy> Intake<A> {
         ensures more { IfOk result (λ fault. fault ≡ None → ready.new.items ≡ [] → length self.old.held < length self.new.held) }
     {
         match self.begun.take() {
-            Some(write) => read_on(reader, write, &mut self.begun, ready),
+            Some(write) => read_on(reader, buffer, write, &mut self.begun, ready),
             None => read_afresh(
                 self.alloc,
                 reader,
@@ -98,7 +98,7 @@ fn read_afresh<A: Allocator + Copy, R: Read>(
     ensures intake { IsTakenIn begun.new decoder.new }
 {
     match decoder.take_begun(LONG) {
-        Ok(Some(write)) => read_on(reader, write, begun, ready),
+        Ok(Some(write)) => read_on(reader, buffer, write, begun, ready),
         Ok(None) => read_piece(alloc, reader, buffer, decoder, begun, ready),
         Err(_) => Err(Ending::NoMemory),
     }

@@ -1,26 +1,28 @@
-//! Long WRITEs, whose payload is read straight into its place.
-ghost use Rattle.std.specs.Prelude.{◌≡◌, ◌<◌, ◌++◌, [], length, vec_len, None, IfOk, IfErr, OnOk};
+//! Long WRITEs, whose payload goes into its pages as it comes.
+ghost use Rattle.std.specs.Prelude.{◌≡◌, ◌<◌, ◌≤◌, ◌+◌, ◌++◌, [], length, take, None, IfOk, IfErr, OnOk};
 ghost use Rattle.nbd_wire.specs.Grammar.{head_text, request_text, IsRequest};
 ghost use Rattle.nbd_session.specs.Frames.{TakesIn, Fetches};
 ghost use Rattle.nbd_session.specs.Intake.{taken_in, nothing_held, IsPartly, Lengthens, EndsWithin};
 
 use crate::counted::Counted;
 use crate::ending::Ending;
-use bytes::Bytes;
 use nbd_wire::{BegunWrite, FeedFault, Request, RequestHead};
+use payload::Growing;
 use std::alloc::Allocator;
 use std::io::Read;
 
-/// The most bytes of a payload that are read at once. They are set to zero before, so they are to stay in the cache.
-const STRETCH: usize = 32_768;
+/// The most bytes of a payload that are read at once: whole pages of it, where they came whole so far.
+const STRETCH: usize = 65_536;
 
-/// Reads the next bytes of a long WRITE. It is ready once it is whole.
+/// Reads the next bytes of a long WRITE by way of the buffer, and none behind its end. It is ready once it is whole.
 pub fn read_on<A: Allocator + Copy, R: Read>(
     reader: &mut Counted<R>,
+    buffer: &mut [u8],
     write: BegunWrite<A>,
     begun: &mut Option<BegunWrite<A>>,
     ready: &mut Vec<Request<A>, A>,
 ) -> Result<Option<FeedFault>, Ending>
+    requires room { 0 < length buffer.old }
     requires none { ready.old.items ≡ [] }
     requires not_begun { begun.old ≡ None }
     ensures fetched { Fetches (R.remaining reader.old.inner) (R.remaining reader.new.inner) reader.old.failures reader.new.failures
@@ -28,56 +30,74 @@ pub fn read_on<A: Allocator + Copy, R: Read>(
     ensures more { IfOk result (λ fault. fault ≡ None → ready.new.items ≡ []
         → length (request_text write) < length (taken_in begun.new nothing_held).held) }
 {
-    let (head, mut payload) = write.into_parts();
-    match read_behind(reader, &mut payload, head.length as usize) {
-        Ok(()) => Ok(go_on(head, payload, begun, ready)),
+    let (head, payload) = write.into_parts();
+    let whole = head.length as usize;
+    let stretch = (whole - payload.len()).min(buffer.len()).min(STRETCH);
+    let room = &mut buffer[..stretch];
+    match read_behind(reader, room, &payload, whole) {
+        Ok(count) => Ok(go_on(head, payload, &room[..count], begun, ready)),
         Err(ending) => Err(ending),
     }
 }
 
-/// Reads the next bytes of a payload that is to have so many.
-fn read_behind<A: Allocator, R: Read>(
+/// Reads the next bytes of a payload that is to have so many, and tells how many came.
+fn read_behind<A: Allocator + Copy, R: Read>(
     reader: &mut Counted<R>,
-    payload: &mut Vec<u8, A>,
+    room: &mut [u8],
+    payload: &Growing<A>,
     whole: usize,
-) -> Result<(), Ending>
-    requires missing { vec_len payload.old < whole }
-    ensures came { OnOk result (Lengthens (R.remaining reader.old.inner) (R.remaining reader.new.inner) payload.old.items payload.new.items whole) }
+) -> Result<usize, Ending>
+    requires some { 0 < length room.old }
+    requires missing { length payload.now + length room.old ≤ whole }
+    ensures within { IfOk result (λ count. count ≤ length room.new) }
+    ensures came { IfOk result (λ count. Lengthens (R.remaining reader.old.inner) (R.remaining reader.new.inner)
+        payload.now (payload.now ++ take count room.new) whole) }
     ensures kept { OnOk result (reader.new.failures ≡ reader.old.failures) }
     ensures ended { IfErr result (EndsWithin (R.remaining reader.old.inner) (R.remaining reader.new.inner) reader.old.failures reader.new.failures) }
 {
-    let at = payload.len();
-    let stretch = (whole - at).min(STRETCH);
-    if payload.resize(at + stretch, 0).is_err() {
-        return Err(Ending::NoMemory);
-    }
-    match reader.read(&mut payload[at..]) {
+    match reader.read(room) {
         Ok(0) => Err(Ending::Cut),
-        Ok(count) => {
-            payload.truncate(at + count);
-            Ok(())
-        }
+        Ok(count) => Ok(count),
         Err(_) => Err(Ending::ReadFailed),
     }
 }
 
-/// What came of a long WRITE is kept until it is whole. Then it is ready.
+/// Bytes came behind the beginning of a long WRITE's payload.
 fn go_on<A: Allocator + Copy>(
     head: RequestHead,
-    payload: Vec<u8, A>,
+    mut payload: Growing<A>,
+    piece: &[u8],
     begun: &mut Option<BegunWrite<A>>,
     ready: &mut Vec<Request<A>, A>,
 ) -> Option<FeedFault>
-    requires partly { IsPartly (record { head = head; payload = payload.items }) }
+    requires partly { IsPartly (record { head = head; payload = payload ++ piece.now }) }
     requires none { ready.old.items ≡ [] }
     requires not_begun { begun.old ≡ None }
-    ensures taken { TakesIn [] (head_text head ++ payload.items) ready.new.items (taken_in begun.new nothing_held) result }
+    ensures taken { TakesIn [] (head_text head ++ (payload ++ piece.now)) ready.new.items (taken_in begun.new nothing_held) result }
+{
+    match payload.append(piece) {
+        Ok(()) => keep(head, payload, begun, ready),
+        Err(_) => Some(FeedFault::NoMemory),
+    }
+}
+
+/// What came of a long WRITE is kept until it is whole. Then it is ready.
+fn keep<A: Allocator + Copy>(
+    head: RequestHead,
+    payload: Growing<A>,
+    begun: &mut Option<BegunWrite<A>>,
+    ready: &mut Vec<Request<A>, A>,
+) -> Option<FeedFault>
+    requires partly { IsPartly (record { head = head; payload = payload }) }
+    requires none { ready.old.items ≡ [] }
+    requires not_begun { begun.old ≡ None }
+    ensures taken { TakesIn [] (head_text head ++ payload) ready.new.items (taken_in begun.new nothing_held) result }
 {
     if payload.len() < head.length as usize {
         *begun = Some(BegunWrite::new(head, payload));
         return None;
     }
-    match Bytes::from_vec(payload) {
+    match payload.finish() {
         Ok(payload) => give(Request::new(head, payload), ready),
         Err(_) => Some(FeedFault::NoMemory),
     }

@@ -7,7 +7,7 @@ ghost use Rattle.nbd_session.specs.Streams.{Rises, WritesPart};
 ghost use Rattle.nbd_session.specs.SessionTurns.{IsOffered, IsReadTurn, IsWriteTurn, Drops};
 
 use crate::counted::Counted;
-use crate::fill::{WriteFailed, put};
+use crate::fill::{WriteFailed, put, put_payload};
 use crate::frames::FrameReader;
 use crate::held_turns::{hand_in, offer_held};
 use eligibility::Eligibility;
@@ -113,7 +113,7 @@ pub fn put_reply<A: Allocator, O: Write>(
     ensures failed { OnErr result (Rises writer.old.failures writer.new.failures) }
 {
     match put(writer, &write_reply_head(reply.error(), reply.cookie())) {
-        Ok(()) => put(writer, reply.content()),
+        Ok(()) => put_payload(writer, reply.content()),
         Err(failed) => Err(failed),
     }
 }

@@ -5,6 +5,7 @@ ghost use Rattle.nbd_wire.specs.Pieces.{IsLong, BeginsLong, NoneBegins};
 use crate::protocol::WRITE;
 use crate::requests::{RequestHead, read_head};
 use nbd_base::NoMemory;
+use payload::Growing;
 use std::alloc::Allocator;
 use std::marker::Model;
 
@@ -12,38 +13,38 @@ const HEAD: usize = 28;
 
 /// A WRITE whose payload came in part: at least its last byte is missing.
 #[derive(Drop)]
-pub struct BegunWrite<A: Allocator> {
+pub struct BegunWrite<A: Allocator + Copy> {
     head: RequestHead,
-    payload: Vec<u8, A>,
+    payload: Growing<A>,
 }
 
-impl<A: Allocator> Model for BegunWrite<A> {
+impl<A: Allocator + Copy> Model for BegunWrite<A> {
     ghost use Rattle.nbd_wire.specs.Grammar.{RequestMessage};
     ghost use Rattle.nbd_wire.specs.Pieces.{IsBegun};
 
     ghost Value = { RequestMessage };
 
-    ghost view = { λ w. record { head = w.head; payload = w.payload.items } };
+    ghost view = { λ w. record { head = w.head; payload = w.payload } };
 
-    ghost invariant = { λ w. IsBegun (record { head = w.head; payload = w.payload.items }) };
+    ghost invariant = { λ w. IsBegun (record { head = w.head; payload = w.payload }) };
 }
 
-impl<A: Allocator> BegunWrite<A> {
+impl<A: Allocator + Copy> BegunWrite<A> {
     ghost use Rattle.std.specs.Prelude.{◌≡◌};
     ghost use Rattle.nbd_wire.specs.Pieces.{IsBegun};
 
     /// A WRITE of a head and what came of its payload.
-    pub fn new(head: RequestHead, payload: Vec<u8, A>) -> BegunWrite<A>
-        requires { IsBegun (record { head = head; payload = payload.items }) }
-        ensures { result ≡ record { head = head; payload = payload.items } }
+    pub fn new(head: RequestHead, payload: Growing<A>) -> BegunWrite<A>
+        requires { IsBegun (record { head = head; payload = payload }) }
+        ensures { result ≡ record { head = head; payload = payload } }
     {
         BegunWrite { head, payload }
     }
 
     /// The head, and what came of the payload.
-    pub fn into_parts(self) -> (RequestHead, Vec<u8, A>)
+    pub fn into_parts(self) -> (RequestHead, Growing<A>)
         ensures head { result.0 ≡ self.head }
-        ensures payload { result.1.items ≡ self.payload }
+        ensures payload { result.1 ≡ self.payload }
         ensures begun { IsBegun self }
     {
         let Self { head, payload } = self;
@@ -51,9 +52,8 @@ impl<A: Allocator> BegunWrite<A> {
     }
 }
 
-/// The WRITE whose head and a part of whose payload these bytes are, where it is one of `least` bytes or more. The memory for
-/// all of its payload is obtained at once.
-pub fn begin_write<A: Allocator>(
+/// The WRITE whose head and a part of whose payload these bytes are, where it is one of `least` bytes or more.
+pub fn begin_write<A: Allocator + Copy>(
     alloc: A,
     bytes: &[u8],
     least: usize,
@@ -63,12 +63,8 @@ pub fn begin_write<A: Allocator>(
     let Some(head) = begun_head(bytes, least) else {
         return Ok(None);
     };
-    let Ok(mut payload) = Vec::with_capacity(alloc, head.length as usize) else {
-        return Err(NoMemory);
-    };
-    if payload.extend_from_slice(&bytes[HEAD..]).is_err() {
-        return Err(NoMemory);
-    }
+    let mut payload = Growing::new(alloc, head.offset, head.length as usize)?;
+    payload.append(&bytes[HEAD..])?;
     Ok(Some(BegunWrite::new(head, payload)))
 }
 

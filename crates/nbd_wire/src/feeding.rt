@@ -69,8 +69,8 @@ impl<A: Allocator + Copy> Decoder<A> {
         outcome
     }
 
-    /// Hands over the WRITE that is held, where it is one of `least` bytes or more, so that the rest of its payload can be read
-    /// straight into its place. The next piece is to begin behind it. Where memory is refused nothing changes.
+    /// Hands over the WRITE that is held, where it is one of `least` bytes or more, so that the rest of its payload can go
+    /// straight into its pages. The next piece is to begin behind it. Where memory is refused nothing changes.
     pub fn take_begun(&mut self, least: usize) -> Result<Option<BegunWrite<A>>, NoMemory>
         ensures taken { IfOk result (HandsOver least self.old self.new) }
         ensures kept { OnErr result (self.new ≡ self.old) }

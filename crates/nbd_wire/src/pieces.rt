@@ -5,7 +5,7 @@ ghost use Rattle.nbd_wire.specs.Pieces.{IsFirst, IsBehind, Takes, Gathers};
 use crate::fault::{FeedFault, WireFault};
 use crate::protocol::WRITE;
 use crate::requests::{Request, RequestHead, read_head};
-use bytes::Bytes;
+use payload::Payload;
 use std::alloc::Allocator;
 
 const HEAD: usize = 28;
@@ -115,13 +115,13 @@ fn behind_head<A: Allocator + Copy>(
     ensures { IsFirst (head_text head ++ rest.now) result }
 {
     if head.kind != WRITE {
-        return Ok(Some(Request::new(head, Bytes::new())));
+        return Ok(Some(Request::new(head, Payload::new())));
     }
     let count = head.length as usize;
     if rest.len() < count {
         return Ok(None);
     }
-    match Bytes::copy_from_slice(alloc, &rest[..count]) {
+    match Payload::copied(alloc, head.offset, &rest[..count]) {
         Ok(payload) => Ok(Some(Request::new(head, payload))),
         Err(_) => Err(FeedFault::NoMemory),
     }

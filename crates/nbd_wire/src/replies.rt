@@ -1,9 +1,8 @@
 ghost use Rattle.std.specs.Prelude.{◌≡◌, ◌≢◌, ◌++◌, [], OnOk, OnErr};
 ghost use Rattle.nbd_wire.specs.Grammar.{reply_head_text, reply_text};
 
-use crate::appending::append_both;
-use bytes::Bytes;
 use nbd_base::NoMemory;
+use payload::Payload;
 use std::alloc::Allocator;
 use std::marker::Model;
 
@@ -15,7 +14,7 @@ const REPLY_MAGIC: u32 = 0x6744_6698;
 pub struct Reply<A: Allocator> {
     error: u32,
     cookie: u64,
-    content: Bytes<A>,
+    content: Payload<A>,
 }
 
 impl<A: Allocator> Model for Reply<A> {
@@ -31,7 +30,7 @@ impl<A: Allocator> Model for Reply<A> {
 
 impl<A: Allocator> Reply<A> {
     /// The reply to a request that was done. The content is empty but for a READ.
-    pub fn done(cookie: u64, content: Bytes<A>) -> Reply<A>
+    pub fn done(cookie: u64, content: Payload<A>) -> Reply<A>
         ensures { result ≡ record { error = 0; cookie = cookie; content = content } }
     {
         Reply {
@@ -48,7 +47,7 @@ impl<A: Allocator> Reply<A> {
         Reply {
             error,
             cookie,
-            content: Bytes::new(),
+            content: Payload::new(),
         }
     }
 
@@ -68,7 +67,7 @@ impl<A: Allocator> Reply<A> {
     }
 
     /// What a READ brings; empty beside an error.
-    pub fn content(&self) -> &Bytes<A>
+    pub fn content(&self) -> &Payload<A>
         ensures { result.now ≡ self.now.content }
     {
         &self.content
@@ -95,6 +94,12 @@ pub fn write_reply<A: Allocator, B: Allocator>(
     ensures ok { OnOk result (out.new.items ≡ out.old.items ++ reply_text reply.now) }
     ensures err { OnErr result (out.new.items ≡ out.old.items) }
 {
+    let before = out.len();
     let head = write_reply_head(reply.error, reply.cookie);
-    append_both(out, &head, reply.content.as_slice())
+    out.extend_from_slice(&head)?;
+    if reply.content.append(out).is_err() {
+        out.truncate(before);
+        return Err(NoMemory);
+    }
+    Ok(())
 }

@@ -5,7 +5,7 @@ ghost use Rattle.nbd_wire.specs.Grammar.{head_text, IsHead, IsTooLong, IsRequest
 use crate::fault::WireFault;
 use crate::fields::{u16_at, u32_at, u64_at};
 use crate::protocol::WRITE;
-use bytes::Bytes;
+use payload::Payload;
 use std::alloc::{AllocError, Allocator};
 use std::marker::Model;
 
@@ -33,7 +33,7 @@ pub struct RequestHead {
 #[derive(Drop)]
 pub struct Request<A: Allocator> {
     head: RequestHead,
-    payload: Bytes<A>,
+    payload: Payload<A>,
 }
 
 impl<A: Allocator> Model for Request<A> {
@@ -48,7 +48,7 @@ impl<A: Allocator> Model for Request<A> {
 
 impl<A: Allocator> Request<A> {
     /// A request of a head and a payload that belong together.
-    pub fn new(head: RequestHead, payload: Bytes<A>) -> Request<A>
+    pub fn new(head: RequestHead, payload: Payload<A>) -> Request<A>
         requires { IsRequest (record { head = head; payload = payload }) }
         ensures { result ≡ record { head = head; payload = payload } }
     {
@@ -64,7 +64,7 @@ impl<A: Allocator> Request<A> {
     }
 
     /// What a WRITE writes; empty for any other request.
-    pub fn payload(&self) -> &Bytes<A>
+    pub fn payload(&self) -> &Payload<A>
         ensures value { result.now ≡ self.now.payload }
         ensures fits { IsRequest self.now }
     {

@@ -1,12 +1,12 @@
 //! What threads do here is only tested: the contracts tell of no order, and of nothing that happens at one time.
 
 use crate::*;
-use bytes::Bytes;
 use eligibility::Heaped;
 use export_store::Flat;
 use nbd_commands::{Config, ExportList, ExportSettings};
 use nbd_wire::protocol::{READ, WRITE};
 use nbd_wire::{Reply, Request, RequestHead};
+use payload::Payload;
 use reply_box::Taken;
 use server_core::{Server, SessionId, Ticket};
 use server_lock::{Pass, Shared};
@@ -46,7 +46,7 @@ fn read_of(cookie: u64, length: u32) -> Request<Global> {
         offset: 0,
         length,
     };
-    Request::new(head, Bytes::new())
+    Request::new(head, Payload::new())
 }
 
 // A write of one byte.
@@ -58,7 +58,7 @@ fn write_of(alloc: Global, offset: u64, byte: u8) -> Option<Request<Global>> {
         offset,
         length: 1,
     };
-    let payload = Bytes::copy_from_slice(alloc, [byte].as_slice()).ok()?;
+    let payload = Payload::copied(alloc, offset, [byte].as_slice()).ok()?;
     Some(Request::new(head, payload))
 }
 

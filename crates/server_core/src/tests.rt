@@ -2,12 +2,12 @@
 //! were worked out from the rules of the scheduler, apart from this program.
 
 use crate::*;
-use bytes::Bytes;
 use eligibility::{Eligibility, Heaped, Listed};
 use export_store::Paged;
 use nbd_commands::{Config, ExportList, ExportSettings};
 use nbd_wire::protocol::{FLUSH, READ, WRITE};
 use nbd_wire::{Request, RequestHead};
+use payload::Payload;
 use refusing::Refusing;
 use server_table::{Answer, Event};
 use std::alloc::Global;
@@ -142,10 +142,10 @@ fn request_of(alloc: Global, name: &str, cookie: u64) -> Option<Request<Global>>
         length: 4,
     };
     if kind == READ {
-        return Some(Request::new(head, Bytes::new()));
+        return Some(Request::new(head, Payload::new()));
     }
     let written = [0xde, 0xad, 0xbe, 0xef];
-    let payload = Bytes::copy_from_slice(alloc, written.as_slice()).ok()?;
+    let payload = Payload::copied(alloc, head.offset, written.as_slice()).ok()?;
     Some(Request::new(head, payload))
 }
 
@@ -195,7 +195,8 @@ fn text_of(alloc: Global, answer: &Answer<Global>) -> Result<String<Global>, Fai
         } => format!(in alloc; "weight {export} {number}")?,
         Answer::Reply(reply) => {
             let (cookie, error) = (reply.cookie(), reply.error());
-            let content = reply.content().as_slice();
+            let mut content = Vec::new(alloc);
+            reply.content().append(&mut content)?;
             format!(in alloc; "reply {cookie} {error} {content:?}")?
         }
         other => String::from_str(alloc, word_of(other))?,
@@ -348,7 +349,7 @@ fn flush_in<'a>() -> Request<Memory<'a>> {
         offset: 0,
         length: 0,
     };
-    Request::new(head, Bytes::new())
+    Request::new(head, Payload::new())
 }
 
 // Whether a server is made, while memory is refused as armed.

@@ -1,5 +1,5 @@
 //! A booked server that threads share.
-ghost use Rattle.std.specs.Prelude.{◌≡◌, ◌≤◌, IfOk, IfErr, vec_len};
+ghost use Rattle.std.specs.Prelude.{◌≡◌, ◌≤◌, IfOk, IfErr, IfSome, vec_len};
 ghost use Rattle.std.specs.Sync.Mutex.{mutex_guard_value};
 ghost use Rattle.server_table.specs.declared.event.Event.TheVariants as event;
 ghost use Rattle.server_core.specs.Counted.{counted_steps, IsSound};
@@ -15,6 +15,7 @@ use nbd_base::NoMemory;
 use nbd_wire::Request;
 use reply_box::Taken;
 use server_core::{Chosen, NotArrived, NotAttached, Server, SessionId, SessionRefusal, Ticket};
+use std::hint::spin_loop;
 use std::sync::atomic::{AtomicBool, Ordering};
 use std::sync::ledger::{Blank, Ledger};
 use std::sync::{Mutex, MutexGuard, Wait};
@@ -23,6 +24,9 @@ use tag_clock::Moment;
 
 /// How often a taken lock is asked for, while other threads run, before its caller sleeps.
 const TRIES: usize = 64;
+
+/// How often it is looked at in a row before other threads run.
+const LOOKS: usize = 32;
 
 /// A booked server under a lock, and a stop flag beside it, of which nothing is claimed.
 ///
@@ -74,16 +78,38 @@ impl<L: Ledger, I: Image, E: Eligibility<Alloc = I::Alloc>> Shared<L, I, E> {
         held
     }
 
-    // The lock. A hand-over from sleeper to sleeper takes longer than most holds do, so whoever finds it taken first lets others
-    // run for a while.
+    /// The server, where nobody has it now: what `hold` gives, without waiting.
+    pub fn try_hold(&self) -> Option<MutexGuard<'_, Booked<L, I, E>>>
+        ensures { IfSome result (λ held. IsSound (mutex_guard_value held)) }
+    {
+        let Some(held) = self.booked.try_lock() else {
+            return None;
+        };
+        held.kept();
+        Some(held)
+    }
+
+    // The lock. A hand-over from sleeper to sleeper takes longer than most holds do, so whoever finds it taken looks again
+    // for a while, and lets others run in between.
     fn take<R: Wait>(&self, rt: &R) -> MutexGuard<'_, Booked<L, I, E>> {
         for _ in 0..TRIES {
-            if let Some(held) = self.booked.try_lock() {
+            if let Some(held) = self.look() {
                 return held;
             }
             yield_now();
         }
         self.booked.lock(rt)
+    }
+
+    // The lock, where it is free at one of some looks. Most holds are shorter than it takes to let another thread run.
+    fn look(&self) -> Option<MutexGuard<'_, Booked<L, I, E>>> {
+        for _ in 0..LOOKS {
+            if let Some(held) = self.booked.try_lock() {
+                return Some(held);
+            }
+            spin_loop();
+        }
+        None
     }
 
     /// Opens a session of an export.

@@ -1,13 +1,13 @@
 ghost use Rattle.std.specs.Prelude.{◌≡◌};
 
 use crate::*;
-use bytes::Bytes;
 use eligibility::{Heaped, Listed};
 use export_store::Flat;
 use lone_export::Arrived;
 use nbd_commands::{Config, ExportList, ExportSettings};
 use nbd_wire::protocol::{FLUSH, READ, WRITE};
 use nbd_wire::{Request, RequestHead};
+use payload::Payload;
 use refusing::Refusing;
 use reply_box::Taken;
 use server_core::{Chosen, NotAttached, Server, SessionId, SessionRefusal};
@@ -34,7 +34,7 @@ fn read_of<A: Allocator>(cookie: u64) -> Request<A> {
         offset: 0,
         length: 4,
     };
-    Request::new(head, Bytes::new())
+    Request::new(head, Payload::new())
 }
 
 fn flush_of<A: Allocator>(cookie: u64) -> Request<A> {
@@ -45,7 +45,7 @@ fn flush_of<A: Allocator>(cookie: u64) -> Request<A> {
         offset: 0,
         length: 0,
     };
-    Request::new(head, Bytes::new())
+    Request::new(head, Payload::new())
 }
 
 fn write_of(alloc: Global, cookie: u64) -> Option<Request<Global>> {
@@ -56,7 +56,7 @@ fn write_of(alloc: Global, cookie: u64) -> Option<Request<Global>> {
         offset: 0,
         length: 4,
     };
-    let payload = Bytes::copy_from_slice(alloc, [0xde, 0xad, 0xbe, 0xef].as_slice()).ok()?;
+    let payload = Payload::copied(alloc, head.offset, [0xde, 0xad, 0xbe, 0xef].as_slice()).ok()?;
     Some(Request::new(head, payload))
 }
 
@@ -107,7 +107,7 @@ fn read_back<L: Ledger, R: Wait>(
     pass: &mut Pass<L>,
     gone: SessionId,
     session: SessionId,
-) -> Option<[bool; 7]> {
+) -> Option<[bool; 9]> {
     let request = read_of(2);
     let arrived = shared
         .turn_arrive(rt, pass, session, Moment::zero(), request)
@@ -120,11 +120,13 @@ fn read_back<L: Ledger, R: Wait>(
     let chosen = chosen(rt, shared, pass, 1)?;
     let performed = shared.turn_perform(rt, pass, chosen.ticket) == Some(true);
     let mut held = shared.hold(rt);
+    let busy = shared.try_hold().is_none();
     let read = match turn_take(&mut *held, pass, session).ok()? {
         Taken::Reply(reply) => {
             reply.cookie() == 2
                 && reply.error() == 0
-                && reply.content().as_slice() == [0xde, 0xad, 0xbe, 0xef].as_slice()
+                && !reply.content().is_empty()
+                && reply.content().from(0) == [0xde, 0xad, 0xbe, 0xef].as_slice()
         }
         _ => false,
     };
@@ -137,18 +139,21 @@ fn read_back<L: Ledger, R: Wait>(
         Ok(_) => false,
     };
     drop(held);
+    let free = shared.try_hold().is_some();
     let left = shared.turn_leave(rt, pass, session).is_ok();
     let end = match shared.turn_take(rt, pass, session).ok()? {
         Taken::End => true,
         _ => false,
     };
-    Some([accepted, performed, read, empty, not_open, left, end])
+    Some([
+        accepted, performed, busy, read, empty, not_open, free, left, end,
+    ])
 }
 
 #[derive(Clone, Copy)]
 struct Ran {
     written: [bool; 6],
-    read_back: [bool; 7],
+    read_back: [bool; 9],
     last: Option<Trace>,
     turns: u64,
     held: u64,
@@ -188,7 +193,7 @@ fn two_sessions<L: Ledger, R: Wait>(rt: &R, alloc: Global, blank: Blank) -> Opti
 fn gone_is_still_served(rt: HostRuntime) -> Result<(), Fail> {
     let ran = two_sessions::<Brand, _>(&rt, rt.alloc(), Blank::new(1)).ok_or("memory")?;
     assert_eq!(rt; ran.written, [true; 6]);
-    assert_eq!(rt; ran.read_back, [true; 7]);
+    assert_eq!(rt; ran.read_back, [true; 9]);
     let event = EventTrace::Gone {
         export: 0,
         session: 1,

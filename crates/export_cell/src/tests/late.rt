@@ -16,7 +16,7 @@ fn asks_and_serves<A: Allocator + Copy>(
 // then READs.
 fn filled(alloc: Global) -> Result<ExportCell<Flat<Global>>, Fail> {
     let mut cell = opened(alloc, &ExportSettings::new(b"a", 8))?;
-    let payload = Bytes::copy_from_slice(alloc, b"payload!")?;
+    let payload = Payload::copied(alloc, 0, b"payload!")?;
     let write = write_of(payload).ok_or("a write")?;
     let begun = cell.attach() == Ok(0) && cell.arrive(0, Moment::zero(), read(8)).is_ok();
     let picked = if cell.live().may_pick() {
@@ -49,7 +49,7 @@ fn pushed(cell: &mut ExportCell<Flat<Global>>, alloc: Global) -> Result<(u64, u8
         return Err(Fail::from("8 bytes"));
     }
     let mut bytes = Vec::new(alloc);
-    base.image().read(0, 1, &mut bytes)?;
+    base.image().read(0, 1)?.append(&mut bytes)?;
     let first = bytes.first().ok_or("a byte")?;
     Ok((base.steps(), *first))
 }

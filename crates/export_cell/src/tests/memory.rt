@@ -118,6 +118,6 @@ fn each_growth_of_the_base_is_refused_in_turn(rt: HostRuntime) -> Result<(), NoM
         }
         refused = nth;
     }
-    assert!(rt; refused >= 12);
+    assert!(rt; refused >= 6);
     Ok(())
 }

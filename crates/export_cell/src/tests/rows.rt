@@ -31,7 +31,7 @@ fn a_log_has_64_mib_of_payload(rt: HostRuntime) -> Result<(), Fail> {
     let mut cell = opened(rt.alloc(), &ExportSettings::new(b"a", 33_554_432))?;
     assert_eq!(rt; cell.attach(), Ok(0));
     let bytes = vec![in rt.alloc(); 1u8; 33_554_432]?;
-    let payload = Bytes::from_vec(bytes)?;
+    let payload = Payload::copied(rt.alloc(), 0, bytes.as_slice())?;
     for round in 0..3u64 {
         let write = write_of(payload.clone()?).ok_or("a write")?;
         assert!(rt; cell.arrive(0, Moment::zero(), write).is_ok());

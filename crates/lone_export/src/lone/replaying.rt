@@ -9,12 +9,12 @@ ghost use Rattle.lone_export.specs.Lone.{Does, MayReplay, IsReplayed, StopsAt, m
 use crate::lone::{Lone, settle};
 use crate::said::{arrived_said, attach_said, gone_said, leave_said, pick_said, take_said};
 use crate::step::{Step, StepAnswer};
-use bytes::Bytes;
 use export_store::Image;
 use nbd_base::NoMemory;
 use nbd_commands::{Done, apply, may_want_memory};
 use nbd_wire::Request;
 use nbd_wire::protocol::ENOMEM;
+use payload::Payload;
 use std::alloc::Allocator;
 
 impl<I: Image> Lone<I> {
@@ -105,7 +105,7 @@ impl<I: Image> Lone<I> {
         let Some(row) = self.queue.held(slot, number) else {
             unreachable!();
         };
-        let again = apply_again(self.alloc, &mut self.image, &row.request, memory);
+        let again = apply_again(&mut self.image, &row.request, memory);
         let Some(done) = again else {
             return Err(NoMemory);
         };
@@ -119,7 +119,6 @@ impl<I: Image> Lone<I> {
 /// Performs a request as its mark says: with memory, or without where it may want some. None where memory is wanted
 /// and refused.
 fn apply_again<I: Image>(
-    alloc: I::Alloc,
     image: &mut I,
     request: &Request<I::Alloc>,
     memory: bool,
@@ -138,10 +137,10 @@ fn apply_again<I: Image>(
     if !memory && may_want_memory(request) {
         return Some(Done {
             error: ENOMEM,
-            content: Bytes::new(),
+            content: Payload::new(),
             memory: false,
         });
     }
-    let done = apply(alloc, image, request);
+    let done = apply(image, request);
     if done.memory { Some(done) } else { None }
 }

@@ -8,10 +8,10 @@ ghost use Rattle.lone_export.specs.declared.step.Step.TheVariants as step;
 
 use crate::lone::{Lone, settle};
 use crate::row::Row;
-use bytes::Bytes;
 use export_store::Image;
 use nbd_commands::Done;
 use nbd_wire::protocol::READ;
+use payload::Payload;
 use reply_box::ReplyBox;
 use std::alloc::Allocator;
 
@@ -50,7 +50,7 @@ impl<I: Image> Lone<I> {
         }
         let done = Done {
             error: 0,
-            content: Bytes::new(),
+            content: Payload::new(),
             memory: true,
         };
         settle(&mut self.queue, &mut self.sessions, slot, number, done);

@@ -53,7 +53,11 @@ fn serves<A: Allocator + Copy>(
 fn replies<A: Allocator + Copy>(lone: &mut Lone<Flat<A>>, error: u32, content: &[u8]) -> bool {
     match lone.take(0) {
         Ok(Taken::Reply(reply)) => {
-            reply.error() == error && reply.content().as_slice() == content
+            let same = match reply.content().is_empty() {
+                true => content.is_empty(),
+                false => reply.content().from(0) == content,
+            };
+            reply.error() == error && same
         }
         _ => false,
     }

@@ -205,7 +205,7 @@ fn performed_without_memory(alloc: Global) -> Result<Run, NoMemory> {
         number,
         memory: false,
     };
-    let flush = Request::new(head_of(FLUSH, 3, 0, 0), Bytes::new());
+    let flush = Request::new(head_of(FLUSH, 3, 0, 0), Payload::new());
     Ok(vec![in alloc;
         (Step::Attach, "session 0"),
         (

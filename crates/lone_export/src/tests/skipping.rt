@@ -9,7 +9,7 @@ use std::test::Fail;
 // A session's READ is in service under number 0, its FLUSH under 1.
 fn in_service(alloc: Global) -> Result<Lone<Flat<Global>>, Fail> {
     let mut lone = opened(alloc, &ExportSettings::new(b"a", 8))?;
-    let flush = Request::new(head_of(FLUSH, 8, 0, 0), Bytes::new());
+    let flush = Request::new(head_of(FLUSH, 8, 0, 0), Payload::new());
     let steps = vec![in alloc;
         Step::Attach,
         arrival(0, 0, read_of(7, 0, 8)),

@@ -45,20 +45,19 @@ fn long_write(alloc: Global, length: u32) -> Result<Vec<u8>, AllocError> {
 
 /// The cookie of the next request and how long its payload is, where that is the bytes that were sent; or how the reading ended.
 fn next_of<A: Allocator + Copy>(
+    alloc: Global,
     reader: &mut FrameReader<Drip<'_>, A>,
     sent: &[u8],
 ) -> Result<(u64, usize), Ending> {
     match reader.next() {
         Frame::Whole(request) => {
-            let payload = request.payload().as_slice();
+            let payload = request.payload();
             let wanted = sent
                 .get(28..payload.len().saturating_add(28))
                 .unwrap_or_default();
-            let count = if payload == wanted {
-                payload.len()
-            } else {
-                usize::MAX
-            };
+            let mut came = Vec::new(alloc);
+            let same = payload.append(&mut came).is_ok() && came.as_slice() == wanted;
+            let count = if same { payload.len() } else { usize::MAX };
             Ok((request.head().cookie, count))
         }
         Frame::Ended(ending) => Err(ending),
@@ -74,12 +73,16 @@ fn a_payload_in_pieces(rt: HostRuntime) -> Result<(), Fail> {
             let fails = false;
             let drip = Drip { bytes, most, fails };
             let mut reader = FrameReader::new(rt.alloc(), Counted::new(drip));
-            let first = next_of(&mut reader, &sent);
+            let first = next_of(rt.alloc(), &mut reader, &sent);
             assert_eq!(rt; first, Ok((1, length as usize)), "from {most}");
-            assert_eq!(rt; next_of(&mut reader, &sent), Ok((2, 0)), "from {most}");
+            assert_eq!(rt;
+                next_of(rt.alloc(), &mut reader, &sent),
+                Ok((2, 0)),
+                "from {most}"
+            );
             for _ in 0..2 {
                 assert_eq!(rt;
-                    next_of(&mut reader, &sent),
+                    next_of(rt.alloc(), &mut reader, &sent),
                     Err(Ending::Over),
                     "from {most}"
                 );
@@ -99,7 +102,11 @@ fn a_payload_that_ends_early(rt: HostRuntime) -> Result<(), Fail> {
             let drip = Drip { bytes, most, fails };
             let mut reader = FrameReader::new(rt.alloc(), Counted::new(drip));
             for _ in 0..2 {
-                assert_eq!(rt; next_of(&mut reader, &sent), Err(ending), "at {count}");
+                assert_eq!(rt;
+                    next_of(rt.alloc(), &mut reader, &sent),
+                    Err(ending),
+                    "at {count}"
+                );
             }
         }
     }
@@ -116,14 +123,14 @@ fn each_growth_for_a_payload_is_refused(rt: HostRuntime) -> Result<(), Fail> {
         let (most, fails) = (70_000, false);
         let drip = Drip { bytes, most, fails };
         let mut reader = FrameReader::new(&heap, Counted::new(drip));
-        let first = next_of(&mut reader, &sent);
+        let first = next_of(rt.alloc(), &mut reader, &sent);
         if heap.is_armed() {
             assert_eq!(rt; first, Ok((1, 100_000)));
             break;
         }
         assert_eq!(rt; first, Err(Ending::NoMemory), "at {nth}");
         assert_eq!(rt;
-            next_of(&mut reader, &sent),
+            next_of(rt.alloc(), &mut reader, &sent),
             Err(Ending::NoMemory),
             "at {nth}"
         );

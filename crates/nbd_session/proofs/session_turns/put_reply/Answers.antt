@@ -17,7 +17,7 @@ pub returns-in-Ok-clause-part : goal.returns-in-Ok-clause-part
 returns-in-Ok-clause-part g c =
     let u = g.O.Write.contents c.args.writer.now.inner in
     let v = g.O.Write.contents c.put.new.writer.inner in
-    let w = g.O.Write.contents c.put-in-Ok.new.writer.inner in
+    let w = g.O.Write.contents c.put_payload.new.writer.inner in
     let head : c.write_reply_head.result ≡ reply_head_text c.args.reply.now.error c.args.reply.now.cookie = (cc) in
-    let rest : c.deref.result.now ≡ c.args.reply.now.content = (cc) in
-    on_err c.put-in-Ok.result (part_behind u v w (reply_head_text c.args.reply.now.error c.args.reply.now.cookie) c.args.reply.now.content (subst (Appends u v) head c.in-Ok.ensures.ok)) (subst (λ t. OnErr c.put-in-Ok.result (WritesPart v w t)) rest c.put-in-Ok.ensures.err)
+    let rest : c.content.result.now ≡ c.args.reply.now.content = (cc) in
+    on_err c.put_payload.result (part_behind u v w (reply_head_text c.args.reply.now.error c.args.reply.now.cookie) c.args.reply.now.content (subst (Appends u v) head c.in-Ok.ensures.ok)) (subst (λ t. OnErr c.put_payload.result (WritesPart v w t)) rest c.put_payload.ensures.err)

@@ -41,7 +41,7 @@ invariant_of-self-in-Ok g c =
     let longer = c.push_back_reserved.new.self in
     let has : IsReserved (cell_of i.live i.base (kept_log i.log.items) (deque_capacity i.log)) s q (Some kept) =
     subst (λ (v : Cell). IsReserved v s q (Some kept)) (sym c.self.view_is) (subst (λ (k : Option RequestMessage). IsReserved c.args.self.now s q k) c.in-Some.is c.requires) in
-    let bytes : c.len-bytes.result ≡ length q.payload = c.len-bytes.ensures.value ∙ ap length c.payload.ensures.value in
+    let bytes : c.len-bytes.result ≡ length q.payload = c.len-bytes.ensures ∙ ap length c.payload.ensures.value in
     let does = makes A i.live c.arrive-2.new.self (Arrive s c.args.moment q) _ true c.in-Ok.ensures.step (arrived_counted A c.in-Ok.arrived) in
     let does_kept : Makes i.live c.arrive-2.new.self (Arrive s c.args.moment kept) true = subst (λ (k : RequestMessage). Makes i.live c.arrive-2.new.self (Arrive s c.args.moment k) true) (sym has.1) does in
     cell-heavy i.live c.arrive-2.new.self i.base (kept_log i.log.items) (kept_log longer.items) (Arrive s c.args.moment kept) c.len-bytes.result i.payload (deque_capacity i.log) (deque_capacity longer) c.self.invariant

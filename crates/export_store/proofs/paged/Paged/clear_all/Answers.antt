@@ -1,8 +1,8 @@
 use Rattle.std.proofs.Common.{◌+◌, ◌≤◌, ℕ, length, replicate, ap, ◌∙◌, arith}
 use Rattle.std.proofs.lemmas.List.{length-replicate}
 use Rattle.export_store.specs.Pages.{image_of}
-use Rattle.export_store.proofs.BytesLemmas.{length-overwritten}
-use Rattle.export_store.proofs.Overwriting.{zeroed-next}
+use Rattle.payload.proofs.BytesLemmas.{length-overwritten}
+use Rattle.payload.proofs.Overwriting.{zeroed-next}
 use Rattle.export_store.proofs.paged.Paged.clear_all.Goals as goal
 
 pub loop-at-preserved : goal.loop-at-preserved

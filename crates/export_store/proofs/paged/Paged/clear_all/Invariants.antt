@@ -1,5 +1,5 @@
 use Rattle.std.proofs.Common.{◌≡◌, ℕ, ◌-◌, ◌≤◌, length, replicate}
-use Rattle.export_store.specs.Bytes.{overwritten}
+use Rattle.payload.specs.Bytes.{overwritten}
 use Rattle.export_store.specs.Pages.{image_of, is_held}
 use Rattle.export_store.proofs.paged.Paged.clear_all.Given as goal
 

@@ -1,5 +1,5 @@
 use Rattle.std.proofs.Common.{◌≡◌, ℕ, ◌*◌, ◌≤◌, ◌&&◌, not, nat_le, nat_lt, max, length, replicate}
-use Rattle.export_store.specs.Bytes.{overwritten}
+use Rattle.payload.specs.Bytes.{overwritten}
 use Rattle.export_store.specs.Pages.{image_of, is_held}
 use Rattle.export_store.proofs.paged.Paged.give_back_all.Given as goal
 

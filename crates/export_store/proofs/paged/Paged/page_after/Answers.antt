@@ -1,24 +1,24 @@
-use Rattle.std.proofs.Common.{◌≡◌, ◌+◌, ◌∙◌, refl, sym, ap, ℕ, length, arith}
-use Rattle.export_store.specs.Pages.{page_of, part_in}
-use Rattle.export_store.proofs.PieceLemmas.{part_found, page_whole, page_changed}
+use Rattle.std.proofs.Common.{◌≡◌, ◌+◌, ◌∙◌, ℕ, List, length, refl, ap}
+use Rattle.export_store.specs.Pages.{page_of, page_after}
+use Rattle.export_store.proofs.PieceLemmas.{page_changed, page_covered}
+use Rattle.export_store.proofs.paged.Paged.page_after.Goals.{then-count-eq-PAGE, else-count-eq-PAGE+in_ok-old}
 use Rattle.export_store.proofs.paged.Paged.page_after.Goals as goal
 
-pub returns-then-len-eq-PAGE-clause-content : goal.returns-then-len-eq-PAGE-clause-content
-returns-then-len-eq-PAGE-clause-content g c =
-    let offset = c.args.offset in
-    let piece = c.args.piece.now in
-    let number = c.args.number in
-    let is : c.in_ok-part.part ≡ part_in offset piece number =
-    c.in_ok-part.ensures.ok ∙ part_found offset piece number _ _ _ _ _ c.requires.touched refl c.saturating_sub-start.ensures c.saturating_sub-from.ensures (c.end_of-end.ensures.end ∙ ap (λ (n : ℕ). offset + n) c.len.ensures.value) c.min-upto.ensures in
-    let full : length (part_in offset piece number) ≡ 4096 = omega (arith, ap length is, c.len-2.ensures.value, c.if-len-eq-PAGE.true) in
-    c.in_ok-content.ensures ∙ is ∙ sym (page_whole offset piece number (page_of c.args.self.now number) (c.end_of-end.ensures.pages.whole number) full)
-
-pub returns-clause-content : goal.returns-clause-content
-returns-clause-content g c =
-    let offset = c.args.offset in
-    let piece = c.args.piece.now in
-    let number = c.args.number in
-    let is : c.in_ok-part.part ≡ part_in offset piece number =
-    c.in_ok-part.ensures.ok ∙ part_found offset piece number _ _ _ _ _ c.requires.touched refl c.saturating_sub-start.ensures c.saturating_sub-from.ensures (c.end_of-end.ensures.end ∙ ap (λ (n : ℕ). offset + n) c.len.ensures.value) c.min-upto.ensures in
-    c.alone.ensures ∙ c.in_ok-bytes.ensures
-    ∙ page_changed offset piece number c.saturating_sub-start.result (page_of c.args.self.now number) c.as_slice.result.now c.saturating_sub-start.ensures (c.as_slice.ensures ∙ is)
+pub returns-clause-bytes : goal.returns-clause-bytes
+returns-clause-bytes g c =
+    let offset : ℕ = c.args.offset in
+    let piece : List ℕ = c.args.piece.now in
+    let number : ℕ = c.args.number in
+    let was : List ℕ = page_of c.args.self.now number in
+    let old : List ℕ = c.if-count-eq-PAGE.old in
+    let end : c.end_of-end.result ≡ offset + length piece = c.end_of-end.ensures.end ∙ ap (λ (n : ℕ). offset + n) c.len.ensures in
+    let starts = c.saturating_sub-start.ensures in
+    let comes = c.saturating_sub-from.ensures in
+    let goes = c.min-count.ensures in
+    c.in_ok-page.ensures.bytes
+    ∙ page_changed offset piece number _ _ _ _ _ c.requires.touched refl starts comes end goes old
+    ∙ (elim c.if-count-eq-PAGE.branch [
+      | then-count-eq-PAGE w ↦ page_covered offset piece number _ _ _ _ _ c.requires.touched refl starts comes end goes w.if-count-eq-PAGE.true old was
+          (ap length w.old-is ∙ w.zeros-old.ensures.whole) (c.end_of-end.ensures.pages.whole number)
+      | else-count-eq-PAGE+in_ok-old w ↦ ap (λ (page : List ℕ). page_after offset piece number page) (w.old-is ∙ w.in_ok-old.ensures.bytes)
+    ])

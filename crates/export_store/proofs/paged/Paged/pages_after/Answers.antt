@@ -11,6 +11,6 @@ loop-number-preserved g c =
       begun = omega (arith, before.begun);
       ready = c.in_ok-push.ensures.items
           ∙ ap (λ (pages : List (List ℕ)). pages ++ c.in_ok-page.page ∷ []) before.ready
-          ∙ ap (λ (page : List ℕ). ready ++ page ∷ []) c.in_ok-page.ensures.content
+          ∙ ap (λ (page : List ℕ). ready ++ page ∷ []) c.in_ok-page.ensures.bytes
           ∙ next_page (page_of c.args.self.now) c.args.offset c.args.piece.now (c.args.offset / 4096) c.loop-number.number before.begun;
     }

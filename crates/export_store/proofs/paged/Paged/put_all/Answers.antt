@@ -1,7 +1,8 @@
 use Rattle.std.proofs.Common.{◌≡◌, ◌+◌, ◌-◌, ◌/◌, ◌∙◌, inl, inr, true, is_some, unwrap_or, Option, ℕ, List, length, refl, sym, ap, arith}
 use Rattle.std.specs.Int.{div_ceil}
 use Rattle.std.proofs.lemmas.Bool.{cases_eq}
-use Rattle.export_store.specs.Pages.{zero_page, is_held, page_of, pages_after}
+use Rattle.payload.specs.Rows.{zero_page}
+use Rattle.export_store.specs.Pages.{is_held, page_of, pages_after}
 use Rattle.export_store.proofs.RangeLemmas.{has_byte}
 use Rattle.export_store.proofs.PieceLemmas.{IsTaken, take_last, length-page_after, length-pages_after, written_none, written_next, written_all, image_after}
 use Rattle.export_store.proofs.paged.Paged.put_all.Goals as goal
@@ -9,15 +10,15 @@ use Rattle.export_store.proofs.paged.Paged.put_all.Goals as goal
 pub loop-page-init : goal.loop-page-init
 loop-page-init g c =
     let piece = c.args.piece.now in
-    let end : c.div_ceil-end.result ≡ div_ceil (c.args.offset + length piece) 4096 =
-    c.div_ceil-end.ensures ∙ ap (λ (n : ℕ). div_ceil n 4096) (c.end_of.ensures.end ∙ ap (λ (n : ℕ). c.args.offset + n) c.len.ensures.value) in
+    let end : c.div_ceil-number.result ≡ div_ceil (c.args.offset + length piece) 4096 =
+    c.div_ceil-number.ensures ∙ ap (λ (n : ℕ). div_ceil n 4096) (c.end_of.ensures.end ∙ ap (λ (n : ℕ). c.args.offset + n) c.len.ensures) in
     record {
       size = refl;
       long = refl;
       begun = omega (arith, end);
       upto = omega (arith, end);
       left = c.requires.ready ∙ ap (λ (n : ℕ). pages_after (page_of c.args.self.now) c.args.offset piece (c.args.offset / 4096) (n - c.args.offset / 4096)) (sym end);
-      written = written_none (page_of c.args.self.now) c.args.offset piece c.div_ceil-end.result end;
+      written = written_none (page_of c.args.self.now) c.args.offset piece c.div_ceil-number.result end;
       held = λ k. refl;
     }
 

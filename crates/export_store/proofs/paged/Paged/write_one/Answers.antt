@@ -1,16 +1,17 @@
 use Rattle.std.proofs.Common.{◌∙◌, unwrap_or, Option, ℕ, List, length, ap}
-use Rattle.export_store.specs.Pages.{zero_page, page_of}
+use Rattle.payload.specs.Rows.{zero_page}
+use Rattle.export_store.specs.Pages.{page_of}
 use Rattle.export_store.proofs.PieceLemmas.{length-page_after, written_one, image_after}
 use Rattle.export_store.proofs.paged.Paged.write_one.Goals as goal
 
 pub replace-requires-clause-whole : goal.replace-requires-clause-whole
 replace-requires-clause-whole g c =
-    ap length c.in_ok-page.ensures.content ∙ length-page_after c.args.offset c.args.piece.now _ _ (c.in_ok-page.ensures.pages.whole _)
+    ap length c.in_ok-page.ensures.bytes ∙ length-page_after c.args.offset c.args.piece.now _ _ (c.in_ok-page.ensures.pages.whole _)
 
 pub returns-clause-written : goal.returns-clause-written
 returns-clause-written g c =
     let after = c.in_ok-replace.ensures in
     image_after c.args.self.now c.replace.new.self c.args.offset c.args.piece.now c.in_ok-page.ensures.pages after.size c.requires.within
     (written_one (page_of c.args.self.now) (page_of c.replace.new.self) c.args.offset c.args.piece.now c.requires.one_page
-    (ap (λ (page : Option (List ℕ)). unwrap_or page zero_page) after.here ∙ c.in_ok-page.ensures.content)
+    (ap (λ (page : Option (List ℕ)). unwrap_or page zero_page) after.here ∙ c.in_ok-page.ensures.bytes)
     (λ k apart. ap (λ (page : Option (List ℕ)). unwrap_or page zero_page) (after.others k apart)))

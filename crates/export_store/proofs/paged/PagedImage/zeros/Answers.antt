@@ -2,7 +2,7 @@ use Rattle.export_store.proofs.ImageLemmas.{IsPaged-none, image_of-none}
 use Rattle.export_store.proofs.paged.PagedImage.zeros.Goals as goal
 
 pub invariant_of-result : goal.invariant_of-result
-invariant_of-result g c = IsPaged-none _ c.new-pages.ensures.empty
+invariant_of-result g c = IsPaged-none _ c.new-pages.ensures
 
 pub returns-clause-zeros : goal.returns-clause-zeros
-returns-clause-zeros g c = image_of-none _ c.new-pages.ensures.empty
+returns-clause-zeros g c = image_of-none _ c.new-pages.ensures

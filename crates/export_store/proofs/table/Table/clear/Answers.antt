@@ -1,0 +1,36 @@
+use Rattle.std.proofs.Common.{◌∙◌, ◌%◌, IsSome, Option, ℕ, List, refl, sym, ap, subst}
+use Rattle.std.specs.BTreeMap.{BTreeMap}
+use Rattle.export_store.specs.Table.{in_table, cleared}
+use Rattle.export_store.proofs.TableLemmas.{Places, table_found, table_absent, table_here, table_others}
+use Rattle.export_store.proofs.table.Table.clear.Goals.{in-Some, in_default}
+use Rattle.export_store.proofs.table.Table.clear.Goals as goal
+
+pub returns-clause-here : goal.returns-clause-here
+returns-clause-here g c =
+    let i = c.self.inside in
+    let number : ℕ = c.args.number in
+    let seen = ap (λ (chunks : List (ℕ × Places)). in_table chunks number) c.self.view_is in
+    elim c.match-get_mut.branch [
+      | in-Some w ↦ let written = w.clear.new.self in
+          let there = w.in-Some.ensures.value in
+          let updates = (c.get_mut.follows.holds written).3 (subst IsSome there refl) in
+          rw w.self-inside-is (table_here i.chunks (c.get_mut.follows.lender written) number written updates _
+          (w.clear.ensures.here ∙ ap (λ (page : Option (List ℕ)). cleared c.args.start c.args.count page) (table_found i.chunks number w.in-Some.chunk.now there number refl ∙ seen)))
+      | in_default w ↦ let none = table_absent i.chunks number w.in_default.ensures.value number refl in
+          rw w.self-inside-is (ap (λ (m : BTreeMap ℕ Places). in_table m.entries number) c.get_mut.follows.holds-at-none
+          ∙ sym none ∙ ap (λ (page : Option (List ℕ)). cleared c.args.start c.args.count page) (none ∙ seen))
+    ]
+
+pub returns-clause-others : goal.returns-clause-others
+returns-clause-others g c = λ k apart.
+    let i = c.self.inside in
+    let number : ℕ = c.args.number in
+    let seen = ap (λ (chunks : List (ℕ × Places)). in_table chunks k) c.self.view_is in
+    elim c.match-get_mut.branch [
+      | in-Some w ↦ let written = w.clear.new.self in
+          let there = w.in-Some.ensures.value in
+          let updates = (c.get_mut.follows.holds written).3 (subst IsSome there refl) in
+          rw w.self-inside-is (table_others i.chunks (c.get_mut.follows.lender written) number written updates
+          (λ j same other. w.clear.ensures.others (j % 256) other ∙ table_found i.chunks number w.in-Some.chunk.now there j same) k apart ∙ seen)
+      | in_default w ↦ rw w.self-inside-is (ap (λ (m : BTreeMap ℕ Places). in_table m.entries k) c.get_mut.follows.holds-at-none ∙ seen)
+    ]

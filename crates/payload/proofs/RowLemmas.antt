@@ -1,0 +1,96 @@
+-- Pages in a row: how long they are, and a range that lies in one of them.
+use Rattle.std.proofs.Common.{◌≡◌, ℕ, zero, suc, ◌+◌, ◌-◌, ◌*◌, ◌/◌, ◌%◌, ◌<◌, ◌≤◌, List, [], ◌∷◌, ◌++◌, length, take, get_or, refl, sym, ap, ◌∙◌, arith, rules, length-append}
+use Rattle.std.specs.List.{concat}
+use Rattle.std.proofs.lemmas.List.{places, same_lists, length-replicate, append_assoc, append-nil, take_all}
+use Rattle.std.proofs.lemmas.List.Elements.{All-append}
+use Rattle.payload.specs.Bytes.{range_of, overwritten}
+use Rattle.payload.specs.Rows.{zero_page, AreWhole, IsRange}
+use Rattle.payload.proofs.BytesLemmas.{length-range_of}
+use Rattle.payload.proofs.Overwriting.{overwritten-all}
+
+pub length-zero_page : length zero_page ≡ 4096
+unfolding zero_page
+length-zero_page = length-replicate {A = ℕ} 4096 0
+
+pub length-concat : (pages : List (List ℕ)) → AreWhole pages → length (concat pages) ≡ 4096 * length pages
+length-concat [] whole = refl
+length-concat (page ∷ pages) whole =
+    omega (arith, length-append page (concat pages), whole 0 [] (omega arith), length-concat pages (λ k d h. whole (suc k) d (omega arith)))
+
+-- a range of a range
+pub range_of-range_of : (bytes : List ℕ) (start count at n : ℕ) → at + n ≤ count → range_of (range_of bytes start count) at n ≡ range_of bytes (start + at) n
+range_of-range_of bytes start count at n within = same_lists _ _ (search (rules, places)) (λ k d h. grind (arith, places))
+
+range_of-front : (front back : List ℕ) (at n : ℕ) → at + n ≤ length front → range_of (front ++ back) at n ≡ range_of front at n
+range_of-front front back at n within = same_lists _ _ (search (rules, places)) (λ k d h. grind (arith, places))
+
+range_of-back : (front back : List ℕ) (start at n : ℕ) → length front ≡ start → range_of (front ++ back) (start + at) n ≡ range_of back at n
+range_of-back front back start at n is = same_lists _ _ (search (rules, places)) (λ k d h. grind (arith, places))
+
+-- a range that lies in one page
+pub range_in_page : (pages : List (List ℕ)) → AreWhole pages → (number start n : ℕ) (d : List ℕ) → number < length pages → start + n ≤ 4096
+    → range_of (concat pages) (4096 * number + start) n ≡ range_of (get_or pages number d) start n
+range_in_page [] whole number start n d below within = absurd (omega arith)
+range_in_page (page ∷ pages) whole zero start n d below within =
+    let place : 4096 * zero + start ≡ start = omega arith in
+    rw place (range_of-front page (concat pages) start n (omega (arith, whole 0 [] (omega arith))))
+range_in_page (page ∷ pages) whole (suc number) start n d below within =
+    let place : 4096 * suc number + start ≡ 4096 + (4096 * number + start) = omega arith in
+    rw place (range_of-back page (concat pages) 4096 (4096 * number + start) n (whole 0 [] (omega arith)))
+    ∙ range_in_page pages (λ k e h. whole (suc k) e (omega arith)) number start n d (omega arith) within
+
+-- a page is all of itself
+pub range_of-page : (page : List ℕ) → length page ≡ 4096 → range_of page 0 4096 ≡ page
+range_of-page page whole = take_all 4096 page (omega (arith, whole))
+
+-- where a byte of a payload lies
+module _ (pages : List (List ℕ)) (start end : ℕ) (is : IsRange pages start end) (bytes : List ℕ) (view : range_of (concat pages) start (end - start) ≡ bytes) where
+  pub length-payload : length bytes ≡ end - start
+  length-payload = ap length (sym view) ∙ length-range_of (concat pages) start (end - start) (omega (arith, is.ordered, is.within))
+
+  pub place_before : (at : ℕ) → at < length bytes → start + at < end
+  place_before at below = omega (arith, length-payload, is.ordered)
+
+  pub page_there : (at : ℕ) → at < length bytes → (start + at) / 4096 < length pages
+  page_there at below = omega (arith, place_before at below, is.within, length-concat pages is.whole)
+
+  pub range_from : (at n : ℕ) (d : List ℕ) → at < length bytes → at + n ≤ length bytes → (start + at) % 4096 + n ≤ 4096
+      → range_of bytes at n ≡ range_of (get_or pages ((start + at) / 4096) d) ((start + at) % 4096) n
+  range_from at n d some within fits =
+      let place : start + at ≡ 4096 * ((start + at) / 4096) + (start + at) % 4096 = omega arith in
+      ap (λ (list : List ℕ). range_of list at n) (sym view)
+      ∙ range_of-range_of (concat pages) start (end - start) at n (omega (arith, length-payload))
+      ∙ ap (λ (from : ℕ). range_of (concat pages) from n) place
+      ∙ range_in_page pages is.whole ((start + at) / 4096) ((start + at) % 4096) n d (page_there at some) fits
+
+-- more pages in a row
+pub concat-append : (pages more : List (List ℕ)) → concat (pages ++ more) ≡ concat pages ++ concat more
+concat-append [] more = refl
+concat-append (first ∷ pages) more = ap (λ (rest : List ℕ). first ++ rest) (concat-append pages more) ∙ sym (append_assoc first (concat pages) (concat more))
+
+-- one more page in a row
+pub concat-next : (pages : List (List ℕ)) (page : List ℕ) → concat (pages ++ page ∷ []) ≡ concat pages ++ page
+concat-next [] page = append-nil page
+concat-next (first ∷ pages) page = ap (λ (rest : List ℕ). first ++ rest) (concat-next pages page) ∙ sym (append_assoc first (concat pages) page)
+
+pub AreWhole-next : (pages : List (List ℕ)) (page : List ℕ) → AreWhole pages → length page ≡ 4096 → AreWhole (pages ++ page ∷ [])
+AreWhole-next pages page whole long = All-append (λ (p : List ℕ). length p ≡ 4096) pages (page ∷ []) whole (search rules)
+
+-- a whole page is replaced
+pub whole_over : (page bytes : List ℕ) (start count : ℕ) → length page ≡ 4096 → length bytes ≡ 4096 → start + count ≤ 4096 → count ≡ 4096 → overwritten page start count bytes ≡ bytes
+whole_over page bytes start count is long fits all =
+    let first : start ≡ 0 = omega arith in
+    rw (first, all ∙ sym long) (overwritten-all page bytes (is ∙ sym long))
+
+-- the front of a range
+pub take-range_of : (bytes : List ℕ) (at m n : ℕ) → n ≤ m → take n (range_of bytes at m) ≡ range_of bytes at n
+take-range_of bytes at m n within = same_lists _ _ (search (rules, places)) (λ k d h. grind (arith, places))
+
+-- the next bytes behind those that came
+pub take-next : (bytes : List ℕ) (at n : ℕ) → take at bytes ++ range_of bytes at n ≡ take (at + n) bytes
+take-next bytes at n = same_lists _ _ (search (rules, places)) (λ k d h. grind (arith, places))
+
+-- a page before which nothing lies
+pub nothing_before : (begun rest : List ℕ) → length begun + length rest ≡ 4096 → length rest ≡ 4096 → begun ++ rest ≡ rest
+nothing_before [] rest long whole = refl
+nothing_before (byte ∷ begun) rest long whole = absurd (omega (arith, long, whole))
