@@ -3,6 +3,7 @@ ghost use Rattle.std.specs.Prelude.{◌≡◌, ◌≤◌};
 
 mod bells;
 mod connection;
+mod hold_clock;
 mod line;
 mod listener;
 mod passes;
@@ -30,7 +31,7 @@ use std::marker::Brand;
 use std::net::{TcpListener, TcpStream};
 use std::os::unix::net::UnixListener;
 use std::sync::Wait;
-use std::sync::atomic::{AtomicBool, Ordering};
+use std::sync::atomic::{AtomicBool, AtomicUsize, Ordering};
 use std::sync::ledger::{Blank, Ledger};
 use std::thread::Threads;
 use std::time::{Duration, Instant};
@@ -154,6 +155,7 @@ fn serve_booked<L: Ledger + Send + Sync, R: Wait + Threads + Sync + time::Clock>
         table: table_of(alloc, config.exports())?,
         start: Instant::now(rt).ok(),
         closed: AtomicBool::new(false),
+        light: AtomicUsize::new(0),
     };
     let listened = run_threads(rt, &service, listeners, crew);
     let Service { shared, passes, .. } = service;

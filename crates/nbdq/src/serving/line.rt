@@ -11,12 +11,12 @@ use std::alloc::Global;
 use std::io::{BufWriter, Write};
 use std::net::TcpStream;
 use std::sync::Mutex;
-use std::sync::atomic::{AtomicU64, Ordering};
+use std::sync::atomic::{AtomicBool, AtomicU64, Ordering};
 use std::sync::ledger::Ledger;
 use std::time::Duration;
 
-/// How many bytes of replies are kept before they are sent.
-const OUTLET: usize = 65_536;
+/// How many bytes of replies are kept before they are sent. A reply's data come to it page by page, so that it is to hold a long one.
+const OUTLET: usize = 262_144;
 
 /// How many replies are taken in a row: twice as many as a reader hands in requests, so that it mostly takes all.
 const TAKEN: usize = 32;
@@ -44,6 +44,8 @@ pub struct Line<'a> {
     arrived: AtomicU64,
     /// How many replies were taken.
     taken: AtomicU64,
+    /// Whether its holds of the server are long.
+    heavy: AtomicBool,
 }
 
 /// Where a session's replies go out.
@@ -69,12 +71,25 @@ impl<'a> Line<'a> {
             room: Bell::new(),
             arrived: AtomicU64::new(0),
             taken: AtomicU64::new(0),
+            heavy: AtomicBool::new(false),
         }
     }
 
     /// A request was handed in.
     pub fn note_arrived(&self) {
         self.arrived.fetch_add(1, Ordering::SeqCst);
+    }
+
+    /// Whether the client asks for long data, or sends several requests at a time.
+    pub fn note_load(&self, heavy: bool) {
+        if self.is_heavy() != heavy {
+            self.heavy.store(heavy, Ordering::SeqCst);
+        }
+    }
+
+    /// What was noted last.
+    pub fn is_heavy(&self) -> bool {
+        self.heavy.load(Ordering::SeqCst)
     }
 
     /// So many replies were taken.

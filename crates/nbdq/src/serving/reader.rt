@@ -1,17 +1,18 @@
 //! The thread of a connection that reads requests.
 
+use super::hold_clock::HoldClock;
 use super::line::{Line, Outlet, PATIENCE};
 use super::service::{Disks, Service};
 use super::shift::Shift;
 use nbd_session::{Counted, Frame, FrameReader, Stop, Turn, hand_in, offer_held, read_ready};
-use nbd_wire::Request;
 use nbd_wire::protocol::{READ, WRITE};
+use nbd_wire::{Request, RequestHead};
 use nbd_workers::until;
 use server_lock::{AnswerTrace, EventTrace, Pass, Trace};
 use std::alloc::Global;
 use std::net::TcpStream;
-use std::sync::Wait;
 use std::sync::ledger::Ledger;
+use std::sync::{MutexGuard, Wait};
 use std::time;
 use std::time::Duration;
 use tag_clock::Clock;
@@ -20,7 +21,11 @@ use tag_clock::Clock;
 /// read.
 const SHORT: u32 = 16_384;
 
-/// How many requests a reader hands in under one hold of a server for which it waited long: then each hold is dear.
+/// How many requests a reader mostly hands in under one hold of the server: what a hold costs is shared by them, and whoever waits
+/// for it waits for no more than these.
+const TOGETHER: usize = 8;
+
+/// How many it hands in where it waited long for the server: then each hold is dear.
 const IN_A_ROW: usize = 16;
 
 /// How many microseconds are a long wait for the server.
@@ -46,19 +51,22 @@ enum Offer {
 struct Came {
     /// The last of its turns.
     turn: Turn<Global>,
+    /// Why no more replies were taken after it. None where the writer takes them.
+    stop: Option<Stop>,
     /// Whether a request has long data.
     long: bool,
     /// Whether something waits to be chosen.
     waits: bool,
 }
 
-/// Requests that were handed in under one hold.
-#[derive(Drop)]
-struct Handed {
-    short: usize,
-    long: bool,
-    // Whether the latest was handed in, and all have long data or all have short.
-    goes_on: bool,
+/// What a turn handed in.
+#[derive(Clone, Copy, Debug, PartialEq, Eq, Drop)]
+enum Handed {
+    Nothing,
+    /// A request with short data, or with none.
+    Short,
+    /// One with long data.
+    Long,
 }
 
 impl<'a> Intake<'a> {
@@ -69,96 +77,110 @@ impl<'a> Intake<'a> {
         }
     }
 
-    /// Hands in what is offered and the requests that were read besides, so many at most, until long data and short meet. Performs
-    /// requests until as many of the session's own are performed as it handed in, but for the long.
+    /// Hands in what is offered and the requests that were read besides, so many at most, until long data and short meet, or another
+    /// session's request was performed.
     fn come_in<L: Ledger, C: Clock>(
         &mut self,
         disks: &mut Disks<L>,
         service: &Service<L>,
         line: &Line<'_>,
         pass: &mut Pass<L>,
+        outlet: &mut Option<MutexGuard<'_, Outlet<'_>>>,
         offer: Offer,
         most: usize,
         clock: &C,
     ) -> Came {
-        let session = line.session;
-        let mut turn = match offer {
-            Offer::Read(frame) => hand_in(disks, pass, session, frame, clock),
-            Offer::Again(request) => offer_held(disks, pass, session, request, clock),
+        let turn = match offer {
+            Offer::Read(frame) => hand_in(disks, pass, line.session, frame, clock),
+            Offer::Again(request) => offer_held(disks, pass, line.session, request, clock),
         };
-        let mut handed = Handed::new();
-        handed.note(service, line, &turn, pass.last());
+        let mut latest = note_turn(service, line, &turn, pass.last());
+        let stop = self.follow(disks, service, line, pass, outlet, latest, clock);
+        let mut came = Came {
+            turn,
+            stop,
+            long: latest == Handed::Long,
+            waits: false,
+        };
         for _ in 1..most {
-            if !handed.goes_on {
+            if latest == Handed::Nothing || self.shift.served_others() {
                 break;
             }
-            let Some(next) = read_ready(disks, pass, session, &mut self.frames, clock) else {
+            let Some(turn) = read_ready(disks, pass, line.session, &mut self.frames, clock) else {
                 break;
             };
-            handed.note(service, line, &next, pass.last());
-            turn = next;
+            let handed = note_turn(service, line, &turn, pass.last());
+            came.stop = self.follow(disks, service, line, pass, outlet, handed, clock);
+            came.turn = turn;
+            came.long = came.long || handed == Handed::Long;
+            latest = if handed == latest {
+                handed
+            } else {
+                Handed::Nothing
+            };
         }
-        self.shift
-            .serve(disks, &service.bells, pass, session, clock, handed.short);
-        Came {
-            turn,
-            long: handed.long,
-            waits: disks.server().waiting() > 0,
-        }
-    }
-}
-
-impl Handed {
-    fn new() -> Handed {
-        Handed {
-            short: 0,
-            long: false,
-            goes_on: false,
-        }
+        came.waits = disks.server().waiting() > 0;
+        came
     }
 
-    /// Notes what the latest turn came to.
-    fn note<L: Ledger>(
+    /// What follows a turn under the same hold: a request with short data is performed, and what replies are there are taken,
+    /// where the outlet is at hand. So the steps of a request stand side by side in its export's log, and those of a READ go into
+    /// the base without its data.
+    fn follow<L: Ledger, C: Clock>(
         &mut self,
+        disks: &mut Disks<L>,
         service: &Service<L>,
         line: &Line<'_>,
-        turn: &Turn<Global>,
-        last: Option<Trace>,
-    ) {
-        self.goes_on = false;
-        if let Turn::Going = turn {
-            if note_arrival(service, line, last) {
-                self.short = self.short.saturating_add(1);
-                self.goes_on = !self.long;
-            } else {
-                self.long = true;
-                self.goes_on = self.short == 0;
-            }
+        pass: &mut Pass<L>,
+        outlet: &mut Option<MutexGuard<'_, Outlet<'_>>>,
+        handed: Handed,
+        clock: &C,
+    ) -> Option<Stop> {
+        if handed == Handed::Short {
+            self.shift
+                .serve_own(disks, &service.bells, pass, line.session, clock);
+        }
+        match outlet {
+            Some(outlet) => Some(outlet.take(disks, pass, line.session)),
+            None => None,
         }
     }
 }
 
-/// Notes a request that was handed in, and tells whether its data is short.
-fn note_arrival<L: Ledger>(service: &Service<L>, line: &Line<'_>, last: Option<Trace>) -> bool {
+/// Notes what a turn came to, and tells what it handed in.
+fn note_turn<L: Ledger>(
+    service: &Service<L>,
+    line: &Line<'_>,
+    turn: &Turn<Global>,
+    last: Option<Trace>,
+) -> Handed {
+    let Turn::Going = turn else {
+        return Handed::Nothing;
+    };
     line.note_arrived();
     let Some(Trace { event, answer }) = last else {
-        return false;
+        return Handed::Nothing;
     };
     if let AnswerTrace::Accepted { number, .. } = answer {
         service.bells.note_asker(line.session, number);
     }
     match event {
-        EventTrace::Arrive { head, .. } => match head.kind {
-            READ | WRITE => head.length <= SHORT,
-            _ => true,
-        },
-        _ => false,
+        EventTrace::Arrive { head, .. } => handed_by(head),
+        _ => Handed::Nothing,
     }
 }
 
-/// Reads requests until there are no more. Each goes in under one hold of the server, with others that are at hand where it waited
-/// long for it, and as many are performed under it. Replies that are there by then and short it writes itself; others it leaves
-/// to the writer, as it does the requests whose data is long.
+/// What a request is, by its head.
+fn handed_by(head: RequestHead) -> Handed {
+    match head.kind {
+        READ | WRITE if head.length > SHORT => Handed::Long,
+        _ => Handed::Short,
+    }
+}
+
+/// Reads requests until there are no more. Each goes in under one hold of the server, with others that are at hand, and what is
+/// short is performed under it. Replies that are there by then and short it writes itself; others it leaves to the writer, as it
+/// does the requests whose data is long.
 pub fn read_requests<L: Ledger, R: Wait + time::Clock>(
     rt: &R,
     service: &Service<L>,
@@ -197,30 +219,40 @@ fn read_on<L: Ledger, R: Wait + time::Clock>(
     offer: Offer,
 ) -> Turn<Global> {
     let clock = service.clock(rt);
-    let outlet = line.outlet.try_lock();
+    let mut outlet = line.outlet.try_lock();
+    let before = match &outlet {
+        Some(outlet) => outlet.unwritten(),
+        None => 0,
+    };
+    line.note_load(is_long(&offer) || intake.frames.is_ready());
     let asked = clock.now();
-    let mut disks = service.shared.hold(rt);
-    let most = if until(asked, clock.now()) > Duration::from_micros(LONG_WAIT) {
+    let mut disks = service.hold(rt, line.is_heavy());
+    let held = HoldClock::at(clock.now());
+    let most = if until(asked, held.now()) > Duration::from_micros(LONG_WAIT) {
         IN_A_ROW
     } else {
-        1
+        TOGETHER
     };
-    let came = intake.come_in(&mut *disks, service, line, pass, offer, most, &clock);
+    let came = intake.come_in(
+        &mut *disks,
+        service,
+        line,
+        pass,
+        &mut outlet,
+        offer,
+        most,
+        &held,
+    );
+    drop(disks);
+    intake.shift.tell(&service.bells);
     let written = match outlet {
         Some(mut outlet) => {
-            let before = outlet.unwritten();
-            let stop = outlet.take(&mut *disks, pass, line.session);
-            drop(disks);
             line.note_taken(outlet.unwritten().saturating_sub(before));
-            intake.shift.tell(&service.bells);
             let last = !is_going(&came.turn) || !intake.frames.is_ready();
-            is_written(rt, service, line, &mut *outlet, pass, last) && stop == Stop::Empty
+            is_written(rt, service, line, &mut *outlet, pass, last)
+                && came.stop == Some(Stop::Empty)
         }
-        None => {
-            drop(disks);
-            intake.shift.tell(&service.bells);
-            false
-        }
+        None => false,
     };
     if came.long || !written {
         line.replies.ring();
@@ -229,6 +261,15 @@ fn read_on<L: Ledger, R: Wait + time::Clock>(
         service.bells.work.ring_one();
     }
     came.turn
+}
+
+/// Whether what is offered is a request with long data.
+fn is_long(offer: &Offer) -> bool {
+    let head = match offer {
+        Offer::Read(Frame::Whole(request)) | Offer::Again(request) => request.head(),
+        Offer::Read(Frame::Ended(_)) => return false,
+    };
+    handed_by(head) == Handed::Long
 }
 
 fn is_going(turn: &Turn<Global>) -> bool {

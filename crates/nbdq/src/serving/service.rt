@@ -11,12 +11,20 @@ use server_core::{SessionId, Ticket};
 use server_lock::{Booked, Pass, Shared};
 use std::alloc::Global;
 use std::cell::Cell;
-use std::sync::Wait;
-use std::sync::atomic::AtomicBool;
+use std::hint::spin_loop;
+use std::sync::atomic::{AtomicBool, AtomicUsize, Ordering};
 use std::sync::ledger::Ledger;
+use std::sync::{MutexGuard, Wait};
+use std::thread::yield_now;
 use std::time;
 use std::time::Instant;
 use tag_clock::{Clock, Moment};
+
+/// How often who has much to do with the server asks for it, while other threads run, before it waits like others.
+const TRIES: usize = 64;
+
+/// How often it is looked at in a row before other threads run.
+const LOOKS: usize = 32;
 
 /// A server of disks in pages, while it is held.
 pub type Disks<L> = Booked<L, Paged<Global>, Heaped<Global>>;
@@ -34,11 +42,48 @@ pub struct Service<L: Ledger> {
     pub start: Option<Instant>,
     /// Whether no more connections are accepted.
     pub closed: AtomicBool,
+    /// How many ask for the server who have little to do there.
+    pub light: AtomicUsize,
 }
 
 impl<L: Ledger> Service<L> {
     pub fn clock<'a, R: time::Clock>(&self, rt: &'a R) -> RunningClock<'a, R> {
         RunningClock::since(rt, self.start)
+    }
+
+    /// Holds the server. Who has much to do there lets those go first, for a while, who have little.
+    pub fn hold<R: Wait>(&self, rt: &R, heavy: bool) -> MutexGuard<'_, Disks<L>> {
+        if heavy {
+            return self.hold_after(rt);
+        }
+        self.light.fetch_add(1, Ordering::SeqCst);
+        let held = self.shared.hold(rt);
+        self.light.fetch_sub(1, Ordering::SeqCst);
+        held
+    }
+
+    /// Holds the server, mostly not before those who have little to do there.
+    fn hold_after<R: Wait>(&self, rt: &R) -> MutexGuard<'_, Disks<L>> {
+        for _ in 0..TRIES {
+            if let Some(held) = self.look() {
+                return held;
+            }
+            yield_now();
+        }
+        self.shared.hold(rt)
+    }
+
+    /// The server, where it is free at one of some looks, and nobody asks for it who has little to do there.
+    fn look(&self) -> Option<MutexGuard<'_, Disks<L>>> {
+        for _ in 0..LOOKS {
+            if self.light.load(Ordering::SeqCst) == 0 {
+                if let Some(held) = self.shared.try_hold() {
+                    return Some(held);
+                }
+            }
+            spin_loop();
+        }
+        None
     }
 
     /// The session is dropped. Where it is gone already, all stays.

@@ -3,16 +3,11 @@
 use super::bells::Bells;
 use super::service::Disks;
 use nbd_base::NoMemory;
-use nbd_workers::until;
 use server_core::{SessionId, Ticket};
 use server_lock::{Pass, turn_dispatch, turn_perform};
 use std::alloc::Global;
 use std::sync::ledger::Ledger;
-use std::time::Duration;
 use tag_clock::Clock;
-
-/// How many microseconds requests are performed in a row: nothing new is begun under the same hold after that.
-const LONGEST: u64 = 500;
 
 /// How many sessions are noted under one hold; those that are more are woken at once.
 const NOTED: usize = 16;
@@ -33,7 +28,8 @@ impl Shift {
         })
     }
 
-    /// Chooses a request and performs it, whoever asked for it, where there is one to choose.
+    /// Chooses a request and performs it, whoever asked for it, where there is one to choose. Tells whether it was one of the
+    /// session's own.
     pub fn serve_one<L: Ledger, C: Clock>(
         &mut self,
         disks: &mut Disks<L>,
@@ -41,40 +37,31 @@ impl Shift {
         pass: &mut Pass<L>,
         session: SessionId,
         clock: &C,
-    ) {
-        if let Some(chosen) = turn_dispatch(disks, pass, clock.now()) {
-            turn_perform(disks, pass, chosen.ticket);
-            self.note(bells, session, &chosen.ticket);
-        }
+    ) -> bool {
+        let Some(chosen) = turn_dispatch(disks, pass, clock.now()) else {
+            return false;
+        };
+        turn_perform(disks, pass, chosen.ticket);
+        self.note(bells, session, &chosen.ticket)
     }
 
-    /// Chooses requests and performs them, whoever asked for them, until so many of the session's own are performed, or one
-    /// more than so many in all. It ends sooner where there is none to choose, or the time for it has passed.
-    pub fn serve<L: Ledger, C: Clock>(
+    /// Performs requests until one of the session's own is performed, or two in all.
+    pub fn serve_own<L: Ledger, C: Clock>(
         &mut self,
         disks: &mut Disks<L>,
         bells: &Bells,
         pass: &mut Pass<L>,
         session: SessionId,
         clock: &C,
-        own: usize,
     ) {
-        let begun = clock.now();
-        let mut now = begun;
-        let mut left = own;
-        for _ in 0..own.saturating_add(1) {
-            if left == 0 || until(begun, now) > Duration::from_micros(LONGEST) {
-                return;
-            }
-            let Some(chosen) = turn_dispatch(disks, pass, now) else {
-                return;
-            };
-            turn_perform(disks, pass, chosen.ticket);
-            if self.note(bells, session, &chosen.ticket) {
-                left = left.saturating_sub(1);
-            }
-            now = clock.now();
+        if !self.serve_one(disks, bells, pass, session, clock) {
+            self.serve_one(disks, bells, pass, session, clock);
         }
+    }
+
+    /// Whether a request of another session was performed under this hold.
+    pub fn served_others(&self) -> bool {
+        !self.others.is_empty()
     }
 
     /// A request was performed. Tells whether the session itself asked for it.

@@ -69,7 +69,7 @@ fn write_on<L: Ledger, R: Wait + time::Clock>(
     let mut guard = line.outlet.lock(rt);
     let outlet = &mut *guard;
     let before = outlet.unwritten();
-    let mut disks = service.shared.hold(rt);
+    let mut disks = service.hold(rt, line.is_heavy());
     let mut stop = outlet.take(&mut *disks, pass, line.session);
     if stop == Stop::Empty && outlet.unwritten() == 0 {
         shift.serve_one(&mut *disks, &service.bells, pass, line.session, &clock);
