@@ -11,6 +11,7 @@ mod reader;
 mod running_clock;
 mod service;
 mod shift;
+mod stage;
 #[cfg(test)]
 mod tests;
 mod writer;

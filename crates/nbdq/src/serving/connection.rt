@@ -4,6 +4,7 @@ use super::line::{Line, Outlet};
 use super::reader::{Intake, read_requests};
 use super::service::Service;
 use super::shift::Shift;
+use super::stage::Stage;
 use super::writer::write_replies;
 use nbd_session::{Counted, Door, Entry, haggle};
 use server_core::SessionId;
@@ -53,8 +54,9 @@ fn serve_session<L: Ledger + Send + Sync, R: Wait + Threads + Sync + time::Clock
     pass: &mut Pass<L>,
 ) {
     let shift = Shift::new(service.alloc);
-    if let (Ok(outlet), Ok(shift)) = (Outlet::new(service.alloc, peer), shift) {
-        let line = Line::new(session, peer, outlet, service.bells.replies(session));
+    let stage = Stage::new(service.alloc);
+    if let (Ok(outlet), Ok(stage), Ok(shift)) = (Outlet::new(service.alloc, peer), stage, shift) {
+        let line = Line::new(session, peer, outlet, stage, service.bells.replies(session));
         let intake = Intake::new(service.alloc, reader, shift);
         read_and_write(rt, service, &line, intake, pass);
     }

@@ -1,8 +1,9 @@
 //! What the two threads of a session share: the session, its bells, and where its replies go out.
 
 use super::service::{Disks, Service};
+use super::stage::{Ready, Stage};
 use nbd_base::NoMemory;
-use nbd_session::{Counted, Stop, put_reply, take_replies};
+use nbd_session::{Counted, Stop, put, put_reply, take_replies};
 use nbd_wire::Reply;
 use nbd_workers::Bell;
 use server_core::SessionId;
@@ -36,6 +37,8 @@ pub struct Line<'a> {
     pub peer: &'a TcpStream,
     /// Whoever holds the server as well has locked this first, and nobody waits for it while it holds the server.
     pub outlet: Mutex<Outlet<'a>>,
+    /// Nobody waits for it while it holds the server.
+    pub stage: Stage,
     /// Rung where the session has a reply, or has left.
     pub replies: &'a Bell,
     /// Rung where a reply was taken.
@@ -61,12 +64,14 @@ impl<'a> Line<'a> {
         session: SessionId,
         peer: &'a TcpStream,
         outlet: Outlet<'a>,
+        stage: Stage,
         replies: &'a Bell,
     ) -> Line<'a> {
         Line {
             session,
             peer,
             outlet: Mutex::new(outlet),
+            stage,
             replies,
             room: Bell::new(),
             arrived: AtomicU64::new(0),
@@ -160,6 +165,15 @@ impl<'a> Outlet<'a> {
         }
         self.taken.clear();
         true
+    }
+
+    /// Sends what was ready, behind what was written. Where that failed the connection is over.
+    pub fn send_ready(&mut self, ready: &Ready) -> bool {
+        let written = match ready {
+            Ready::Text(text) => put(&mut self.writer, text.as_slice()),
+            Ready::Whole(reply) => put_reply(reply, &mut self.writer),
+        };
+        written.is_ok() && self.send()
     }
 
     /// Sends what was written.

@@ -4,6 +4,7 @@ use super::hold_clock::HoldClock;
 use super::line::{Line, Outlet, PATIENCE};
 use super::service::{Disks, Service};
 use super::shift::Shift;
+use super::stage::make_ready;
 use nbd_session::{Counted, Frame, FrameReader, Stop, Turn, hand_in, offer_held, read_ready};
 use nbd_wire::protocol::{READ, WRITE};
 use nbd_wire::{Request, RequestHead};
@@ -55,6 +56,8 @@ struct Came {
     stop: Option<Stop>,
     /// Whether a request has long data.
     long: bool,
+    /// Whether the reply to one has.
+    reads: bool,
     /// Whether something waits to be chosen.
     waits: bool,
 }
@@ -65,8 +68,18 @@ enum Handed {
     Nothing,
     /// A request with short data, or with none.
     Short,
-    /// One with long data.
-    Long,
+    /// A READ or a WRITE with long data.
+    LongRead,
+    LongWrite,
+}
+
+impl Handed {
+    fn is_long(self) -> bool {
+        match self {
+            Handed::LongRead | Handed::LongWrite => true,
+            Handed::Nothing | Handed::Short => false,
+        }
+    }
 }
 
 impl<'a> Intake<'a> {
@@ -99,7 +112,8 @@ impl<'a> Intake<'a> {
         let mut came = Came {
             turn,
             stop,
-            long: latest == Handed::Long,
+            long: latest.is_long(),
+            reads: latest == Handed::LongRead,
             waits: false,
         };
         for _ in 1..most {
@@ -112,7 +126,8 @@ impl<'a> Intake<'a> {
             let handed = note_turn(service, line, &turn, pass.last());
             came.stop = self.follow(disks, service, line, pass, outlet, handed, clock);
             came.turn = turn;
-            came.long = came.long || handed == Handed::Long;
+            came.long = came.long || handed.is_long();
+            came.reads = came.reads || handed == Handed::LongRead;
             latest = if handed == latest {
                 handed
             } else {
@@ -173,7 +188,8 @@ fn note_turn<L: Ledger>(
 /// What a request is, by its head.
 fn handed_by(head: RequestHead) -> Handed {
     match head.kind {
-        READ | WRITE if head.length > SHORT => Handed::Long,
+        READ if head.length > SHORT => Handed::LongRead,
+        WRITE if head.length > SHORT => Handed::LongWrite,
         _ => Handed::Short,
     }
 }
@@ -245,6 +261,7 @@ fn read_on<L: Ledger, R: Wait + time::Clock>(
     );
     drop(disks);
     intake.shift.tell(&service.bells);
+    let busy = outlet.is_none();
     let written = match outlet {
         Some(mut outlet) => {
             line.note_taken(outlet.unwritten().saturating_sub(before));
@@ -256,6 +273,9 @@ fn read_on<L: Ledger, R: Wait + time::Clock>(
     };
     if came.long || !written {
         line.replies.ring();
+    }
+    if busy && came.reads {
+        make_ready(rt, service, line, &mut intake.shift, pass);
     }
     if came.waits && !came.long {
         service.bells.work.ring_one();
@@ -269,7 +289,7 @@ fn is_long(offer: &Offer) -> bool {
         Offer::Read(Frame::Whole(request)) | Offer::Again(request) => request.head(),
         Offer::Read(Frame::Ended(_)) => return false,
     };
-    handed_by(head) == Handed::Long
+    handed_by(head).is_long()
 }
 
 fn is_going(turn: &Turn<Global>) -> bool {

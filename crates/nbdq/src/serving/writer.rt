@@ -3,6 +3,7 @@
 use super::line::{Line, Outlet};
 use super::service::Service;
 use super::shift::Shift;
+use super::stage::Ready;
 use nbd_session::Stop;
 use server_lock::Pass;
 use std::net::Shutdown;
@@ -68,6 +69,9 @@ fn write_on<L: Ledger, R: Wait + time::Clock>(
     let clock = service.clock(rt);
     let mut guard = line.outlet.lock(rt);
     let outlet = &mut *guard;
+    if let Some(ready) = line.stage.take(rt) {
+        return send_ready(rt, service, line, outlet, pass, ready);
+    }
     let before = outlet.unwritten();
     let mut disks = service.hold(rt, line.is_heavy());
     let mut stop = outlet.take(&mut *disks, pass, line.session);
@@ -93,12 +97,30 @@ fn write_on<L: Ledger, R: Wait + time::Clock>(
             }
             send(rt, service, line, outlet, pass, goes_on, waits)
         }
+        Stop::End if !line.stage.is_empty(rt) => Round::Going,
         Stop::End | Stop::Refused(_) => {
             let _ = outlet.send();
             service.give_up(rt, line.session, pass);
             Round::Over
         }
     }
+}
+
+/// Sends what the reader made ready.
+fn send_ready<L: Ledger, R: Wait>(
+    rt: &R,
+    service: &Service<L>,
+    line: &Line<'_>,
+    outlet: &mut Outlet<'_>,
+    pass: &mut Pass<L>,
+    ready: Ready,
+) -> Round {
+    if !outlet.send_ready(&ready) {
+        service.give_up(rt, line.session, pass);
+        return Round::Over;
+    }
+    line.stage.give_back(rt, ready);
+    Round::Going
 }
 
 /// Sends what was written. Where nothing more is to be done here, what waits is left to the workers.
@@ -120,6 +142,9 @@ fn send<L: Ledger, R: Wait>(
     }
     if waits {
         service.bells.work.ring_one();
+    }
+    if line.patience().is_none() {
+        line.stage.rest(rt);
     }
     Round::Idle
 }
