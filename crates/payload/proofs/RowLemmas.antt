@@ -1,7 +1,8 @@
 -- Pages in a row: how long they are, and a range that lies in one of them.
 use Rattle.std.proofs.Common.{◌≡◌, ℕ, zero, suc, ◌+◌, ◌-◌, ◌*◌, ◌/◌, ◌%◌, ◌<◌, ◌≤◌, List, [], ◌∷◌, ◌++◌, length, take, get_or, refl, sym, ap, ◌∙◌, arith, rules, length-append}
 use Rattle.std.specs.List.{concat}
-use Rattle.std.proofs.lemmas.List.{places, same_lists, length-replicate, append_assoc, append-nil, take_all}
+use Rattle.std.proofs.lemmas.List.{places, same_lists, length-replicate, append-nil, take_all}
+use Rattle.std.proofs.lemmas.List.Folds.{concat-append}
 use Rattle.std.proofs.lemmas.List.Elements.{All-append}
 use Rattle.payload.specs.Bytes.{range_of, overwritten}
 use Rattle.payload.specs.Rows.{zero_page, AreWhole, IsRange}
@@ -63,15 +64,9 @@ module _ (pages : List (List ℕ)) (start end : ℕ) (is : IsRange pages start e
       ∙ ap (λ (from : ℕ). range_of (concat pages) from n) place
       ∙ range_in_page pages is.whole ((start + at) / 4096) ((start + at) % 4096) n d (page_there at some) fits
 
--- more pages in a row
-pub concat-append : (pages more : List (List ℕ)) → concat (pages ++ more) ≡ concat pages ++ concat more
-concat-append [] more = refl
-concat-append (first ∷ pages) more = ap (λ (rest : List ℕ). first ++ rest) (concat-append pages more) ∙ sym (append_assoc first (concat pages) (concat more))
-
 -- one more page in a row
 pub concat-next : (pages : List (List ℕ)) (page : List ℕ) → concat (pages ++ page ∷ []) ≡ concat pages ++ page
-concat-next [] page = append-nil page
-concat-next (first ∷ pages) page = ap (λ (rest : List ℕ). first ++ rest) (concat-next pages page) ∙ sym (append_assoc first (concat pages) page)
+concat-next pages page = concat-append pages (page ∷ []) ∙ ap (λ (last : List ℕ). concat pages ++ last) (append-nil page)
 
 pub AreWhole-next : (pages : List (List ℕ)) (page : List ℕ) → AreWhole pages → length page ≡ 4096 → AreWhole (pages ++ page ∷ [])
 AreWhole-next pages page whole long = All-append (λ (p : List ℕ). length p ≡ 4096) pages (page ∷ []) whole (search rules)

@@ -56,7 +56,7 @@ struct Came {
     stop: Option<Stop>,
     /// Whether a request has long data.
     long: bool,
-    /// Whether the reply to one has.
+    /// Whether a READ has: then its reply is long.
     reads: bool,
     /// Whether something waits to be chosen.
     waits: bool,
@@ -68,8 +68,9 @@ enum Handed {
     Nothing,
     /// A request with short data, or with none.
     Short,
-    /// A READ or a WRITE with long data.
+    /// A READ that asks for long data.
     LongRead,
+    /// A WRITE that carries long data.
     LongWrite,
 }
 

@@ -1,7 +1,8 @@
 use Rattle.std.proofs.Common.{◌∙◌, ◌++◌, List, ℕ, sym, ap}
 use Rattle.std.specs.List.{concat}
 use Rattle.std.proofs.lemmas.List.{append_assoc}
-use Rattle.payload.proofs.RowLemmas.{concat-next, concat-append}
+use Rattle.std.proofs.lemmas.List.Folds.{concat-append}
+use Rattle.payload.proofs.RowLemmas.{concat-next}
 use Rattle.payload.proofs.growing.fill_up.Goals as goal
 
 pub returns-then-room-eq-PAGE-clause-bytes : goal.returns-then-room-eq-PAGE-clause-bytes
