@@ -9,20 +9,20 @@ use std::marker::Model;
 #[derive(Drop)]
 pub(crate) struct Holes<A: Allocator + Copy> {
     // A bit for each byte, the lowest of the first word for the first.
-    words: Vec<u64, A>,
+    words: Box<[u64; 64], A>,
     // Whether any of them may be set.
     any: bool,
 }
 
 impl<A: Allocator + Copy> Model for Holes<A> {
-    ghost use Rattle.std.specs.Prelude.{ℕ, List};
+    ghost use Rattle.std.specs.Prelude.{ℕ, List, box_value};
     ghost use Rattle.export_store.specs.Holes.{AreHoles};
 
     ghost Value = { List ℕ };
 
-    ghost view = { λ holes. holes.words.items };
+    ghost view = { λ holes. box_value holes.words };
 
-    ghost invariant = { λ holes. AreHoles holes.words.items holes.any };
+    ghost invariant = { λ holes. AreHoles (box_value holes.words) holes.any };
 }
 
 impl<A: Allocator + Copy> Holes<A> {
@@ -30,7 +30,7 @@ impl<A: Allocator + Copy> Holes<A> {
     pub(crate) fn none(alloc: A) -> Result<Holes<A>, NoMemory>
         ensures { IfOk result (λ holes. (k : ℕ) → is_hole holes k ≡ false) }
     {
-        let words = Vec::from_elem(alloc, 0u64, 64)?;
+        let words = Box::new(alloc, [0u64; 64])?;
         Ok(Holes { words, any: false })
     }
 
@@ -92,7 +92,7 @@ impl<A: Allocator + Copy> Holes<A> {
         ensures { (k : ℕ) → is_hole self.new k ≡ false }
     {
         if self.any {
-            self.words.as_mut_slice().fill(0);
+            self.words.fill(0);
             self.any = false;
         }
     }

@@ -36,8 +36,9 @@ enum Kept<A: Allocator> {
     Zeros,
     // In memory of their own.
     Alone(Arc<[u8; 4096], A>),
-    // From a byte on of a block of several pages, which has all of them for as long as one is held.
-    Within(Arc<Vec<u8, A>, A>, usize),
+    // From a byte on of a block of several pages, which has all of them for as long as one is held. 32 bits, so that a page is
+    // two words.
+    Within(Arc<Vec<u8, A>, A>, u32),
 }
 
 /// 4,096 bytes that don't change. A clone is one more owner of them, and copies none.
@@ -77,15 +78,18 @@ impl<A: Allocator> Page<A> {
         })
     }
 
-    /// The page of a block that begins at this byte of it. It keeps the whole block.
+    /// The page of a block that begins at this byte of it, which is below 4 GiB: no block is so long. It keeps the whole block.
     pub(crate) fn within(block: &Arc<Vec<u8, A>, A>, start: usize) -> Result<Page<A>, NoMemory>
         requires { start + 4096 ≤ length (arc_value block.now).items }
         ensures bytes { IfOk result (λ page. page ≡ range_of (arc_value block.now).items start 4096) }
         ensures whole { IfOk result (λ page. length page ≡ 4096) }
     {
+        if start > u32::MAX as usize {
+            return Err(NoMemory);
+        }
         let owner = Arc::try_clone(block)?;
         Ok(Page {
-            kept: Kept::Within(owner, start),
+            kept: Kept::Within(owner, start as u32),
         })
     }
 
@@ -100,7 +104,10 @@ impl<A: Allocator> Page<A> {
                 let bytes: &[u8; 4096] = arc;
                 bytes
             }
-            Kept::Within(block, start) => &block[*start..*start + PAGE],
+            Kept::Within(block, start) => {
+                let start = *start as usize;
+                &block[start..start + PAGE]
+            }
         }
     }
 
