@@ -1,12 +1,15 @@
 //! `nbdq serve`: the threads of a server.
 ghost use Rattle.std.specs.Prelude.{◌≡◌, ◌≤◌};
 
+mod ahead;
 mod bells;
 mod connection;
 mod hold_clock;
 mod line;
 mod listener;
+mod lobby;
 mod passes;
+mod port;
 mod reader;
 mod running_clock;
 mod service;
@@ -17,8 +20,8 @@ mod tests;
 mod writer;
 
 use bells::Bells;
-use connection::serve_client;
-use listener::{Listener, may_pass};
+use connection::serve_clients;
+use listener::{Entrance, Listener, may_pass};
 use nbd_base::NoMemory;
 use nbd_commands::Config;
 use nbd_session::table_of;
@@ -31,15 +34,18 @@ use std::alloc::{AllocError, AllocFailed, Global};
 use std::marker::Brand;
 use std::net::{TcpListener, TcpStream};
 use std::os::unix::net::UnixListener;
-use std::sync::Wait;
 use std::sync::atomic::{AtomicBool, AtomicUsize, Ordering};
 use std::sync::ledger::{Blank, Ledger};
-use std::thread::Threads;
+use std::sync::{Mutex, Wait};
+use std::thread::{Threads, available_parallelism};
 use std::time::{Duration, Instant};
 use std::{thread, time};
 
 /// How many connections may be there at a time: twice as many as all sessions of 64 exports. One more is dropped.
 const CONNECTIONS: u64 = 8_192;
+
+/// How many processors there are at least where a client's bytes are read ahead: it keeps two threads busy here, and its own.
+const PROCESSORS: usize = 4;
 
 /// How many milliseconds a listener waits before it tries again to accept, where the system is short of something.
 const RETRY: u64 = 10;
@@ -109,14 +115,14 @@ pub fn serve_on<R: Wait + Threads + Sync + time::Clock>(
     unix: Option<UnixListener>,
     crew: Crew,
 ) -> Result<u128, ServeFault> {
-    let mut listeners = Vec::new(alloc);
+    let mut entrances = Vec::new(alloc);
     if let Some(tcp) = tcp {
-        listeners.push(Listener::Tcp(tcp))?;
+        entrances.push(Entrance::new(alloc, Listener::Tcp(tcp))?)?;
     }
     if let Some(unix) = unix {
-        listeners.push(Listener::Unix(unix))?;
+        entrances.push(Entrance::new(alloc, Listener::Unix(unix))?)?;
     }
-    let listening = crew.sessions.saturating_mul(listeners.len() as u64);
+    let listening = crew.sessions.saturating_mul(entrances.len() as u64);
     // One for each worker, two for each connection that may be there, and one more.
     let passes = listening
         .min(CONNECTIONS)
@@ -124,7 +130,7 @@ pub fn serve_on<R: Wait + Threads + Sync + time::Clock>(
         .saturating_add(crew.workers)
         .saturating_add(1);
     let blank = Blank::new(passes);
-    serve_booked::<Brand, R>(rt, alloc, config, listeners.as_slice(), crew, blank, passes)
+    serve_booked::<Brand, R>(rt, alloc, config, entrances.as_slice(), crew, blank, passes)
 }
 
 /// Serves with so many passes.
@@ -132,7 +138,7 @@ fn serve_booked<L: Ledger + Send + Sync, R: Wait + Threads + Sync + time::Clock>
     rt: &R,
     alloc: Global,
     config: &Config<Global>,
-    listeners: &[Listener],
+    entrances: &[Entrance],
     crew: Crew,
     blank: Blank,
     passes: u64,
@@ -157,8 +163,11 @@ fn serve_booked<L: Ledger + Send + Sync, R: Wait + Threads + Sync + time::Clock>
         start: Instant::now(rt).ok(),
         closed: AtomicBool::new(false),
         light: AtomicUsize::new(0),
+        looking: AtomicUsize::new(0),
+        latest_long: Mutex::new(None),
+        is_wide: available_parallelism(rt).map_or(false, |count| count.get() >= PROCESSORS),
     };
-    let listened = run_threads(rt, &service, listeners, crew);
+    let listened = run_threads(rt, &service, entrances, crew);
     let Service { shared, passes, .. } = service;
     let booked = shared.end();
     let passes = passes.end();
@@ -175,14 +184,14 @@ fn serve_booked<L: Ledger + Send + Sync, R: Wait + Threads + Sync + time::Clock>
 fn run_threads<L: Ledger + Send + Sync, R: Wait + Threads + Sync + time::Clock>(
     rt: &R,
     service: &Service<L>,
-    listeners: &[Listener],
+    entrances: &[Entrance],
     crew: Crew,
 ) -> bool {
     thread::scope(thread::scope_env(), rt, |scope| {
         for _ in 0..crew.workers {
             let _ = scope.spawn(move || run_worker(rt, service));
         }
-        let listened = listen(rt, service, listeners, crew.sessions);
+        let listened = listen(rt, service, entrances, crew.sessions);
         service.shared.stop();
         service.bells.work.ring();
         listened
@@ -201,21 +210,21 @@ fn run_worker<L: Ledger, R: Wait + time::Clock>(rt: &R, service: &Service<L>) {
 fn listen<L: Ledger + Send + Sync, R: Wait + Threads + Sync + time::Clock>(
     rt: &R,
     service: &Service<L>,
-    listeners: &[Listener],
+    entrances: &[Entrance],
     sessions: u64,
 ) -> bool {
     let started = thread::scope(thread::scope_env(), rt, |scope| {
         let mut all = true;
-        for listener in listeners {
+        for entrance in entrances {
             let started = scope.spawn(move || {
-                if !accept_all(rt, service, listener, sessions) {
-                    close_all(service, listeners);
+                if !accept_all(rt, service, entrance, sessions) {
+                    close_all(service, entrances);
                 }
             });
             all = all && started.is_ok();
         }
         if !all {
-            close_all(service, listeners);
+            close_all(service, entrances);
         }
         all
     });
@@ -223,10 +232,10 @@ fn listen<L: Ledger + Send + Sync, R: Wait + Threads + Sync + time::Clock>(
 }
 
 /// No listener accepts any more.
-fn close_all<L: Ledger>(service: &Service<L>, listeners: &[Listener]) {
+fn close_all<L: Ledger>(service: &Service<L>, entrances: &[Entrance]) {
     service.closed.store(true, Ordering::SeqCst);
-    for listener in listeners {
-        let _ = listener.close();
+    for entrance in entrances {
+        let _ = entrance.listener.close();
     }
 }
 
@@ -234,18 +243,23 @@ fn close_all<L: Ledger>(service: &Service<L>, listeners: &[Listener]) {
 fn accept_all<L: Ledger + Send + Sync, R: Wait + Threads + Sync + time::Clock>(
     rt: &R,
     service: &Service<L>,
-    listener: &Listener,
+    entrance: &Entrance,
     sessions: u64,
 ) -> bool {
     thread::scope(thread::scope_env(), rt, |scope| {
+        let mut accepted = true;
         for _ in 0..sessions {
-            let Some(peer) = accept_one(rt, service, listener) else {
-                return false;
+            let Some(peer) = accept_one(rt, service, &entrance.listener) else {
+                accepted = false;
+                break;
             };
-            // Where no thread can be had the connection is dropped.
-            let _ = scope.spawn(move || serve_client(rt, service, &peer));
+            if let Err(peer) = entrance.lobby.hand_over(rt, peer) {
+                // Where no thread can be had the connection is dropped.
+                let _ = scope.spawn(move || serve_clients(rt, service, &entrance.lobby, peer));
+            }
         }
-        true
+        entrance.lobby.close();
+        accepted
     })
 }
 

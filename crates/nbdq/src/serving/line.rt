@@ -1,5 +1,7 @@
 //! What the two threads of a session share: the session, its bells, and where its replies go out.
 
+use super::ahead::Ahead;
+use super::port::{Port, is_late};
 use super::service::{Disks, Service};
 use super::stage::{Ready, Stage};
 use nbd_base::NoMemory;
@@ -11,20 +13,29 @@ use server_lock::Pass;
 use std::alloc::Global;
 use std::io::{BufWriter, Write};
 use std::net::TcpStream;
-use std::sync::Mutex;
 use std::sync::atomic::{AtomicBool, AtomicU64, Ordering};
 use std::sync::ledger::Ledger;
+use std::sync::{Mutex, Wait};
 use std::time::Duration;
 
 /// How many bytes of replies are kept before they are sent. A reply's data come to it page by page, so that it is to hold a long one.
 const OUTLET: usize = 262_144;
 
+/// How many bytes come before the data of a reply.
+const HEAD: usize = 16;
+
 /// How many replies are taken in a row: twice as many as a reader hands in requests, so that it mostly takes all.
 const TAKEN: usize = 32;
+
+/// How many replies a reader keeps at most before it sends them, where it won't sleep before the next.
+const KEPT: usize = 4;
 
 /// How many bytes of data the replies may have together that a reader writes: what a socket mostly holds, so that a client that
 /// doesn't read yet is still read.
 const BRIEF: usize = 131_072;
+
+/// How many milliseconds a reader waits for a client that doesn't read its replies, before it leaves them to the writer.
+pub const IMPATIENCE: u64 = 100;
 
 /// How many seconds a writer sleeps whose session has requests under way. Each reply rings its bell, so this is for a
 /// request that was so long in service that who asked for it was forgotten.
@@ -39,6 +50,8 @@ pub struct Line<'a> {
     pub outlet: Mutex<Outlet<'a>>,
     /// Nobody waits for it while it holds the server.
     pub stage: Stage,
+    /// Nobody waits for it while it holds the server.
+    pub ahead: Ahead,
     /// Rung where the session has a reply, or has left.
     pub replies: &'a Bell,
     /// Rung where a reply was taken.
@@ -49,14 +62,32 @@ pub struct Line<'a> {
     taken: AtomicU64,
     /// Whether its holds of the server are long.
     heavy: AtomicBool,
+    /// Whether the reader wrote replies and didn't send them.
+    kept: AtomicBool,
 }
 
 /// Where a session's replies go out.
 #[derive(Drop)]
 pub struct Outlet<'a> {
-    writer: Counted<BufWriter<&'a TcpStream>>,
+    writer: Counted<BufWriter<Port<'a>>>,
+    patient: &'a AtomicBool,
     // Replies that were taken and aren't written yet, the oldest first. Its room was obtained at the start.
     taken: Vec<Reply<Global>, Global>,
+    // How many were written since the writer sent last, and how many bytes they have at most.
+    unsent: usize,
+    bytes: usize,
+    // Whether the reader has left some of them to the writer, since the client doesn't read.
+    stuck: bool,
+}
+
+/// What came of sending without waiting long.
+#[derive(Clone, Copy, Debug, PartialEq, Eq, Drop)]
+pub enum Sent {
+    All,
+    /// The client doesn't read: the writer sends the rest.
+    Part,
+    /// The connection is over.
+    Failed,
 }
 
 impl<'a> Line<'a> {
@@ -65,6 +96,7 @@ impl<'a> Line<'a> {
         peer: &'a TcpStream,
         outlet: Outlet<'a>,
         stage: Stage,
+        ahead: Ahead,
         replies: &'a Bell,
     ) -> Line<'a> {
         Line {
@@ -72,11 +104,13 @@ impl<'a> Line<'a> {
             peer,
             outlet: Mutex::new(outlet),
             stage,
+            ahead,
             replies,
             room: Bell::new(),
             arrived: AtomicU64::new(0),
             taken: AtomicU64::new(0),
             heavy: AtomicBool::new(false),
+            kept: AtomicBool::new(false),
         }
     }
 
@@ -89,6 +123,29 @@ impl<'a> Line<'a> {
     pub fn note_load(&self, heavy: bool) {
         if self.is_heavy() != heavy {
             self.heavy.store(heavy, Ordering::SeqCst);
+        }
+    }
+
+    /// Whether the reader keeps what it wrote: its next bytes are there already.
+    pub fn keeps_replies<R: Wait>(&self, rt: &R, outlet: &Outlet<'_>) -> bool {
+        let keeps = outlet.may_keep() && self.ahead.has_more(rt);
+        if keeps {
+            self.kept.store(true, Ordering::SeqCst);
+        }
+        keeps
+    }
+
+    /// Sends the replies that the reader kept, where the writer isn't about to.
+    pub fn send_kept(&self) {
+        if self.kept.load(Ordering::SeqCst) {
+            self.kept.store(false, Ordering::SeqCst);
+            let Some(mut outlet) = self.outlet.try_lock() else {
+                return;
+            };
+            // Where it failed the connection is over, and the socket tells the reader so.
+            if outlet.send_briefly() == Sent::Part {
+                self.replies.ring();
+            }
         }
     }
 
@@ -121,20 +178,45 @@ impl<'a> Line<'a> {
     }
 }
 
+/// How many bytes these replies have.
+fn bytes_of(replies: &[Reply<Global>]) -> usize {
+    let mut bytes = 0usize;
+    for reply in replies {
+        bytes = bytes
+            .saturating_add(HEAD)
+            .saturating_add(reply.content().len());
+    }
+    bytes
+}
+
 impl<'a> Outlet<'a> {
-    pub fn new(alloc: Global, peer: &'a TcpStream) -> Result<Outlet<'a>, NoMemory> {
-        let Ok(writer) = BufWriter::with_capacity(alloc, OUTLET, peer) else {
+    /// The writes of a reader are those that aren't `patient`.
+    pub fn new(
+        alloc: Global,
+        peer: &'a TcpStream,
+        patient: &'a AtomicBool,
+    ) -> Result<Outlet<'a>, NoMemory> {
+        let Ok(writer) = BufWriter::with_capacity(alloc, OUTLET, Port::new(peer, patient)) else {
             return Err(NoMemory);
         };
         Ok(Outlet {
             writer: Counted::new(writer),
+            patient,
             taken: Vec::with_capacity(alloc, TAKEN)?,
+            unsent: 0,
+            bytes: 0,
+            stuck: false,
         })
     }
 
     /// How many replies were taken and aren't written.
     pub fn unwritten(&self) -> usize {
         self.taken.len()
+    }
+
+    /// Whether more replies may be kept before they are sent.
+    pub fn may_keep(&self) -> bool {
+        self.unsent < KEPT
     }
 
     /// Takes the session's replies, as many as are there and as there is room for.
@@ -147,28 +229,22 @@ impl<'a> Outlet<'a> {
         take_replies(disks, pass, session, &mut self.taken)
     }
 
-    /// Whether the replies that were taken are short enough for a reader to write them.
+    /// Whether the replies that were taken are short enough for a reader to write them: there is room for them beside those that
+    /// weren't sent, so that nothing is sent before.
     pub fn is_brief(&self) -> bool {
-        let mut bytes = 0usize;
-        for reply in self.taken.as_slice() {
-            bytes = bytes.saturating_add(reply.content().len());
-        }
-        bytes <= BRIEF
+        let bytes = bytes_of(self.taken.as_slice());
+        !self.stuck && bytes <= BRIEF && bytes.saturating_add(self.bytes) < OUTLET
     }
 
     /// Writes the replies that were taken. Where a write failed the connection is over.
     pub fn write(&mut self) -> bool {
-        for reply in self.taken.as_slice() {
-            if put_reply(reply, &mut self.writer).is_err() {
-                return false;
-            }
-        }
-        self.taken.clear();
-        true
+        self.patient.store(true, Ordering::SeqCst);
+        self.put_taken()
     }
 
     /// Sends what was ready, behind what was written. Where that failed the connection is over.
     pub fn send_ready(&mut self, ready: &Ready) -> bool {
+        self.patient.store(true, Ordering::SeqCst);
         let written = match ready {
             Ready::Text(text) => put(&mut self.writer, text.as_slice()),
             Ready::Whole(reply) => put_reply(reply, &mut self.writer),
@@ -176,8 +252,55 @@ impl<'a> Outlet<'a> {
         written.is_ok() && self.send()
     }
 
-    /// Sends what was written.
+    /// Sends what was written, however long the client doesn't read. Where that failed the connection is over.
     pub fn send(&mut self) -> bool {
-        self.writer.flush().is_ok()
+        self.patient.store(true, Ordering::SeqCst);
+        self.flush() == Sent::All
+    }
+
+    /// Writes the replies that were taken, which are brief, and sends them where that is asked for, unless the client doesn't read.
+    pub fn write_briefly(&mut self, sends: bool) -> Sent {
+        if !self.put_taken() {
+            return Sent::Failed;
+        }
+        if sends {
+            self.send_briefly()
+        } else {
+            Sent::All
+        }
+    }
+
+    /// Sends what was written, unless the client doesn't read.
+    pub fn send_briefly(&mut self) -> Sent {
+        self.patient.store(false, Ordering::SeqCst);
+        self.flush()
+    }
+
+    fn put_taken(&mut self) -> bool {
+        for reply in self.taken.as_slice() {
+            if put_reply(reply, &mut self.writer).is_err() {
+                return false;
+            }
+        }
+        self.unsent = self.unsent.saturating_add(self.taken.len());
+        self.bytes = self.bytes.saturating_add(bytes_of(self.taken.as_slice()));
+        self.taken.clear();
+        true
+    }
+
+    fn flush(&mut self) -> Sent {
+        match self.writer.flush() {
+            Ok(()) => {
+                self.unsent = 0;
+                self.bytes = 0;
+                self.stuck = false;
+                Sent::All
+            }
+            Err(error) if is_late(&error) => {
+                self.stuck = true;
+                Sent::Part
+            }
+            Err(_) => Sent::Failed,
+        }
     }
 }

@@ -1,5 +1,8 @@
 //! Listeners of either kind, and the connections that they accept.
 
+use super::lobby::Lobby;
+use nbd_base::NoMemory;
+use std::alloc::Global;
 use std::io;
 use std::io::ErrorKind;
 use std::net::{Shutdown, TcpListener, TcpStream};
@@ -15,6 +18,20 @@ const PASSING: [i32; 4] = [24, 23, 105, 12];
 pub enum Listener {
     Tcp(TcpListener),
     Unix(UnixListener),
+}
+
+/// A listener, and where the threads of its connections wait for the next client.
+#[derive(Drop)]
+pub struct Entrance {
+    pub listener: Listener,
+    pub lobby: Lobby,
+}
+
+impl Entrance {
+    pub fn new(alloc: Global, listener: Listener) -> Result<Entrance, NoMemory> {
+        let lobby = Lobby::new(alloc)?;
+        Ok(Entrance { listener, lobby })
+    }
 }
 
 impl Listener {

@@ -1,7 +1,8 @@
 //! The thread of a connection that reads requests.
 
+use super::ahead::Feed;
 use super::hold_clock::HoldClock;
-use super::line::{Line, Outlet, PATIENCE};
+use super::line::{Line, Outlet, PATIENCE, Sent};
 use super::service::{Disks, Service};
 use super::shift::Shift;
 use super::stage::make_ready;
@@ -11,16 +12,17 @@ use nbd_wire::{Request, RequestHead};
 use nbd_workers::until;
 use server_lock::{AnswerTrace, EventTrace, Pass, Trace};
 use std::alloc::Global;
-use std::net::TcpStream;
 use std::sync::ledger::Ledger;
 use std::sync::{MutexGuard, Wait};
+use std::thread::Scope;
 use std::time;
 use std::time::Duration;
 use tag_clock::Clock;
 
-/// The longest data, in bytes, of a READ or WRITE that a reader performs itself. A longer WRITE is performed while the next is
-/// read.
+/// The longest data, in bytes, of a READ that a reader performs itself, and of a WRITE that isn't long.
 const SHORT: u32 = 16_384;
+
+const SHORT_WRITE: u32 = 65_535;
 
 /// How many requests a reader mostly hands in under one hold of the server: what a hold costs is shared by them, and whoever waits
 /// for it waits for no more than these.
@@ -34,8 +36,8 @@ const LONG_WAIT: u64 = 1_000;
 
 /// What a reader has at hand.
 #[derive(Drop)]
-pub struct Intake<'a> {
-    frames: FrameReader<&'a TcpStream, Global>,
+pub struct Intake<'a, 'b, R: Wait> {
+    frames: FrameReader<Feed<'a, 'b, R>, Global>,
     shift: Shift,
 }
 
@@ -54,10 +56,10 @@ struct Came {
     turn: Turn<Global>,
     /// Why no more replies were taken after it. None where the writer takes them.
     stop: Option<Stop>,
-    /// Whether a request has long data.
-    long: bool,
-    /// Whether a READ has: then its reply is long.
+    /// Whether a READ asks for long data: it is left to the writer.
     reads: bool,
+    /// Whether a WRITE carries long data.
+    writes: bool,
     /// Whether something waits to be chosen.
     waits: bool,
 }
@@ -83,8 +85,8 @@ impl Handed {
     }
 }
 
-impl<'a> Intake<'a> {
-    pub fn new(alloc: Global, reader: Counted<&'a TcpStream>, shift: Shift) -> Intake<'a> {
+impl<'a, 'b, R: Wait> Intake<'a, 'b, R> {
+    pub fn new(alloc: Global, reader: Counted<Feed<'a, 'b, R>>, shift: Shift) -> Intake<'a, 'b, R> {
         Intake {
             frames: FrameReader::new(alloc, reader),
             shift,
@@ -113,8 +115,8 @@ impl<'a> Intake<'a> {
         let mut came = Came {
             turn,
             stop,
-            long: latest.is_long(),
             reads: latest == Handed::LongRead,
+            writes: latest == Handed::LongWrite,
             waits: false,
         };
         for _ in 1..most {
@@ -127,7 +129,7 @@ impl<'a> Intake<'a> {
             let handed = note_turn(service, line, &turn, pass.last());
             came.stop = self.follow(disks, service, line, pass, outlet, handed, clock);
             came.turn = turn;
-            came.long = came.long || handed.is_long();
+            came.writes = came.writes || handed == Handed::LongWrite;
             came.reads = came.reads || handed == Handed::LongRead;
             latest = if handed == latest {
                 handed
@@ -152,7 +154,7 @@ impl<'a> Intake<'a> {
         handed: Handed,
         clock: &C,
     ) -> Option<Stop> {
-        if handed == Handed::Short {
+        if handed == Handed::Short || handed == Handed::LongWrite {
             self.shift
                 .serve_own(disks, &service.bells, pass, line.session, clock);
         }
@@ -190,7 +192,7 @@ fn note_turn<L: Ledger>(
 fn handed_by(head: RequestHead) -> Handed {
     match head.kind {
         READ if head.length > SHORT => Handed::LongRead,
-        WRITE if head.length > SHORT => Handed::LongWrite,
+        WRITE if head.length > SHORT_WRITE => Handed::LongWrite,
         _ => Handed::Short,
     }
 }
@@ -198,11 +200,12 @@ fn handed_by(head: RequestHead) -> Handed {
 /// Reads requests until there are no more. Each goes in under one hold of the server, with others that are at hand, and what is
 /// short is performed under it. Replies that are there by then and short it writes itself; others it leaves to the writer, as it
 /// does the requests whose data is long.
-pub fn read_requests<L: Ledger, R: Wait + time::Clock>(
-    rt: &R,
+pub fn read_requests<'s, E, L: Ledger, R: Wait + Sync + time::Clock>(
+    rt: &'s R,
+    scope: &Scope<'s, E>,
     service: &Service<L>,
-    line: &Line<'_>,
-    mut intake: Intake<'_>,
+    line: &'s Line<'_>,
+    mut intake: Intake<'_, '_, R>,
     pass: &mut Pass<L>,
 ) {
     let mut held: Option<Request<Global>> = None;
@@ -212,7 +215,9 @@ pub fn read_requests<L: Ledger, R: Wait + time::Clock>(
             Some(request) => Offer::Again(request),
             None => Offer::Read(intake.frames.next()),
         };
-        match read_on(rt, service, line, &mut intake, pass, offer) {
+        let (turn, ahead) = read_on(rt, service, line, &mut intake, pass, offer);
+        read_ahead(rt, scope, service.alloc, line, ahead);
+        match turn {
             Turn::Going => {}
             Turn::Held(request) => {
                 held = Some(request);
@@ -226,15 +231,38 @@ pub fn read_requests<L: Ledger, R: Wait + time::Clock>(
     line.replies.ring();
 }
 
-/// One hold of the server, and what follows from it.
+/// Has the client's bytes read ahead from now on, or no longer.
+fn read_ahead<'s, E, R: Wait + Sync>(
+    rt: &'s R,
+    scope: &Scope<'s, E>,
+    alloc: Global,
+    line: &'s Line<'_>,
+    ahead: bool,
+) {
+    if !ahead {
+        line.ahead.stop();
+        return;
+    }
+    if line.ahead.wants_thread() {
+        let started = scope.spawn(move || line.ahead.run(rt, alloc, line.peer));
+        if started.is_err() {
+            line.ahead.has_no_thread();
+            return;
+        }
+    }
+    line.ahead.start();
+}
+
+/// One hold of the server, and what follows from it. Tells its last turn, and whether the client's bytes are to be read ahead: it
+/// sends long WRITEs, and no other does.
 fn read_on<L: Ledger, R: Wait + time::Clock>(
     rt: &R,
     service: &Service<L>,
     line: &Line<'_>,
-    intake: &mut Intake<'_>,
+    intake: &mut Intake<'_, '_, R>,
     pass: &mut Pass<L>,
     offer: Offer,
-) -> Turn<Global> {
+) -> (Turn<Global>, bool) {
     let clock = service.clock(rt);
     let mut outlet = line.outlet.try_lock();
     let before = match &outlet {
@@ -266,22 +294,24 @@ fn read_on<L: Ledger, R: Wait + time::Clock>(
     let written = match outlet {
         Some(mut outlet) => {
             line.note_taken(outlet.unwritten().saturating_sub(before));
-            let last = !is_going(&came.turn) || !intake.frames.is_ready();
+            let more = intake.frames.is_ready() || line.keeps_replies(rt, &*outlet);
+            let last = !is_going(&came.turn) || !more;
             is_written(rt, service, line, &mut *outlet, pass, last)
                 && came.stop == Some(Stop::Empty)
         }
         None => false,
     };
-    if came.long || !written {
+    if came.reads || !written {
         line.replies.ring();
     }
     if busy && came.reads {
         make_ready(rt, service, line, &mut intake.shift, pass);
     }
-    if came.waits && !came.long {
+    if came.waits && !came.reads {
         service.bells.work.ring_one();
     }
-    came.turn
+    let ahead = came.writes && service.is_wide && service.is_alone(rt, line.session, held.now());
+    (came.turn, ahead)
 }
 
 /// Whether what is offered is a request with long data.
@@ -313,9 +343,12 @@ fn is_written<L: Ledger, R: Wait>(
     if !outlet.is_brief() {
         return false;
     }
-    let written = outlet.write() && (!last || outlet.send());
-    if !written {
-        service.give_up(rt, line.session, pass);
+    match outlet.write_briefly(last) {
+        Sent::All => true,
+        Sent::Part => false,
+        Sent::Failed => {
+            service.give_up(rt, line.session, pass);
+            false
+        }
     }
-    written
 }

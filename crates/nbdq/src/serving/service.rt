@@ -14,17 +14,28 @@ use std::cell::Cell;
 use std::hint::spin_loop;
 use std::sync::atomic::{AtomicBool, AtomicUsize, Ordering};
 use std::sync::ledger::Ledger;
-use std::sync::{MutexGuard, Wait};
+use std::sync::{Mutex, MutexGuard, Wait};
 use std::thread::yield_now;
-use std::time;
-use std::time::Instant;
+use std::time::{Duration, Instant};
+use std::{thread, time};
 use tag_clock::{Clock, Moment};
 
-/// How often who has much to do with the server asks for it, while other threads run, before it waits like others.
+/// How many of those who have much to do with the server look for it at a time. The others sleep for so many microseconds, so
+/// often at most, before they wait like those who have little.
+const LOOKERS: usize = 2;
+
+const NAP: u64 = 20;
+
+const NAPS: usize = 16;
+
+/// How often it is looked for while other threads run in between.
 const TRIES: usize = 64;
 
 /// How often it is looked at in a row before other threads run.
 const LOOKS: usize = 32;
+
+/// How many milliseconds after its last long WRITE a session is no longer taken for one that sends more.
+const LATELY: u64 = 20;
 
 /// A server of disks in pages, while it is held.
 pub type Disks<L> = Booked<L, Paged<Global>, Heaped<Global>>;
@@ -44,6 +55,12 @@ pub struct Service<L: Ledger> {
     pub closed: AtomicBool,
     /// How many ask for the server who have little to do there.
     pub light: AtomicUsize,
+    /// How many look for the server who have much to do there.
+    pub looking: AtomicUsize,
+    /// Who sent a long WRITE last, and when.
+    pub latest_long: Mutex<Option<(SessionId, Moment)>>,
+    /// Whether there are processors enough to read a client's bytes ahead.
+    pub is_wide: bool,
 }
 
 impl<L: Ledger> Service<L> {
@@ -52,7 +69,7 @@ impl<L: Ledger> Service<L> {
     }
 
     /// Holds the server. Who has much to do there lets those go first, for a while, who have little.
-    pub fn hold<R: Wait>(&self, rt: &R, heavy: bool) -> MutexGuard<'_, Disks<L>> {
+    pub fn hold<R: Wait + time::Clock>(&self, rt: &R, heavy: bool) -> MutexGuard<'_, Disks<L>> {
         if heavy {
             return self.hold_after(rt);
         }
@@ -63,14 +80,31 @@ impl<L: Ledger> Service<L> {
     }
 
     /// Holds the server, mostly not before those who have little to do there.
-    fn hold_after<R: Wait>(&self, rt: &R) -> MutexGuard<'_, Disks<L>> {
-        for _ in 0..TRIES {
-            if let Some(held) = self.look() {
+    fn hold_after<R: Wait + time::Clock>(&self, rt: &R) -> MutexGuard<'_, Disks<L>> {
+        for _ in 0..NAPS {
+            if let Some(held) = self.look_long() {
                 return held;
             }
-            yield_now();
+            thread::sleep(rt, Duration::from_micros(NAP));
         }
         self.shared.hold(rt)
+    }
+
+    /// The server, where it is free at one of many looks, and few others look for it: those who look leave less of the processors
+    /// to who holds it, and to the clients.
+    fn look_long(&self) -> Option<MutexGuard<'_, Disks<L>>> {
+        let mut held = None;
+        if self.looking.fetch_add(1, Ordering::SeqCst) < LOOKERS {
+            for _ in 0..TRIES {
+                held = self.look();
+                if held.is_some() {
+                    break;
+                }
+                yield_now();
+            }
+        }
+        self.looking.fetch_sub(1, Ordering::SeqCst);
+        held
     }
 
     /// The server, where it is free at one of some looks, and nobody asks for it who has little to do there.
@@ -84,6 +118,19 @@ impl<L: Ledger> Service<L> {
             spin_loop();
         }
         None
+    }
+
+    /// A session sends a long WRITE. Tells whether no other did so lately.
+    pub fn is_alone<R: Wait>(&self, rt: &R, session: SessionId, now: Moment) -> bool {
+        let mut latest = self.latest_long.lock(rt);
+        let alone = match &*latest {
+            Some((other, at)) => {
+                *other == session || until(*at, now) > Duration::from_millis(LATELY)
+            }
+            None => true,
+        };
+        *latest = Some((session, now));
+        alone
     }
 
     /// The session is dropped. Where it is gone already, all stays.

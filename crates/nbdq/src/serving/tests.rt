@@ -1,9 +1,15 @@
 //! Whole conversations with a running server, over loopback and over a Unix socket.
 
+use super::ahead::{Ahead, Feed};
+use super::line::{Line, Outlet};
+use super::lobby::Lobby;
+use super::stage::Stage;
 use super::*;
 use nbd_commands::{ExportList, ExportSettings};
-use nbd_wire::protocol::READ;
+use nbd_wire::protocol::{READ, WRITE};
 use nbd_wire::{RequestHead, write_head};
+use nbd_workers::Bell;
+use server_core::SessionId;
 use std::io::{Read, Write};
 use std::net::TcpStream;
 use std::os::unix::net::UnixStream;
@@ -154,5 +160,276 @@ fn long_replies(rt: HostRuntime) -> Result<(), Fail> {
         assert_eq!(rt; told?, 255);
         assert_eq!(rt; steps, Ok(39));
     }
+    Ok(())
+}
+
+/// How many bytes a long WRITE of these tests has.
+const PART: u32 = 262_144;
+
+/// Sends the head of a WRITE of so many equal bytes behind the parts before it, and the first half of these.
+fn begin_part<S: Write>(
+    stream: &mut S,
+    number: u8,
+    content: &mut Vec<u8, Global>,
+) -> io::Result<()> {
+    let head = RequestHead {
+        flags: 0,
+        kind: WRITE,
+        cookie: u64::from(number),
+        offset: u64::from(number) * u64::from(PART),
+        length: PART,
+    };
+    content.as_mut_slice().fill(number);
+    stream.write_all(&write_head(&head))?;
+    let (half, _) = content.as_slice().split_at(content.len() / 2);
+    stream.write_all(half)
+}
+
+/// Sends the other half.
+fn end_part<S: Write>(stream: &mut S, content: &Vec<u8, Global>) -> io::Result<()> {
+    let (_, half) = content.as_slice().split_at(content.len() / 2);
+    stream.write_all(half)
+}
+
+/// Reads so many replies without data, and tells how many are well.
+fn replies_well<S: Read>(stream: &mut S, count: usize) -> io::Result<usize> {
+    let mut well = 0usize;
+    for _ in 0..count {
+        let mut head = [0u8; 16];
+        stream.read_exact(&mut head)?;
+        if head.starts_with(b"\x67\x44\x66\x98\0\0\0\0\0") {
+            well = well.saturating_add(1);
+        }
+    }
+    Ok(well)
+}
+
+/// Writes eight parts, the last half of the last once the replies to the others came, and tells how many replies are well.
+fn write_parts<S: Read + Write>(alloc: Global, stream: &mut S) -> io::Result<usize> {
+    let mut content = Vec::from_elem(alloc, 0u8, PART as usize)?;
+    stream.write_all(FIRST)?;
+    for number in 0..7 {
+        begin_part(stream, number, &mut content)?;
+        end_part(stream, &content)?;
+    }
+    begin_part(stream, 7, &mut content)?;
+    let mut first = [0u8; 44];
+    stream.read_exact(&mut first)?;
+    let before = replies_well(stream, 7)?;
+    end_part(stream, &content)?;
+    let last = replies_well(stream, 1)?;
+    stream.write_all(&REST[28..])?;
+    Ok(before.saturating_add(last))
+}
+
+/// Reads the parts one by one, and tells how many have the bytes that were written.
+fn read_parts<S: Read + Write>(alloc: Global, stream: &mut S) -> io::Result<usize> {
+    let mut content = Vec::from_elem(alloc, 0u8, PART as usize)?;
+    stream.write_all(FIRST)?;
+    let mut first = [0u8; 44];
+    stream.read_exact(&mut first)?;
+    let mut well = 0usize;
+    for number in 0..8u8 {
+        let head = RequestHead {
+            flags: 0,
+            kind: READ,
+            cookie: 9,
+            offset: u64::from(number) * u64::from(PART),
+            length: PART,
+        };
+        stream.write_all(&write_head(&head))?;
+        let mut said = [0u8; 16];
+        stream.read_exact(&mut said)?;
+        stream.read_exact(content.as_mut_slice())?;
+        // The first bytes are those of the short WRITE.
+        if content.iter().skip(4).all(|byte| *byte == number) {
+            well = well.saturating_add(1);
+        }
+    }
+    stream.write_all(&REST[28..])?;
+    Ok(well)
+}
+
+#[test]
+fn long_writes_and_a_second_client(rt: HostRuntime) -> Result<(), Fail> {
+    let rt = &rt;
+    let alloc = rt.alloc();
+    let config = config_of(alloc, 2_097_152).ok_or("a configuration")?;
+    let lent = &config;
+    let crew = Crew {
+        workers: 4,
+        sessions: 2,
+    };
+    let listener = TcpListener::bind(rt, "127.0.0.1:0")?;
+    let address = listener.local_addr()?;
+    let (steps, well) = thread::join(
+        rt,
+        move || serve_on(rt, alloc, lent, Some(listener), None, crew),
+        move || {
+            let written = write_parts(alloc, &mut TcpStream::connect(rt, address)?)?;
+            let read = read_parts(alloc, &mut TcpStream::connect(rt, address)?)?;
+            Ok::<(usize, usize), io::Error>((written, read))
+        },
+    );
+    assert_eq!(rt; well?, (8, 8));
+    assert_eq!(rt; steps, Ok(78));
+    Ok(())
+}
+
+/// The byte that is sent at a place.
+fn byte_at(at: usize) -> u8 {
+    (at % 251) as u8
+}
+
+/// Sends so many bytes, and ends.
+fn send_bytes(alloc: Global, stream: &mut TcpStream, count: usize) -> io::Result<()> {
+    let mut bytes = Vec::new(alloc);
+    for at in 0..count {
+        bytes.push(byte_at(at))?;
+    }
+    stream.write_all(bytes.as_slice())
+}
+
+/// How many bytes come while they are read ahead, and whether each is the one that was sent.
+fn fed<R: Wait + Threads + Sync>(
+    rt: &R,
+    alloc: Global,
+    peer: &TcpStream,
+) -> io::Result<(usize, bool)> {
+    let bell = Bell::new();
+    let session = SessionId {
+        export: 0,
+        number: 0,
+    };
+    let patient = AtomicBool::new(false);
+    let outlet = Outlet::new(alloc, peer, &patient);
+    let (Ok(outlet), Ok(stage), Ok(ahead)) = (outlet, Stage::new(alloc), Ahead::new(alloc)) else {
+        return Ok((0, false));
+    };
+    let line = &Line::new(session, peer, outlet, stage, ahead, &bell);
+    thread::scope(thread::scope_env(), rt, |scope| {
+        let started = line.ahead.wants_thread()
+            && scope
+                .spawn(move || line.ahead.run(rt, alloc, line.peer))
+                .is_ok();
+        line.ahead.start();
+        let told = match started {
+            true => all_of(rt, line),
+            false => Ok((0, false)),
+        };
+        line.ahead.end();
+        told
+    })
+}
+
+fn all_of<R: Wait>(rt: &R, line: &Line<'_>) -> io::Result<(usize, bool)> {
+    let mut feed = Feed::new(rt, line);
+    let mut buffer = [0u8; 5_000];
+    let mut at = 0usize;
+    let mut well = true;
+    for _ in rt.forever() {
+        let count = feed.read(&mut buffer)?;
+        if count == 0 {
+            break;
+        }
+        for byte in buffer.iter().take(count) {
+            well = well && *byte == byte_at(at);
+            at = at.saturating_add(1);
+        }
+    }
+    Ok((at, well))
+}
+
+#[test]
+fn bytes_that_are_read_ahead(rt: HostRuntime) -> Result<(), Fail> {
+    let rt = &rt;
+    let alloc = rt.alloc();
+    let listener = &TcpListener::bind(rt, "127.0.0.1:0")?;
+    let address = listener.local_addr()?;
+    let (told, sent) = thread::join(
+        rt,
+        move || {
+            let (peer, _) = listener.accept()?;
+            fed(rt, alloc, &peer)
+        },
+        move || send_bytes(alloc, &mut TcpStream::connect(rt, address)?, 3_000_000),
+    );
+    assert!(rt; sent.is_ok());
+    assert_eq!(rt; told?, (3_000_000, true));
+    Ok(())
+}
+
+#[test]
+fn a_client_handed_over(rt: HostRuntime) -> Result<(), Fail> {
+    let rt = &rt;
+    let listener = TcpListener::bind(rt, "127.0.0.1:0")?;
+    let client = TcpStream::connect(rt, listener.local_addr()?)?;
+    let lobby = &Lobby::new(rt.alloc())?;
+    let (waited, ()) = thread::join(
+        rt,
+        move || (lobby.wait(rt).is_some(), lobby.wait(rt).is_some()),
+        move || {
+            let mut handed = lobby.hand_over(rt, client);
+            for _ in rt.forever() {
+                let Err(back) = handed else {
+                    break;
+                };
+                thread::sleep(rt, Duration::from_millis(1));
+                handed = lobby.hand_over(rt, back);
+            }
+            lobby.close();
+        },
+    );
+    assert_eq!(rt; waited, (true, false));
+    Ok(())
+}
+
+/// The cookie of each READ of a client that reads late.
+const ASKED: u64 = 9;
+
+/// Sends READs and long WRITEs in turn before it reads a reply, more than the sockets hold, and tells how many replies are well.
+fn read_late<S: Read + Write>(alloc: Global, stream: &mut S) -> io::Result<usize> {
+    let mut content = Vec::from_elem(alloc, 0u8, PART as usize)?;
+    stream.write_all(FIRST)?;
+    for number in 0..48u8 {
+        ask(stream, ASKED, 16_384)?;
+        begin_part(stream, number % 4 + 4, &mut content)?;
+        end_part(stream, &content)?;
+    }
+    let mut first = [0u8; 44];
+    stream.read_exact(&mut first)?;
+    let mut well = 0usize;
+    let mut data = Vec::from_elem(alloc, 0u8, 16_384)?;
+    for _ in 0..96 {
+        let mut head = [0u8; 16];
+        stream.read_exact(&mut head)?;
+        if head.starts_with(b"\x67\x44\x66\x98\0\0\0\0\0") {
+            well = well.saturating_add(1);
+        }
+        if head.ends_with(&ASKED.to_be_bytes()) {
+            stream.read_exact(data.as_mut_slice())?;
+        }
+    }
+    stream.write_all(&REST[28..])?;
+    Ok(well)
+}
+
+#[test]
+fn a_client_that_reads_late(rt: HostRuntime) -> Result<(), Fail> {
+    let rt = &rt;
+    let alloc = rt.alloc();
+    let config = config_of(alloc, 2_097_152).ok_or("a configuration")?;
+    let path = "nbdq.late";
+    let _ = fs::remove_file(rt, path);
+    let listener = UnixListener::bind(rt, path)?;
+    let lent = &config;
+    let (steps, well) = thread::join(
+        rt,
+        move || serve_on(rt, alloc, lent, None, Some(listener), CREW),
+        move || read_late(alloc, &mut UnixStream::connect(rt, path)?),
+    );
+    fs::remove_file(rt, path)?;
+    assert_eq!(rt; well?, 96);
+    assert_eq!(rt; steps, Ok(391));
     Ok(())
 }

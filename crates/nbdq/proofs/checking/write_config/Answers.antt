@@ -1,4 +1,4 @@
-use Rattle.std.proofs.Common.{◌≡◌, Some, get_or, arith, rules}
+use Rattle.std.proofs.Common.{◌≡◌, Some, get_or, arith}
 use Rattle.std.specs.Io.KnownBytes.{Appends}
 use Rattle.std.proofs.lemmas.Grind.{common_steps}
 use Rattle.nbdq.specs.Checked.{inflight_line}
