@@ -1,4 +1,4 @@
-//! What the two threads of a session share: the session, its bells, and where its replies go out.
+//! What the threads of a session share: the session, its bells, and where its replies go out.
 
 use super::ahead::Ahead;
 use super::port::{Port, is_late};
@@ -41,7 +41,7 @@ pub const IMPATIENCE: u64 = 100;
 /// request that was so long in service that who asked for it was forgotten.
 pub const PATIENCE: u64 = 1;
 
-/// A session, and what its two threads share.
+/// A session, and what its threads share.
 #[derive(Drop)]
 pub struct Line<'a> {
     pub session: SessionId,

@@ -141,7 +141,7 @@ impl<'a, 'b, R: Wait> Intake<'a, 'b, R> {
         came
     }
 
-    /// What follows a turn under the same hold: a request with short data is performed, and what replies are there are taken,
+    /// What follows a turn under the same hold: a request other than a READ of long data is performed, and what replies are there are taken,
     /// where the outlet is at hand. So the steps of a request stand side by side in its export's log, and those of a READ go into
     /// the base without its data.
     fn follow<L: Ledger, C: Clock>(
@@ -197,9 +197,9 @@ fn handed_by(head: RequestHead) -> Handed {
     }
 }
 
-/// Reads requests until there are no more. Each goes in under one hold of the server, with others that are at hand, and what is
-/// short is performed under it. Replies that are there by then and short it writes itself; others it leaves to the writer, as it
-/// does the requests whose data is long.
+/// Reads requests until there are no more. Each goes in under one hold of the server, with others that are at hand, and is
+/// performed under it. Replies that are there by then and short it writes itself; others it leaves to the writer, as it
+/// does READs of long data.
 pub fn read_requests<'s, E, L: Ledger, R: Wait + Sync + time::Clock>(
     rt: &'s R,
     scope: &Scope<'s, E>,
