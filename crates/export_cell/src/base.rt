@@ -11,6 +11,7 @@ use export_store::Image;
 use lone_export::{Lone, Step};
 use nbd_base::NoMemory;
 use nbd_commands::ExportConfig;
+use payload::Page;
 use std::marker::Model;
 
 /// An export as it was some steps ago.
@@ -65,6 +66,13 @@ impl<I: Image> Base<I> {
         ensures { I.bytes result.now ≡ self.now.state.image }
     {
         self.lone.image()
+    }
+
+    /// Exchanges the pages that writes have put others in place of for an empty list.
+    pub(crate) fn sweep(&mut self, outdated: &mut Vec<Page<I::Alloc>, I::Alloc>)
+        ensures { self.new ≡ self.old }
+    {
+        self.lone.sweep(outdated);
     }
 
     /// Makes a step, as it was made before.

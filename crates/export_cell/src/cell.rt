@@ -10,6 +10,7 @@ ghost use Rattle.export_cell.specs.declared.refusal.ArriveFault.{ArriveFault};
 mod trimming;
 
 use crate::base::Base;
+use crate::outdated::Outdated;
 use crate::refusal::{ArriveFault, NotArrived};
 use export_queue::Picked;
 use export_store::Image;
@@ -103,6 +104,14 @@ impl<I: Image> ExportCell<I> {
         ensures payload { IsWithinBytes self.now.journal.log }
     {
         let _ = &self.payload;
+    }
+
+    /// Exchanges the pages that writes have put others in place of, since the last call, for empty lists with room for the next.
+    pub fn sweep(&mut self, outdated: &mut Outdated<I::Alloc>)
+        ensures { self.new ≡ self.old }
+    {
+        self.live.sweep(&mut outdated.live);
+        self.base.sweep(&mut outdated.base);
     }
 
     /// Opens a session and gives its number. The oldest steps of the log go into the base, as many as have to.

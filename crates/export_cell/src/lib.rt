@@ -3,10 +3,12 @@
 
 mod base;
 mod cell;
+mod outdated;
 mod refusal;
 
 pub use base::Base;
 pub use cell::ExportCell;
+pub use outdated::Outdated;
 pub use refusal::{ArriveFault, NotArrived};
 
 #[cfg(test)]

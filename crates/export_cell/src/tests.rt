@@ -89,3 +89,14 @@ fn serves<A: Allocator + Copy>(cell: &mut ExportCell<Flat<A>>) -> bool {
 fn counts<A: Allocator + Copy>(cell: &ExportCell<Flat<A>>) -> (u64, usize, u64) {
     (cell.steps(), cell.entries().len(), cell.base().steps())
 }
+
+#[test]
+fn a_sweep_is_no_step(rt: HostRuntime) -> Result<(), NoMemory> {
+    let mut cell = opened(rt.alloc(), &ExportSettings::new(b"a", 8))?;
+    assert!(rt; cell.attach() == Ok(0));
+    let mut outdated = Outdated::with_room(rt.alloc(), 4)?;
+    cell.sweep(&mut outdated);
+    outdated.let_go();
+    assert_eq!(rt; counts(&cell), (1, 1, 0));
+    Ok(())
+}

@@ -4,7 +4,7 @@ ghost use Rattle.payload.specs.Bytes.{range_of, overwritten};
 
 use crate::image::Image;
 use nbd_base::NoMemory;
-use payload::Payload;
+use payload::{Page, Payload};
 use std::alloc::Allocator;
 use std::marker::Model;
 
@@ -83,4 +83,6 @@ impl<A: Allocator + Copy> Image for Flat<A> {
         self.kept[offset..offset + count].fill(0);
         Ok(())
     }
+
+    fn sweep(&mut self, _outdated: &mut Vec<Page<A>, A>) {}
 }

@@ -6,6 +6,7 @@ use nbd_base::NoMemory;
 use payload::{PAGE, Page};
 use std::alloc::Allocator;
 use std::marker::Model;
+use std::mem;
 
 /// A page that is held, which others may hold as well, and those of its bytes that were made zero since.
 #[derive(Drop)]
@@ -32,12 +33,23 @@ impl<A: Allocator + Copy> Leaf<A> {
         Ok(Leaf { page, holes })
     }
 
-    /// The bytes are those of another page from now on. It takes no memory.
-    pub(crate) fn put(&mut self, page: Page<A>)
+    /// The bytes are those of another page from now on. It takes no memory. The page that was held is outdated, where there is room
+    /// for one more of these, and else let go.
+    pub(crate) fn put(&mut self, page: Page<A>, outdated: &mut Vec<Page<A>, A>)
+        ensures { self.new ≡ page }
+    {
+        let before = self.exchange(page);
+        if outdated.len() < outdated.capacity() {
+            outdated.push_reserved(before);
+        }
+    }
+
+    // The bytes are those of another page from now on. The answer is the page that was held.
+    fn exchange(&mut self, page: Page<A>) -> Page<A>
         ensures { self.new ≡ page }
     {
         self.holes.fill();
-        self.page = page;
+        mem::replace(&mut self.page, page)
     }
 
     /// A page of the bytes: the one that is held, or a copy where some were made zero since.
@@ -83,11 +95,13 @@ impl<A: Allocator + Copy> Leaf<A> {
     {
         let _whole = self.page.as_slice();
         if count == PAGE {
-            self.put(Page::zeros());
+            let _before = self.exchange(Page::zeros());
             return;
         }
         match self.cleared(alloc, start, count) {
-            Ok(page) => self.put(page),
+            Ok(page) => {
+                let _before = self.exchange(page);
+            }
             Err(NoMemory) => self.holes.dig(start, count),
         }
     }

@@ -12,6 +12,7 @@ use nbd_base::NoMemory;
 use payload::{PAGE, Page, Payload};
 use std::alloc::Allocator;
 use std::marker::Model;
+use std::mem;
 
 /// An image in pages of 4,096 bytes, the last of which ends with the image. A page that isn't held in memory is zeros.
 ///
@@ -22,6 +23,8 @@ pub struct Paged<A: Allocator + Copy> {
     alloc: A,
     size: usize,
     pages: Table<A>,
+    // Pages that others have taken the places of, since they were handed out last.
+    outdated: Vec<Page<A>, A>,
 }
 
 impl<A: Allocator + Copy> Model for Paged<A> {
@@ -78,7 +81,8 @@ impl<A: Allocator + Copy> Paged<A> {
         if self.holds(number) {
             return Ok(());
         }
-        self.pages.put(self.alloc, number, Page::zeros())?;
+        self.pages
+            .put(self.alloc, number, Page::zeros(), &mut self.outdated)?;
         Ok(())
     }
 
@@ -187,7 +191,8 @@ impl<A: Allocator + Copy> Paged<A> {
         ensures held { is_held self.old number ≡ true → IsOk result }
         ensures no_memory { OnErr result (image_of self.new ≡ image_of self.old) }
     {
-        self.pages.put(self.alloc, number, page)?;
+        self.pages
+            .put(self.alloc, number, page, &mut self.outdated)?;
         Ok(())
     }
 
@@ -332,7 +337,12 @@ impl<A: Allocator + Copy> Image for Paged<A> {
         ensures none_held { IfOk result (λ image. (k : ℕ) → is_held image k ≡ false) }
     {
         let pages = Table::new(alloc);
-        Ok(Paged { alloc, size, pages })
+        Ok(Paged {
+            alloc,
+            size,
+            pages,
+            outdated: Vec::new(alloc),
+        })
     }
 
     fn size(&self) -> usize {
@@ -385,5 +395,11 @@ impl<A: Allocator + Copy> Image for Paged<A> {
         }
         self.clear_all(offset, count);
         Ok(())
+    }
+
+    fn sweep(&mut self, outdated: &mut Vec<Page<A>, A>)
+        ensures { self.new ≡ self.old }
+    {
+        mem::swap(&mut self.outdated, outdated);
     }
 }

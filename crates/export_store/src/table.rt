@@ -34,13 +34,14 @@ fn put<A: Allocator + Copy>(
     place: &mut Option<Leaf<A>>,
     alloc: A,
     page: Page<A>,
+    outdated: &mut Vec<Page<A>, A>,
 ) -> Result<(), NoMemory>
     ensures here { OnOk result (place.new ≡ Some page) }
     ensures held { is_some place.old ≡ true → IsOk result }
     ensures no_memory { OnErr result (place.new ≡ place.old) }
 {
     if let Some(leaf) = place {
-        leaf.put(page);
+        leaf.put(page, outdated);
         return Ok(());
     }
     *place = Some(Leaf::holding(alloc, page)?);
@@ -78,14 +79,20 @@ impl<A: Allocator + Copy> Chunk<A> {
     }
 
     // A place has a page of these bytes from now on. It takes no memory where one is held there.
-    fn put(&mut self, alloc: A, place: usize, page: Page<A>) -> Result<(), NoMemory>
+    fn put(
+        &mut self,
+        alloc: A,
+        place: usize,
+        page: Page<A>,
+        outdated: &mut Vec<Page<A>, A>,
+    ) -> Result<(), NoMemory>
         requires { place < 256 }
         ensures here { OnOk result (in_place self.new place ≡ Some page) }
         ensures others { (k : ℕ) → k ≢ place → in_place self.new k ≡ in_place self.old k }
         ensures held { is_some (in_place self.old place) ≡ true → IsOk result }
         ensures no_memory { OnErr result ((k : ℕ) → in_place self.new k ≡ in_place self.old k) }
     {
-        put(&mut self.places[place], alloc, page)?;
+        put(&mut self.places[place], alloc, page, outdated)?;
         Ok(())
     }
 
@@ -141,19 +148,26 @@ impl<A: Allocator + Copy> Table<A> {
         chunk.get(number % CHUNK)
     }
 
-    /// A page has these bytes from now on. It takes no memory where the page is held.
-    pub(crate) fn put(&mut self, alloc: A, number: usize, page: Page<A>) -> Result<(), NoMemory>
+    /// A page has these bytes from now on. It takes no memory where the page is held. The one before it is outdated, where there
+    /// is room for one more of these.
+    pub(crate) fn put(
+        &mut self,
+        alloc: A,
+        number: usize,
+        page: Page<A>,
+        outdated: &mut Vec<Page<A>, A>,
+    ) -> Result<(), NoMemory>
         ensures here { OnOk result (in_table self.new number ≡ Some page) }
         ensures others { (k : ℕ) → k ≢ number → in_table self.new k ≡ in_table self.old k }
         ensures held { is_some (in_table self.old number) ≡ true → IsOk result }
         ensures no_memory { OnErr result ((k : ℕ) → in_table self.new k ≡ in_table self.old k) }
     {
         if let Some(chunk) = self.chunks.get_mut(&(number / CHUNK)) {
-            chunk.put(alloc, number % CHUNK, page)?;
+            chunk.put(alloc, number % CHUNK, page, outdated)?;
             return Ok(());
         }
         let mut made = Chunk::new(alloc)?;
-        made.put(alloc, number % CHUNK, page)?;
+        made.put(alloc, number % CHUNK, page, outdated)?;
         self.chunks.insert(number / CHUNK, made)?;
         Ok(())
     }

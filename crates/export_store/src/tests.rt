@@ -333,3 +333,36 @@ fn a_range_is_made_zero_without_memory(rt: HostRuntime) -> Result<(), NoMemory> 
     assert!(rt; is_but(&heap, &image, 7, 0, 0)?);
     Ok(())
 }
+
+// The pages that a write puts others in place of are handed out, where there is room for them, and the bytes are as they were.
+#[test]
+fn outdated_pages_are_handed_out(rt: HostRuntime) -> Result<(), NoMemory> {
+    let alloc = rt.alloc();
+    let mut image: Paged<Global> = Paged::zeros(alloc, 12288)?;
+    assert!(rt; puts(&mut image, 0, &sevens(alloc, 0, 12288)?));
+    let mut outdated = Vec::with_capacity(alloc, 4)?;
+    image.sweep(&mut outdated);
+    assert!(rt; outdated.is_empty());
+    assert!(rt; writes(alloc, &mut image, 4096, &[1, 2, 3]));
+    assert!(rt; writes(alloc, &mut image, 4097, &[7, 7]));
+    assert!(rt; writes(alloc, &mut image, 4096, &[7]));
+    image.sweep(&mut outdated);
+    assert_eq!(rt; outdated.len(), 3);
+    for (page, first) in outdated.iter().zip([7u8, 1, 1]) {
+        assert_eq!(rt; page.as_slice().first(), Some(&first));
+    }
+    assert!(rt; is_but(alloc, &image, 7, 0, 0)?);
+    Ok(())
+}
+
+#[test]
+fn one_piece_hands_nothing_out(rt: HostRuntime) -> Result<(), NoMemory> {
+    let mut image: Flat<Global> = Flat::zeros(rt.alloc(), 6)?;
+    assert!(rt; writes(rt.alloc(), &mut image, 1, &[7, 7]));
+    let mut outdated = Vec::with_capacity(rt.alloc(), 4)?;
+    image.sweep(&mut outdated);
+    let bytes = all_of(rt.alloc(), &image)?;
+    assert!(rt; outdated.is_empty());
+    assert_eq!(rt; bytes.as_slice(), [0, 7, 7, 0, 0, 0].as_slice());
+    Ok(())
+}

@@ -21,6 +21,7 @@ use nbd_base::NoMemory;
 use nbd_commands::{Done, ExportConfig, ExportInfo, apply, verdict};
 use nbd_wire::protocol::{EIO, ENOMEM};
 use nbd_wire::{Reply, Request};
+use payload::Page;
 use reply_box::{NotOpen, ReplyBox, Taken};
 use std::alloc::Allocator;
 use std::marker::Model;
@@ -177,6 +178,13 @@ impl<I: Image> Lone<I> {
         settle(&mut self.queue, &mut self.sessions, slot, number, done);
         self.count += 1;
         Some(memory)
+    }
+
+    /// Exchanges the pages that writes have put others in place of, since the last call, for an empty list with room for the next.
+    pub fn sweep(&mut self, outdated: &mut Vec<Page<I::Alloc>, I::Alloc>)
+        ensures { self.new ≡ self.old }
+    {
+        self.image.sweep(outdated);
     }
 
     /// An export in its opening state, which takes its memory from `alloc`.

@@ -160,3 +160,13 @@ fn text<A: Allocator, B: Allocator + Copy>(
     };
     Ok(text)
 }
+
+#[test]
+fn a_sweep_is_no_step(rt: HostRuntime) -> Result<(), NoMemory> {
+    let mut lone = opened(rt.alloc(), &ExportSettings::new(b"a", 8))?;
+    assert!(rt; lone.attach() == Ok(0));
+    let mut outdated = Vec::with_capacity(rt.alloc(), 4)?;
+    lone.sweep(&mut outdated);
+    assert!(rt; outdated.is_empty() && lone.steps() == 1);
+    Ok(())
+}

@@ -34,7 +34,7 @@ impl<A: Allocator + Copy> Model for Frames<A> {
 }
 
 impl<A: Allocator + Copy> Frames<A> {
-    ghost use Rattle.std.specs.Prelude.{◌≡◌, ◌<◌, [], Some, None};
+    ghost use Rattle.std.specs.Prelude.{◌≡◌, ◌<◌, [], length, Some, None};
     ghost use Rattle.nbd_session.specs.declared.ending.Ending.{Ending};
     ghost use Rattle.std.specs.Prelude.{◌↔◌, IsTrue};
     ghost use Rattle.nbd_wire.specs.Grammar.{BeginsWhole};
@@ -90,6 +90,13 @@ impl<A: Allocator + Copy> Frames<A> {
     {
         !self.ready.as_slice().is_empty()
     }
+
+    /// The requests that are ready, the last first.
+    pub fn ready(&self) -> &[Request<A>]
+        ensures { length result.now ≡ self.now.ready }
+    {
+        self.ready.as_slice()
+    }
 }
 
 /// The requests of one client, with the reader that they come out of.
@@ -108,7 +115,7 @@ impl<R: Read, A: Allocator + Copy> Model for FrameReader<R, A> {
 }
 
 impl<R: Read, A: Allocator + Copy> FrameReader<R, A> {
-    ghost use Rattle.std.specs.Prelude.{◌≡◌, ◌<◌, [], Some, None};
+    ghost use Rattle.std.specs.Prelude.{◌≡◌, ◌<◌, [], length, Some, None};
     ghost use Rattle.nbd_session.specs.declared.ending.Ending.{Ending};
     ghost use Rattle.std.specs.Prelude.{◌↔◌, IsTrue};
     ghost use Rattle.nbd_wire.specs.Grammar.{BeginsWhole};
@@ -144,5 +151,12 @@ impl<R: Read, A: Allocator + Copy> FrameReader<R, A> {
         ensures first { IsTrue result → BeginsWhole self.now.reading.kept }
     {
         self.frames.is_ready()
+    }
+
+    /// The requests that are ready, the last first.
+    pub fn ready(&self) -> &[Request<A>]
+        ensures { length result.now ≡ self.now.reading.ready }
+    {
+        self.frames.ready()
     }
 }

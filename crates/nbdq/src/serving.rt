@@ -17,6 +17,7 @@ mod shift;
 mod stage;
 #[cfg(test)]
 mod tests;
+mod warming;
 mod writer;
 
 use bells::Bells;

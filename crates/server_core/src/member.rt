@@ -9,7 +9,7 @@ ghost use Rattle.export_cell.specs.Journal.{JournalMove, IsAdvanced, IsJournal, 
 ghost use Rattle.server_table.specs.Parts.{alone_of};
 
 use crate::tagging::{give_credit, shift_all};
-use export_cell::ExportCell;
+use export_cell::{ExportCell, Outdated};
 use export_queue::Picked;
 use export_store::Image;
 use lone_export::{Arrived, NotArrived, NotAttached, Step, StepAnswer};
@@ -126,6 +126,13 @@ impl<I: Image> Member<I> {
     {
         self.cell.laws();
         &self.cell
+    }
+
+    /// Exchanges the pages that writes have put others in place of for empty lists.
+    pub(crate) fn sweep(&mut self, outdated: &mut Outdated<I::Alloc>)
+        ensures { self.new ≡ self.old }
+    {
+        self.cell.sweep(outdated);
     }
 
     /// Does nothing: its contract says what is true of every member.

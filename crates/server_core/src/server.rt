@@ -22,7 +22,7 @@ use crate::session::SessionId;
 use crate::ticket::{Chosen, Ticket};
 use crate::way::{make_way, put_first};
 use eligibility::Eligibility;
-use export_cell::ExportCell;
+use export_cell::{ExportCell, Outdated};
 use export_store::Image;
 use lone_export::{
     ArriveRefusal as ArriveRefusalAlone, Arrived, AttachRefusal, NotArrived as NotArrivedAlone,
@@ -230,6 +230,17 @@ impl<I: Image, E: Eligibility<Alloc = I::Alloc>> Server<I, E> {
             return None;
         }
         Some(self.members[export as usize].cell())
+    }
+
+    /// Exchanges the pages that writes to an export have put others in place of, since the last call, for empty lists with room for
+    /// the next. Whoever lets them go gives their memory back. Where there is no such export all stays.
+    pub fn sweep(&mut self, export: u32, outdated: &mut Outdated<I::Alloc>)
+        ensures { self.new ≡ self.old }
+    {
+        if export as usize >= self.members.len() {
+            return;
+        }
+        self.members[export as usize].sweep(outdated);
     }
 
     /// Nothing more arrives on a session that is open. It takes no memory.

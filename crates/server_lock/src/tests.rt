@@ -2,6 +2,7 @@ ghost use Rattle.std.specs.Prelude.{◌≡◌};
 
 use crate::*;
 use eligibility::{Heaped, Listed};
+use export_cell::Outdated;
 use export_store::Flat;
 use lone_export::Arrived;
 use nbd_commands::{Config, ExportList, ExportSettings};
@@ -253,7 +254,8 @@ fn opened_and_ended<L: Ledger>(alloc: Global, blank: Blank) -> Option<[bool; 5]>
     let had_tags = has_tags(alloc, &server);
     let made = Shared::<L, Flat<Global>, Listed<Global>>::new(alloc, server, blank, 3);
     let (shared, passes) = made.ok()?;
-    let booked = shared.end();
+    let mut booked = shared.end();
+    booked.sweep(0, &mut Outdated::with_room(alloc, 4).ok()?);
     let same = seen(booked.server()) == (7, 1, [false, true, false]);
     let same_tags = has_tags(alloc, booked.server());
     if passes.len() as u64 != booked.passes() {

@@ -17,6 +17,7 @@ use crate::trace::{
     told_perform, told_take,
 };
 use eligibility::Eligibility;
+use export_cell::Outdated;
 use export_store::Image;
 use lone_export::Arrived;
 use nbd_base::NoMemory;
@@ -202,6 +203,13 @@ impl<L: Ledger, I: Image, E: Eligibility<Alloc = I::Alloc>> Booked<L, I, E> {
         ensures { result.now ≡ self.now }
     {
         &self.server
+    }
+
+    /// Exchanges the pages that writes to an export have put others in place of for empty lists (`Server::sweep`).
+    pub fn sweep(&mut self, export: u32, outdated: &mut Outdated<I::Alloc>)
+        ensures { self.new ≡ self.old }
+    {
+        self.server.sweep(export, outdated);
     }
 
     /// How many passes there are of its book.

@@ -107,7 +107,10 @@ fn text_of<'a>(heap: Heap<'a>, replies: &[Reply<Heap<'a>>]) -> Option<Vec<u8, He
 }
 
 /// What the reading of the first request came to, and what was read with it.
-fn handed_in<'a, L: Ledger>(heap: Heap<'a>, blank: Blank) -> Option<(Seen, [Option<Seen>; 2])>
+fn handed_in<'a, L: Ledger>(
+    heap: Heap<'a>,
+    blank: Blank,
+) -> Option<(Seen, [Option<Seen>; 2], usize)>
     requires name { blank.name ≡ L.name }
     requires parts { blank.parts ≡ L.parts }
     requires one { blank.parts ≡ 1 }
@@ -116,15 +119,16 @@ fn handed_in<'a, L: Ledger>(heap: Heap<'a>, blank: Blank) -> Option<(Seen, [Opti
     let mut reader = FrameReader::new(heap, Counted::new(sent.as_slice()));
     let mut one: Unshared<'a, L> = attached(heap, blank)?;
     let first = one.read(&mut reader);
+    let ready = reader.ready().len();
     let second = one.read_ready(&mut reader);
     let piece = one.read_ready(&mut reader);
-    Some((first, [second, piece]))
+    Some((first, [second, piece], ready))
 }
 
 #[test]
 fn what_was_read_is_handed_in(rt: HostRuntime) -> Result<(), Fail> {
     let heap = Refusing::new(rt.alloc(), 0);
-    let (first, ready) = handed_in::<Brand>(&heap, Blank::new(1)).ok_or("memory")?;
+    let (first, ready, count) = handed_in::<Brand>(&heap, Blank::new(1)).ok_or("memory")?;
     let accepted = |number: u64| AnswerTrace::Accepted {
         number,
         limit_tag: 5,
@@ -132,6 +136,7 @@ fn what_was_read_is_handed_in(rt: HostRuntime) -> Result<(), Fail> {
     assert_eq!(rt; first, (Came::Going, arrival(1, accepted(0))));
     let second = (Came::Going, arrival(0, accepted(1)));
     assert_eq!(rt; ready, [Some(second), None]);
+    assert_eq!(rt; count, 1);
     Ok(())
 }
 

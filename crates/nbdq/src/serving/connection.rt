@@ -81,8 +81,9 @@ fn serve_session<L: Ledger + Send + Sync, R: Wait + Threads + Sync + time::Clock
     let shift = Shift::new(service.alloc);
     if let (Ok(line), Ok(shift)) = (line_of(service, peer, &patient, session), shift) {
         let feed = Counted::new(Feed::new(rt, &line));
-        let intake = Intake::new(service.alloc, feed, shift);
-        read_and_write(rt, service, &line, intake, pass);
+        if let Ok(intake) = Intake::new(service.alloc, feed, shift) {
+            read_and_write(rt, service, &line, intake, pass);
+        }
     }
     // The writer has dropped the session, where there was one.
     service.give_up(rt, session, pass);

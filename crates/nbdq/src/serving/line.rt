@@ -64,6 +64,7 @@ pub struct Line<'a> {
     heavy: AtomicBool,
     /// Whether the reader wrote replies and didn't send them.
     kept: AtomicBool,
+    touched: AtomicU64,
 }
 
 /// Where a session's replies go out.
@@ -111,7 +112,13 @@ impl<'a> Line<'a> {
             taken: AtomicU64::new(0),
             heavy: AtomicBool::new(false),
             kept: AtomicBool::new(false),
+            touched: AtomicU64::new(0),
         }
+    }
+
+    /// What came of touching what the next requests change. Nobody reads it: without it the touches would be left out.
+    pub fn note_touched(&self, touched: u64) {
+        self.touched.store(touched, Ordering::SeqCst);
     }
 
     /// A request was handed in.

@@ -6,6 +6,9 @@ use super::line::{Line, Outlet, PATIENCE, Sent};
 use super::service::{Disks, Service};
 use super::shift::Shift;
 use super::stage::make_ready;
+use super::warming::touch_next;
+use export_cell::Outdated;
+use nbd_base::NoMemory;
 use nbd_session::{Counted, Frame, FrameReader, Stop, Turn, hand_in, offer_held, read_ready};
 use nbd_wire::protocol::{READ, WRITE};
 use nbd_wire::{Request, RequestHead};
@@ -31,6 +34,9 @@ const TOGETHER: usize = 8;
 /// How many it hands in where it waited long for the server: then each hold is dear.
 const IN_A_ROW: usize = 16;
 
+/// How many pages that writes put others in place of are let go once the server isn't held any more, in the export and in its base.
+const OUTDATED: usize = 256;
+
 /// How many microseconds are a long wait for the server.
 const LONG_WAIT: u64 = 1_000;
 
@@ -39,6 +45,8 @@ const LONG_WAIT: u64 = 1_000;
 pub struct Intake<'a, 'b, R: Wait> {
     frames: FrameReader<Feed<'a, 'b, R>, Global>,
     shift: Shift,
+    // Empty but while the server is let go.
+    outdated: Outdated<Global>,
 }
 
 /// What is offered first.
@@ -86,11 +94,16 @@ impl Handed {
 }
 
 impl<'a, 'b, R: Wait> Intake<'a, 'b, R> {
-    pub fn new(alloc: Global, reader: Counted<Feed<'a, 'b, R>>, shift: Shift) -> Intake<'a, 'b, R> {
-        Intake {
+    pub fn new(
+        alloc: Global,
+        reader: Counted<Feed<'a, 'b, R>>,
+        shift: Shift,
+    ) -> Result<Intake<'a, 'b, R>, NoMemory> {
+        Ok(Intake {
             frames: FrameReader::new(alloc, reader),
             shift,
-        }
+            outdated: Outdated::with_room(alloc, OUTDATED)?,
+        })
     }
 
     /// Hands in what is offered and the requests that were read besides, so many at most, until long data and short meet, or another
@@ -106,6 +119,8 @@ impl<'a, 'b, R: Wait> Intake<'a, 'b, R> {
         most: usize,
         clock: &C,
     ) -> Came {
+        let touched = touch_next(disks, line.session.export, self.frames.ready(), most);
+        line.note_touched(touched);
         let turn = match offer {
             Offer::Read(frame) => hand_in(disks, pass, line.session, frame, clock),
             Offer::Again(request) => offer_held(disks, pass, line.session, request, clock),
@@ -138,6 +153,7 @@ impl<'a, 'b, R: Wait> Intake<'a, 'b, R> {
             };
         }
         came.waits = disks.server().waiting() > 0;
+        disks.sweep(line.session.export, &mut self.outdated);
         came
     }
 
@@ -289,6 +305,7 @@ fn read_on<L: Ledger, R: Wait + time::Clock>(
         &held,
     );
     drop(disks);
+    intake.outdated.let_go();
     intake.shift.tell(&service.bells);
     let busy = outlet.is_none();
     let written = match outlet {

@@ -1,6 +1,7 @@
 //! The journals of a server's exports: what they hold, and that an export for which no memory was there is as it was.
 
 use super::*;
+use export_cell::Outdated;
 
 type Kept<'a> = Server<Paged<Memory<'a>>, Heaped<Memory<'a>>>;
 
@@ -168,5 +169,19 @@ fn each_growth_of_a_base_is_refused_in_turn(rt: HostRuntime) -> Result<(), Fail>
         refused = nth;
     }
     assert!(rt; refused >= 3);
+    Ok(())
+}
+
+// Of an export that is there, and of one that isn't.
+#[test]
+fn a_sweep_is_no_step(rt: HostRuntime) -> Result<(), Fail> {
+    let memory = Refusing::new(rt.alloc(), 0);
+    let config = configured(&memory).ok_or("configured")?;
+    let mut server: Kept = Server::new(&memory, &config)?;
+    assert!(rt; attaches(&mut server, 0));
+    let mut outdated = Outdated::with_room(&memory, 4)?;
+    server.sweep(0, &mut outdated);
+    server.sweep(2, &mut outdated);
+    assert_eq!(rt; counts(&server, 0), Some((1, 1, 0)));
     Ok(())
 }

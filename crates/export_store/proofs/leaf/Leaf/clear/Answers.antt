@@ -14,4 +14,4 @@ pub returns-then-count-eq-PAGE : goal.returns-then-count-eq-PAGE
 returns-then-count-eq-PAGE g c =
     let i = c.self.inside in
     let long : length c.args.self.now ≡ 4096 = ap length (sym c.self.view_is) ∙ length-shown i.holes 0 i.page ∙ c.as_slice-whole.ensures.whole in
-    c.put.ensures ∙ c.zeros.ensures.zeros ∙ cleared_whole c.args.self.now c.args.start c.args.count long c.requires c.if-count-eq-PAGE.true
+    c.exchange-before.ensures ∙ c.zeros.ensures.zeros ∙ cleared_whole c.args.self.now c.args.start c.args.count long c.requires c.if-count-eq-PAGE.true

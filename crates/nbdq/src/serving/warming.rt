@@ -1,0 +1,68 @@
+//! What the next requests of a session change is touched before they are handed in. It mostly is in no cache, and a processor waits for
+//! several such places at once, but for one after another where each is met in a request's own work.
+
+use super::service::Disks;
+use export_cell::ExportCell;
+use export_store::Paged;
+use lone_export::Step;
+use nbd_wire::protocol::WRITE;
+use nbd_wire::{Request, RequestHead};
+use payload::PAGE;
+use std::alloc::Global;
+use std::sync::ledger::Ledger;
+
+/// How many steps a request has in its export's log.
+const STEPS: usize = 4;
+
+/// Touches the places of the next WRITEs' pages, so many at most, and what the oldest steps of the log are to change in the base.
+/// Tells how many of the pages are held, more or less: what is told matters only in that it stands on all that was touched.
+/// Where a READ comes next it touches nothing: what that changes is in no such place.
+pub fn touch_next<L: Ledger>(
+    disks: &Disks<L>,
+    export: u32,
+    ready: &[Request<Global>],
+    most: usize,
+) -> u64 {
+    match (ready.last(), disks.server().journal(export)) {
+        (Some(next), Some(cell)) if next.head().kind == WRITE => {
+            let image = cell.live().image();
+            let mut touched = 0u64;
+            for request in ready.iter().rev().take(most) {
+                touched = touched.wrapping_add(touch(image, request));
+            }
+            touched.wrapping_add(touch_base(cell, most))
+        }
+        _ => 0,
+    }
+}
+
+fn touch_base(cell: &ExportCell<Paged<Global>>, most: usize) -> u64 {
+    let base = cell.base().image();
+    let mut touched = 0u64;
+    for step in cell.entries().iter().take(STEPS * most) {
+        if let Step::Arrive { request, .. } = step {
+            touched = touched.wrapping_add(touch(base, request));
+            touched = touched.wrapping_add(first_byte(request));
+        }
+    }
+    touched
+}
+
+/// Whether the first page of a WRITE is held.
+fn touch(image: &Paged<Global>, request: &Request<Global>) -> u64 {
+    let RequestHead { kind, offset, .. } = request.head();
+    match kind {
+        WRITE => image.holds(offset as usize / PAGE) as u64,
+        _ => 0,
+    }
+}
+
+/// The first byte of a request's payload. The count of its page's owners lies beside it.
+fn first_byte(request: &Request<Global>) -> u64 {
+    let payload = request.payload();
+    if payload.is_empty() {
+        0
+    } else {
+        payload.from(0)[0] as u64
+    }
+}
