@@ -116,9 +116,11 @@ impl<'a> Line<'a> {
         }
     }
 
-    /// What came of touching what the next requests change. Nobody reads it: without it the touches would be left out.
+    /// What touching what requests change came to. Nobody reads it: were it not kept, a compiler might leave the touches out.
     pub fn note_touched(&self, touched: u64) {
-        self.touched.store(touched, Ordering::SeqCst);
+        if touched > 0 {
+            self.touched.store(touched, Ordering::SeqCst);
+        }
     }
 
     /// A request was handed in.

@@ -70,6 +70,8 @@ struct Came {
     writes: bool,
     /// Whether something waits to be chosen.
     waits: bool,
+    /// What touching what these requests change came to.
+    touched: u64,
 }
 
 /// What a turn handed in.
@@ -120,7 +122,6 @@ impl<'a, 'b, R: Wait> Intake<'a, 'b, R> {
         clock: &C,
     ) -> Came {
         let touched = touch_next(disks, line.session.export, self.frames.ready(), most);
-        line.note_touched(touched);
         let turn = match offer {
             Offer::Read(frame) => hand_in(disks, pass, line.session, frame, clock),
             Offer::Again(request) => offer_held(disks, pass, line.session, request, clock),
@@ -133,6 +134,7 @@ impl<'a, 'b, R: Wait> Intake<'a, 'b, R> {
             reads: latest == Handed::LongRead,
             writes: latest == Handed::LongWrite,
             waits: false,
+            touched,
         };
         for _ in 1..most {
             if latest == Handed::Nothing || self.shift.served_others() {
@@ -306,6 +308,7 @@ fn read_on<L: Ledger, R: Wait + time::Clock>(
     );
     drop(disks);
     intake.outdated.let_go();
+    line.note_touched(came.touched);
     intake.shift.tell(&service.bells);
     let busy = outlet.is_none();
     let written = match outlet {
