@@ -39,7 +39,7 @@ pub fn touch_next<L: Ledger>(
 fn touch_base(cell: &ExportCell<Paged<Global>>, most: usize) -> u64 {
     let base = cell.base().image();
     let mut touched = 0u64;
-    for step in cell.entries().iter().take(STEPS * most) {
+    for step in cell.entries().iter().take(STEPS.saturating_mul(most)) {
         if let Step::Arrive { request, .. } = step {
             touched = touched.wrapping_add(touch(base, request));
             touched = touched.wrapping_add(first_byte(request));
