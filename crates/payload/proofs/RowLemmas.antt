@@ -1,5 +1,5 @@
 -- Pages in a row: how long they are, and a range that lies in one of them.
-use Rattle.std.proofs.Common.{◌≡◌, ℕ, zero, suc, ◌+◌, ◌-◌, ◌*◌, ◌/◌, ◌%◌, ◌<◌, ◌≤◌, List, [], ◌∷◌, ◌++◌, length, take, get_or, refl, sym, ap, ◌∙◌, arith, rules, length-append}
+use Rattle.std.proofs.Common.{◌≡◌, ℕ, zero, suc, ◌+◌, ◌-◌, ◌*◌, ◌/◌, ◌%◌, ◌<◌, ◌≤◌, List, [], ◌∷◌, ◌++◌, length, take, get_or, refl, sym, ap, subst, ◌∙◌, arith, rules, length-append}
 use Rattle.std.specs.List.{concat}
 use Rattle.std.proofs.lemmas.List.{places, same_lists, length-replicate, append-nil, take_all}
 use Rattle.std.proofs.lemmas.List.Folds.{concat-append}
@@ -43,6 +43,18 @@ range_in_page (page ∷ pages) whole (suc number) start n d below within =
 -- a page is all of itself
 pub range_of-page : (page : List ℕ) → length page ≡ 4096 → range_of page 0 4096 ≡ page
 range_of-page page whole = take_all 4096 page (omega (arith, whole))
+
+-- a range that is the one page there is
+pub only_page : (pages : List (List ℕ)) (page bytes : List ℕ) (start end : ℕ) → IsRange pages start end → pages ≡ page ∷ [] → start ≡ 0 → end ≡ 4096 → range_of (concat pages) start (end - start) ≡ bytes → page ≡ bytes
+only_page pages page bytes start end is one first last view =
+    let whole : length page ≡ 4096 = (subst AreWhole one is.whole) 0 [] (omega arith) in
+    let width : 4096 ≡ end - start = omega arith in
+    sym (range_of-page page whole)
+    ∙ ap (λ (list : List ℕ). range_of list 0 4096) (sym (append-nil page))
+    ∙ ap (λ (ps : List (List ℕ)). range_of (concat ps) 0 4096) (sym one)
+    ∙ ap (λ (from : ℕ). range_of (concat pages) from 4096) (sym first)
+    ∙ ap (λ (n : ℕ). range_of (concat pages) start n) width
+    ∙ view
 
 -- where a byte of a payload lies
 module _ (pages : List (List ℕ)) (start end : ℕ) (is : IsRange pages start end) (bytes : List ℕ) (view : range_of (concat pages) start (end - start) ≡ bytes) where

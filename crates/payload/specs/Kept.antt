@@ -10,4 +10,4 @@ use Rattle.payload.specs.declared.page.Kept.TheVariants.{Zeros, Alone, Within}
 abbrev pub page_bytes : {A : Type 0} → Kept A → List ℕ
 page_bytes Zeros = zero_page
 page_bytes (Alone arc) = arc_value arc
-page_bytes (Within block start) = range_of (arc_value block).items start 4096
+page_bytes (Within start block) = range_of (arc_value block).items start 4096

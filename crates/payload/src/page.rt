@@ -36,9 +36,9 @@ enum Kept<A: Allocator> {
     Zeros,
     // In memory of their own.
     Alone(Arc<[u8; 4096], A>),
-    // From a byte on of a block of several pages, which has all of them for as long as one is held. 32 bits, so that a page is
-    // two words.
-    Within(Arc<Vec<u8, A>, A>, u32),
+    // From a byte on of a block of several pages, which has all of them for as long as one is held. 32 bits, beside the enum's tag, so
+    // that a page is two words.
+    Within(u32, Arc<Vec<u8, A>, A>),
 }
 
 /// 4,096 bytes that don't change. A clone is one more owner of them, and copies none.
@@ -89,7 +89,7 @@ impl<A: Allocator> Page<A> {
         }
         let owner = Arc::try_clone(block)?;
         Ok(Page {
-            kept: Kept::Within(owner, start as u32),
+            kept: Kept::Within(start as u32, owner),
         })
     }
 
@@ -104,7 +104,7 @@ impl<A: Allocator> Page<A> {
                 let bytes: &[u8; 4096] = arc;
                 bytes
             }
-            Kept::Within(block, start) => {
+            Kept::Within(start, block) => {
                 let start = *start as usize;
                 &block[start..start + PAGE]
             }
@@ -157,8 +157,8 @@ impl<A: Allocator> Clone for Page<A> {
                 let kept = Kept::Alone(Arc::try_clone(arc)?);
                 Ok(Page { kept })
             }
-            Kept::Within(block, start) => {
-                let kept = Kept::Within(Arc::try_clone(block)?, *start);
+            Kept::Within(start, block) => {
+                let kept = Kept::Within(*start, Arc::try_clone(block)?);
                 Ok(Page { kept })
             }
         }

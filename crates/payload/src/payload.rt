@@ -1,4 +1,4 @@
-ghost use Rattle.std.specs.Prelude.{◌≡◌, ◌+◌, ◌-◌, ◌<◌, ◌≤◌, ◌++◌, ◌==◌, [], length, IfOk, IfSome, OnOk, OnErr};
+ghost use Rattle.std.specs.Prelude.{◌≡◌, ◌+◌, ◌-◌, ◌<◌, ◌≤◌, ◌++◌, ◌==◌, [], length, IfOk, IfErr, IfSome, OnOk, OnErr};
 ghost use Rattle.std.specs.List.{concat};
 ghost use Rattle.payload.specs.Bytes.{range_of, overwritten};
 ghost use Rattle.payload.specs.Rows.{AreWhole};
@@ -112,6 +112,19 @@ impl<A: Allocator> Payload<A> {
             return None;
         }
         Some(&self.row.pages()[place / PAGE])
+    }
+
+    /// The page that these bytes are, where they have one whole page alone. Else they come back. No count of owners changes.
+    pub fn into_page(self) -> Result<Page<A>, Payload<A>>
+        ensures page { IfOk result (λ page. page ≡ self) }
+        ensures whole { IfOk result (λ page. length page ≡ 4096) }
+        ensures back { IfErr result (λ back. back ≡ self) }
+    {
+        let Payload { row, start, end } = self;
+        match row {
+            Row::One(page) if start == 0 && end == PAGE => Ok(page),
+            row => Err(Payload { row, start, end }),
+        }
     }
 
     /// Appends the bytes, or none where memory is refused.

@@ -77,6 +77,26 @@ fn a_page_takes_a_part_of_a_payload(rt: HostRuntime) -> Result<(), Fail> {
 }
 
 #[test]
+fn a_payload_of_one_page_is_that_page(rt: HostRuntime) -> Result<(), Fail> {
+    let alloc = rt.alloc();
+    let bytes = numbers(alloc, 4_096)?;
+    let one = Payload::copied(alloc, 8_192, bytes.as_slice())?;
+    let page = one.into_page().ok();
+    assert_eq!(rt;
+        page.as_ref().map(|page| page.as_slice()),
+        Some(bytes.as_slice())
+    );
+    let two = Payload::copied(alloc, 8_191, bytes.as_slice())?;
+    match two.into_page() {
+        Ok(_) => assert!(rt; false, "two pages"),
+        Err(back) => assert_eq!(rt; bytes_of(alloc, &back)?.as_slice(), bytes.as_slice()),
+    }
+    let part = Payload::copied(alloc, 1, b"a")?;
+    assert!(rt; part.into_page().is_err());
+    Ok(())
+}
+
+#[test]
 fn a_payload_grows(rt: HostRuntime) -> Result<(), Fail> {
     let alloc = rt.alloc();
     let bytes = numbers(alloc, 20_000)?;
