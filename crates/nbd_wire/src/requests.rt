@@ -63,6 +63,16 @@ impl<A: Allocator> Request<A> {
         self.head
     }
 
+    /// All of the request but its payload, and its payload.
+    pub fn into_parts(self) -> (RequestHead, Payload<A>)
+        ensures head { result.0 ≡ self.head }
+        ensures payload { result.1 ≡ self.payload }
+        ensures fits { IsRequest self }
+    {
+        let Request { head, payload } = self;
+        (head, payload)
+    }
+
     /// What a WRITE writes; empty for any other request.
     pub fn payload(&self) -> &Payload<A>
         ensures value { result.now ≡ self.now.payload }
