@@ -75,6 +75,14 @@ impl<A: Allocator + Copy> Image for Flat<A> {
         Ok(())
     }
 
+    fn put(&mut self, offset: usize, piece: &mut Payload<A>) -> Result<(), NoMemory>
+        requires { offset + length piece.old ≤ length self.old }
+        ensures never_fails { IsOk result }
+        ensures written { self.new ≡ overwritten self.old offset (length piece.old) piece.old }
+    {
+        self.write(offset, piece)
+    }
+
     fn zero(&mut self, offset: usize, count: usize, _keep: bool) -> Result<(), NoMemory>
         requires { offset + count ≤ length self.old }
         ensures never_fails { IsOk result }

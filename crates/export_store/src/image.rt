@@ -35,6 +35,14 @@ pub trait Image: Sized + Drop {
             ≡ overwritten (bytes self.old) offset (length piece.now) piece.now) }
         ensures no_memory { OnErr result (bytes self.new ≡ bytes self.old) };
 
+    /// Writes a payload that nobody needs any more, as `write` does: a form may take its pages out of it, with neither a copy nor one more
+    /// owner. What is left of it then isn't told. Where memory is refused it is as it was.
+    fn put(&mut self, offset: usize, piece: &mut Payload<Self::Alloc>) -> Result<(), NoMemory>
+        requires { offset + length piece.old ≤ length (bytes self.old) }
+        ensures written { OnOk result (bytes self.new
+            ≡ overwritten (bytes self.old) offset (length piece.old) piece.old) }
+        ensures no_memory { OnErr result ((bytes self.new ≡ bytes self.old) × (piece.new ≡ piece.old)) };
+
     /// Makes a range zero. With `keep` a form may keep memory for the range; without `keep` its memory may be given back,
     /// and the call succeeds even where there is none.
     fn zero(&mut self, offset: usize, count: usize, keep: bool) -> Result<(), NoMemory>

@@ -310,6 +310,21 @@ impl<A: Allocator + Copy> Paged<A> {
         Ok(())
     }
 
+    // Puts a page in the place of one that is held. It takes no memory.
+    fn put_page(&mut self, offset: usize, page: Page<A>)
+        requires paged { offset % 4096 ≡ 0 }
+        requires whole { length page ≡ 4096 }
+        requires within { offset + 4096 ≤ length (image_of self.old) }
+        requires held { is_held self.old (offset / 4096) ≡ true }
+        ensures written { image_of self.new ≡ overwritten (image_of self.old) offset (length page) page }
+        ensures held { (k : ℕ) → is_held self.new k ≡ is_held self.old k }
+    {
+        let _end = self.end_of(offset, PAGE);
+        let Ok(()) = self.replace(offset / PAGE, page) else {
+            unreachable!();
+        };
+    }
+
     // Writes a piece, wherever it lies. No page changes before each is held and the one in its place is ready.
     fn write_many(&mut self, offset: usize, piece: &Payload<A>) -> Result<(), NoMemory>
         requires some { 0 < length piece.now }
@@ -376,6 +391,29 @@ impl<A: Allocator + Copy> Image for Paged<A> {
             return self.write_one(offset, piece);
         }
         self.write_many(offset, piece)
+    }
+
+    fn put(&mut self, offset: usize, piece: &mut Payload<A>) -> Result<(), NoMemory>
+        requires { offset + length piece.old ≤ length (image_of self.old) }
+        ensures written { OnOk result (image_of self.new
+            ≡ overwritten (image_of self.old) offset (length piece.old) piece.old) }
+        ensures held { OnOk result ((k : ℕ) → is_held self.new k
+            ≡ (is_held self.old k || has_byte_of offset (length piece.old) k)) }
+        ensures no_memory { OnErr result ((image_of self.new ≡ image_of self.old) × (piece.new ≡ piece.old)) }
+    {
+        if offset % PAGE != 0 || !self.holds(offset / PAGE) {
+            return self.write(offset, piece);
+        }
+        match mem::replace(piece, Payload::new()).into_page() {
+            Ok(page) => {
+                self.put_page(offset, page);
+                Ok(())
+            }
+            Err(several) => {
+                *piece = several;
+                self.write(offset, piece)
+            }
+        }
     }
 
     fn zero(&mut self, offset: usize, count: usize, keep: bool) -> Result<(), NoMemory>

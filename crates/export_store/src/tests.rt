@@ -88,6 +88,72 @@ fn each_growth_is_refused_in_turn(rt: HostRuntime) -> Result<(), NoMemory> {
     Ok(())
 }
 
+// Hands bytes over to an image, and says whether they are written. Where memory was refused they are handed over again, and were as before.
+fn hands<I: Image>(alloc: I::Alloc, image: &mut I, offset: usize, bytes: &[u8]) -> bool {
+    let made = match Payload::copied(alloc, offset as u64, bytes) {
+        Ok(piece) => Ok(piece),
+        Err(NoMemory) => Payload::copied(alloc, offset as u64, bytes),
+    };
+    let Ok(mut piece) = made else {
+        return false;
+    };
+    let size = image.size();
+    if offset > size || piece.len() > size - offset {
+        return false;
+    }
+    image.put(offset, &mut piece).is_ok()
+        || (piece.len() == bytes.len() && image.put(offset, &mut piece).is_ok())
+}
+
+// Whether pages that aren't held, one that is, several, and a part of two are as they were handed over.
+fn is_handed<I: Image>(alloc: I::Alloc) -> Result<bool, NoMemory> {
+    let mut image = match I::zeros(alloc, 12_288) {
+        Ok(image) => image,
+        Err(NoMemory) => I::zeros(alloc, 12_288)?,
+    };
+    let handed = hands(alloc, &mut image, 4_096, &[1; 4_096])
+        && hands(alloc, &mut image, 4_096, &[2; 4_096])
+        && hands(alloc, &mut image, 0, &[3; 8_192])
+        && hands(alloc, &mut image, 4_096, &[4; 4_096])
+        && hands(alloc, &mut image, 8_191, &[5, 6]);
+    let bytes = all_of(alloc, &image)?;
+    let told = [0usize, 4_095, 4_096, 8_190, 8_191, 8_192, 8_193].map(|at| bytes.get(at).copied());
+    Ok(handed && told == [3, 3, 4, 4, 5, 6, 0].map(|byte| Some(byte)))
+}
+
+#[test]
+fn what_is_handed_over_is_written(rt: HostRuntime) -> Result<(), NoMemory> {
+    assert!(rt; is_handed::<Flat<Global>>(rt.alloc())?);
+    assert!(rt; is_handed::<Paged<Global>>(rt.alloc())?);
+    for nth in 1..100u64 {
+        let heap = Refusing::new(rt.alloc(), nth);
+        assert!(rt; is_handed::<Flat<&Refusing<Global>>>(&heap)?, "at {nth}");
+        let other = Refusing::new(rt.alloc(), nth);
+        assert!(rt; is_handed::<Paged<&Refusing<Global>>>(&other)?, "at {nth}");
+        if heap.is_armed() && other.is_armed() {
+            assert!(rt; nth > 3);
+            return Ok(());
+        }
+    }
+    assert!(rt; false, "no end");
+    Ok(())
+}
+
+// A page that is handed over takes the place of one that is held, where there is no memory.
+#[test]
+fn a_page_takes_the_place_of_one(rt: HostRuntime) -> Result<(), NoMemory> {
+    let heap = Refusing::new(rt.alloc(), 0);
+    let mut image: Paged<&Refusing<Global>> = Paged::zeros(&heap, 8_192)?;
+    assert!(rt; writes(&heap, &mut image, 4_096, &[1]));
+    let mut piece = Payload::copied(&heap, 4_096, &[2; 4_096])?;
+    heap.arm(1);
+    assert!(rt; image.size() == 8_192 && piece.len() == 4_096);
+    assert!(rt; image.put(4_096, &mut piece).is_ok());
+    assert!(rt; heap.is_armed());
+    assert_eq!(rt; image.held(), 1);
+    Ok(())
+}
+
 // How many pages are held after a range was made zero; 99 where it couldn't be.
 fn held_after(image: &mut Paged<Global>, offset: usize, count: usize, keep: bool) -> usize {
     if zeroes(image, offset, count, keep) {
