@@ -8,7 +8,7 @@ mod settings;
 
 pub use config::{Config, ExportConfig, ExportList};
 pub use judging::{ExportInfo, RequestRefusal, refusal, verdict};
-pub use performing::{Done, apply, may_want_memory};
+pub use performing::{Done, apply, apply_owned, may_want_memory};
 pub use settings::{
     ConfigError, DEFAULT_INFLIGHT, ExportSettings, MAX_EXPORTS, Refusal, is_inflight,
 };

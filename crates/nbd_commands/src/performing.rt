@@ -1,4 +1,4 @@
-ghost use Rattle.std.specs.Prelude.{◌≡◌, ◌+◌, ◌≤◌, [], length, replicate, false, IsTrue};
+ghost use Rattle.std.specs.Prelude.{◌≡◌, ◌+◌, ◌≤◌, [], length, replicate, false, IsTrue, IfOk, IfErr};
 ghost use Rattle.std.specs.Bool.{OnTrue, OnFalse};
 ghost use Rattle.payload.specs.Bytes.{range_of, overwritten};
 ghost use Rattle.nbd_commands.specs.Verdict.{verdict_at};
@@ -118,5 +118,46 @@ pub fn apply<I: Image>(image: &mut I, request: &Request<I::Alloc>) -> Done<I::Al
         TRIM => zero(image, offset, count, false),
         WRITE_ZEROES => zero(image, offset, count, head.flags / NO_HOLE % 2 == 1),
         _ => Done::with(Payload::new()),
+    }
+}
+
+// Performs a WRITE, whose pages the image may take.
+fn write_owned<I: Image>(
+    image: &mut I,
+    request: Request<I::Alloc>,
+) -> Result<Payload<I::Alloc>, Request<I::Alloc>>
+    requires served { verdict_at (length (I.bytes image.old)) false request ≡ 0 }
+    requires write { request.head.kind ≡ 1 }
+    ensures done { IfOk result (λ content. (content ≡ data_of (I.bytes image.old) request)
+        × (I.bytes image.new ≡ image_after (I.bytes image.old) request)) }
+    ensures no_memory { IfErr result (λ back. (back ≡ request) × (I.bytes image.new ≡ I.bytes image.old)) }
+{
+    let (head, mut payload) = request.into_parts();
+    match image.put(head.offset as usize, &mut payload) {
+        Ok(()) => Ok(Payload::new()),
+        Err(_) => Err(Request::new(head, payload)),
+    }
+}
+
+/// Performs a request that isn't refused and that nobody needs any more, as `apply` does: the pages of a WRITE may become the image's
+/// without one more owner. The answer is the data of its reply, or the request itself where memory was refused: then no byte changed.
+pub fn apply_owned<I: Image>(
+    image: &mut I,
+    request: Request<I::Alloc>,
+) -> Result<Payload<I::Alloc>, Request<I::Alloc>>
+    requires { verdict_at (length (I.bytes image.old)) false request ≡ 0 }
+    ensures done { IfOk result (λ content. (content ≡ data_of (I.bytes image.old) request)
+        × (I.bytes image.new ≡ image_after (I.bytes image.old) request)) }
+    ensures no_memory { IfErr result (λ back. (back ≡ request) × (I.bytes image.new ≡ I.bytes image.old)
+        × IsTrue (may_want_memory request)) }
+{
+    if request.head().kind == WRITE {
+        return write_owned(image, request);
+    }
+    let done = apply(image, &request);
+    if done.memory {
+        Ok(done.content)
+    } else {
+        Err(request)
     }
 }
