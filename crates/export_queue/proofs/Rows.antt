@@ -10,7 +10,7 @@ use Rattle.nbd_base.proofs.Numbers.{tied_same, tied_other}
 use Rattle.slab.specs.Slab.{Slab, get, slab_len, entries, entries_from, Updates}
 use Rattle.slab.proofs.SlabLemmas.{Contains-cons, Contains-cons_cases, Contains-entries}
 use Rattle.export_queue.specs.declared.Numbered.{Numbered}
-use Rattle.export_queue.specs.Queue.{numbered, by_number, rows_of, item_if, view_of, after_push, after_pick, after_finish, item_of, IsFreshFrom, IsFree, IsNumberedFrom, IsInOrder, IsOnce, IsQueue}
+use Rattle.export_queue.specs.Queue.{numbered, by_number, rows_of, item_if, view_of, after_push, after_pick, after_finish, after_skip, item_of, IsFreshFrom, IsFree, IsNumberedFrom, IsInOrder, IsOnce, IsQueue}
 use Rattle.circular_buffer.specs.Buffer.{Buffer, buffer}
 
 -- two options that hold the same values are equal
@@ -41,6 +41,18 @@ module _ {T : Type 0} where
   numbered-push n (y ∷ xs) x =
       let shift : n + 1 + length xs ≡ n + suc (length xs) = omega arith in
       ap (λ rest. (n, y) ∷ rest) (numbered-push (n + 1) xs x ∙ ap (λ m. numbered (n + 1) xs ++ (m, x) ∷ []) shift)
+
+  none_numbered : (n : ℕ) (xs : List T) → numbered n xs ≡ [] → xs ≡ []
+  none_numbered n [] none = refl
+  none_numbered n (x ∷ xs) none = absurd (cc)
+
+  -- the numbers begin one later, where nothing waits
+  pub skip_view : (ring : Buffer T) (out : Slab (Numbered T)) (picked inflight : ℕ) → numbered picked ring.items ≡ [] → view_of ring out (picked + 1) inflight ≡ after_skip (view_of ring out picked inflight)
+  skip_view ring out picked inflight none =
+      let empty : ring.items ≡ [] = none_numbered picked ring.items none in
+      let waiting : numbered (picked + 1) ring.items ≡ numbered picked ring.items = ap (numbered (picked + 1)) empty ∙ ap (numbered picked) (sym empty) in
+      let next : picked + 1 + length ring.items ≡ picked + length ring.items + 1 = omega arith in
+      λ i. record { waiting = waiting i; out = rows_of out; next = next i; depth = ring.capacity; inflight = inflight }
 
   -- what the numbers find is listed
   pub find_listed : (es : List (ℕ × Numbered T)) (n k : ℕ) (x : T) → fin.find nat_cmp n (map by_number es) ≡ Some (k, x) → Contains es (k, row n x)

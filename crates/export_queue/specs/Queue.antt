@@ -57,6 +57,10 @@ module _ {T : Type 0} where
   abbrev pub after_finish : Queue T → ℕ → Queue T
   after_finish q number = record q { out = fin.remove q.out number }
 
+  -- a number is used up
+  abbrev pub after_skip : Queue T → Queue T
+  after_skip q = record q { next = q.next + 1 }
+
   abbrev pub item_of : Option (ℕ × T) → Option T
   item_of None = None
   item_of (Some row) = Some row.1

@@ -7,9 +7,10 @@
 //! After [`ExportQueue::new`] nothing takes memory: the ring and the slab have all their room from then on.
 #![tactic(auto)]
 
-ghost use Rattle.std.specs.Prelude.{◌≡◌, ◌+◌, ◌-◌, ◌<◌, ◌^◌, ◌↔◌, length, Some, IsOk, IsTrue, IfOk, IfErr, IfSome, IfNone, OnSome, option_copied, option_map, slice_get};
+ghost use Rattle.std.specs.Prelude.{◌≡◌, ◌+◌, ◌-◌, ◌<◌, ◌^◌, ◌↔◌, length, Some, IsOk, IsTrue, IfOk, IfErr, IfSome, IfNone, OnOk, OnSome, [], ◌∷◌, ◌++◌, option_copied, option_map, slice_get};
 ghost use Rattle.std.specs.FinMap as fin;
-ghost use Rattle.export_queue.specs.Queue.{empty_queue, after_push, after_pick, after_finish, first_number, number_of, item_of, item_held, slot_in, IsFree, IsFresh, IsInOrder};
+ghost use Rattle.circular_buffer.specs.Buffer.{buffer};
+ghost use Rattle.export_queue.specs.Queue.{empty_queue, after_push, after_pick, after_finish, after_skip, first_number, number_of, item_of, item_held, slot_in, IsFree, IsFresh, IsInOrder};
 
 use circular_buffer::HeapCircularBuffer;
 use nbd_base::NoMemory;
@@ -55,6 +56,20 @@ impl<T, A: Allocator + Copy> Model for ExportQueue<T, A> {
     ghost view = { λ q. view_of q.ring q.out q.picked q.inflight };
 
     ghost invariant = { λ q. IsQueue q.picked (length q.ring.items) q.out q.inflight };
+}
+
+// Puts an item behind the others that wait, or hands it back where there is no room. The first takes the place of the one that was picked
+// last: a ring whose items come and go one at a time stays in one place of its memory, and so in the processor's cache.
+fn put_behind<T, A: Allocator + Copy>(ring: &mut HeapCircularBuffer<T, A>, item: T) -> Result<(), T>
+    ensures variant { IsOk result ↔ (length ring.old.items < ring.old.capacity) }
+    ensures ok { OnOk result (ring.new ≡ buffer (ring.old.items ++ item ∷ []) ring.old.capacity) }
+    ensures err { IfErr result (λ back. (back ≡ item) × (ring.new ≡ ring.old)) }
+{
+    if ring.is_empty() {
+        ring.try_push_front(item)
+    } else {
+        ring.try_push_back(item)
+    }
 }
 
 impl<T: Drop, A: Allocator + Copy> ExportQueue<T, A> {
@@ -133,7 +148,7 @@ impl<T: Drop, A: Allocator + Copy> ExportQueue<T, A> {
         ensures full { IfErr result (λ back. (back ≡ item) × (self.new ≡ self.old) × (length self.old.waiting ≡ self.old.depth)) }
     {
         let number = self.picked + self.ring.len() as u64;
-        if let Err(item) = self.ring.try_push_back(item) {
+        if let Err(item) = put_behind(&mut self.ring, item) {
             return Err(item);
         }
         Ok(number)
@@ -151,9 +166,21 @@ impl<T: Drop, A: Allocator + Copy> ExportQueue<T, A> {
             return None;
         };
         let number = self.picked;
-        self.picked += 1;
+        self.picked = number + 1;
         let slot = self.out.insert_reserved(Numbered { number, item });
         Some(Picked { number, slot })
+    }
+
+    /// Uses up the next number, where nothing waits: what `push`, `pick` and `finish` of one item come to.
+    ///
+    /// The condition is that fewer than 2^63 items were pushed before.
+    pub fn skip(&mut self)
+        requires none { self.old.waiting ≡ [] }
+        requires few { self.old.next < 2 ^ 63 }
+        ensures { self.new ≡ after_skip self.old }
+    {
+        let _ = self.ring.len();
+        self.picked += 1;
     }
 
     /// The item that is out in `slot` under `number`; None where the slot doesn't hold that number.
@@ -275,6 +302,11 @@ mod tests {
         assert_eq!(rt; queue.waiting(), 1);
         assert!(rt; queue.waiting_at(0).copied() == Some(12));
         assert!(rt; queue.number_at(0) == Some(2) && queue.number_at(1).is_none());
+        assert!(rt; queue.finish(second.slot, 1) == Some(11) && queue.may_pick());
+        assert_eq!(rt; queue.pick().map(|picked| picked.number), Some(2));
+        assert!(rt; queue.waiting() == 0 && queue.next_number() == 3);
+        queue.skip();
+        assert_eq!(rt; put(&mut queue, 14), Ok(4));
         queue.laws();
         Ok(())
     }

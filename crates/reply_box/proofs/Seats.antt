@@ -1,6 +1,7 @@
 -- The sessions of a map, as a box shows them.
-use Rattle.std.proofs.Common.{◌≡◌, ◌≢◌, ◌⊎◌, ℕ, suc, ◌+◌, ◌-◌, ◌<◌, ◌≤◌, ◌^◌, Bool, true, false, List, [], ◌∷◌, ◌++◌, length, filter, drop, Option, Some, None, cond, refl, sym, ap, subst, ◌∙◌, inl, inr, arith, lit≤, length-append, not, ◌==◌, ◌&&◌, Ok, slice_get, if◌then◌else◌}
-use Rattle.std.proofs.lemmas.Bool.{cases_eq, cases_lt, eqb-false}
+use Rattle.std.proofs.Common.{◌≡◌, ◌≢◌, ◌⊎◌, ℕ, zero, suc, ◌+◌, ◌-◌, ◌<◌, ◌≤◌, ◌^◌, Bool, true, false, List, [], ◌∷◌, ◌++◌, length, filter, take, drop, Option, Some, None, cond, refl, sym, ap, subst, ◌∙◌, inl, inr, arith, lit≤, length-append, not, ◌==◌, ◌&&◌, Ok, slice_get, if◌then◌else◌}
+use Rattle.std.proofs.lemmas.Bool.{cases_eq, cases_lt, eqb-false, eqb-true}
+use Rattle.std.proofs.lemmas.List.{take_all}
 use Rattle.std.specs.Ordering.{nat_cmp, eq_by_cmp}
 use Rattle.std.specs.Map.{lookup}
 use Rattle.std.specs.BTreeMap.{BTreeMap, get, btree_map_len, Updates}
@@ -19,6 +20,12 @@ use Rattle.reply_box.proofs.Below.{length-each_below, get-each_below, past-each_
 
 each_below-next : {X : Type 0} (f : ℕ → X) (n : ℕ) → each_below f (n + 1) ≡ each_below f n ++ f n ∷ []
 each_below-next f n = let e : n + 1 ≡ suc n = omega arith in ap (each_below f) e
+
+-- the only item, put at either end
+pub only_kept : {X : Type 0} (n : ℕ) (xs : List X) (x : X) → (length xs == 0) ≡ true → take n (x ∷ xs) ≡ keep_last n (xs ++ x ∷ [])
+only_kept zero [] x none = refl
+only_kept (suc n) [] x none = let all : length (x ∷ []) - suc n ≡ 0 = omega arith in rw all (take_all (suc n) (x ∷ []) (omega arith))
+only_kept n (y ∷ ys) x none = let long = eqb-true (length (y ∷ ys)) 0 none in absurd (omega arith)
 
 -- the outbox of a session that is owed a reply isn't full
 pub pushed_items : (b c : Buffer ReplyMessage) (r : ReplyMessage) → c ≡ buffer (keep_last b.capacity (b.items ++ r ∷ [])) b.capacity → length b.items < b.capacity → (c.items ≡ b.items ++ r ∷ []) × (c.capacity ≡ b.capacity)

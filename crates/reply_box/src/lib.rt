@@ -16,7 +16,7 @@ ghost use Rattle.std.specs.Prelude.{◌≡◌, ◌<◌, ◌^◌, length, IfOk, I
 ghost use Rattle.reply_box.specs.Sessions.{is_open_at, is_quiet_at, state_at, sessions_worth};
 ghost use Rattle.reply_box.specs.Box.{empty_box, is_full, attach_fault, after_attach, owed_at, MayAdmit, Admits, IsOwed, after_put, Takes, Leaves, Goes, IsInBounds};
 
-use crate::seat::Seat;
+use crate::seat::{Seat, put_behind};
 use circular_buffer::HeapCircularBuffer;
 pub use fault::{AdmitFault, AttachFault, NotOpen};
 use nbd_wire::Reply;
@@ -200,7 +200,7 @@ impl<A: Allocator + Copy> ReplyBox<A> {
             return;
         };
         seat.owed -= 1;
-        seat.outbox.push_back(reply);
+        put_behind(&mut seat.outbox, reply);
     }
 
     /// Takes the session's oldest reply.

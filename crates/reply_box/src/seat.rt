@@ -1,5 +1,6 @@
 //! A session that is not gone, as it is kept.
-ghost use Rattle.std.specs.Prelude.{◌≡◌, ◌<◌, ◌^◌};
+ghost use Rattle.std.specs.Prelude.{◌≡◌, ◌<◌, ◌^◌, [], ◌∷◌, ◌++◌};
+ghost use Rattle.circular_buffer.specs.Buffer.{buffer, keep_last};
 ghost use Rattle.reply_box.specs.Seats.{quiet, state_of, seat_worth};
 
 use circular_buffer::HeapCircularBuffer;
@@ -66,5 +67,20 @@ impl<A: Allocator> Seat<A> {
         } else {
             Taken::Empty
         }
+    }
+}
+
+/// Puts a reply behind the others of an outbox that has room. The first takes the place of the one that was taken last: an outbox whose
+/// replies come and go one at a time stays in one place of its memory, and so in the processor's cache.
+pub(crate) fn put_behind<A: Allocator>(
+    outbox: &mut HeapCircularBuffer<Reply<A>, A>,
+    reply: Reply<A>,
+)
+    ensures { outbox.new ≡ buffer (keep_last outbox.old.capacity (outbox.old.items ++ reply ∷ [])) outbox.old.capacity }
+{
+    if outbox.is_empty() {
+        outbox.push_front(reply);
+    } else {
+        outbox.push_back(reply);
     }
 }

@@ -25,6 +25,6 @@ pub returns-clause-ok : goal.returns-clause-ok
 returns-clause-ok g c =
     let i = c.self.inside in (
       rw (← c.self.view_is) (ap (λ n. i.picked + n) c.len.ensures.len),
-      push_view i.ring c.try_push_back.new.self i.out c.args.item i.picked i.inflight c.in_default.ensures.ok
+      push_view i.ring c.put_behind.new.ring i.out c.args.item i.picked i.inflight c.in_default.ensures.ok
           ∙ ap (λ (q : Queue g.row.T.Denot). after_push q c.args.item) c.self.view_is,
     )

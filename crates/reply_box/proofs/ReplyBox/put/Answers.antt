@@ -31,10 +31,10 @@ invariant_of-self-2 g c =
     let seen = owed_seen i.next i.window c.args.session i.seats c.self.invariant old held in
     let owed = subst (λ (b : Box). 0 < owed_at b.owed c.args.session) (sym c.self.view_is) (c.requires here) in
     let fits = c.self.invariant.each c.args.session old held in
-    let pushed = pushed_items old.outbox c.push_back.new.self c.args.reply c.push_back.ensures.items (let a = fits.within in let b = fits.room in omega arith) in
-    let new : Seat g.row.A.Denot = record { left = old.left; owed = old.owed - 1; outbox = c.push_back.new.self } in
+    let pushed = pushed_items old.outbox c.put_behind.new.outbox c.args.reply c.put_behind.ensures (let a = fits.within in let b = fits.room in omega arith) in
+    let new : Seat g.row.A.Denot = record { left = old.left; owed = old.owed - 1; outbox = c.put_behind.new.outbox } in
     let wrote = c.get_mut.follows.holds new in
-    let longer : length c.push_back.new.self.items ≡ length old.outbox.items + 1 = ap length pushed.0 ∙ length-append old.outbox.items (c.args.reply ∷ []) in
+    let longer : length c.put_behind.new.outbox.items ≡ length old.outbox.items + 1 = ap length pushed.0 ∙ length-append old.outbox.items (c.args.reply ∷ []) in
     IsBox-write i.seats (c.get_mut.follows.lender new) c.args.session i.next i.window old new c.self.invariant held (wrote.3 (rw held refl)) wrote.2
     (record { within = let a = fits.within in omega arith; room = pushed.1 ∙ fits.room })
 
@@ -47,8 +47,8 @@ returns g c =
     let seen = owed_seen i.next i.window c.args.session i.seats c.self.invariant old held in
     let owed = subst (λ (b : Box). 0 < owed_at b.owed c.args.session) (sym c.self.view_is) (c.requires here) in
     let fits = c.self.invariant.each c.args.session old held in
-    let pushed = pushed_items old.outbox c.push_back.new.self c.args.reply c.push_back.ensures.items (let a = fits.within in let b = fits.room in omega arith) in
-    let new : Seat g.row.A.Denot = record { left = old.left; owed = old.owed - 1; outbox = c.push_back.new.self } in
+    let pushed = pushed_items old.outbox c.put_behind.new.outbox c.args.reply c.put_behind.ensures (let a = fits.within in let b = fits.room in omega arith) in
+    let new : Seat g.row.A.Denot = record { left = old.left; owed = old.owed - 1; outbox = c.put_behind.new.outbox } in
     let wrote = c.get_mut.follows.holds new in
     put_view i.seats (c.get_mut.follows.lender new) c.args.session i.next i.window old new held (wrote.3 (rw held refl)) c.args.reply refl refl pushed.0
     ∙ ap (λ (b : Box). after_put b c.args.session c.args.reply) c.self.view_is
