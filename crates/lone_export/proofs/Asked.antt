@@ -70,7 +70,7 @@ owed-more rows (x ∷ ss) [] s is here = absurd is
 owed-more rows (x ∷ ss) (o ∷ os) zero is here = omega arith
 owed-more rows (x ∷ ss) (o ∷ os) (suc s) is here = owed-more (λ n. rows (suc n)) ss os s is.1 here
 
-change-back : (s : ℕ) (owed : List ℕ) → change_at (λ n. n - 1) s (change_at (λ n. n + 1) s owed) ≡ owed
+pub change-back : (s : ℕ) (owed : List ℕ) → change_at (λ n. n - 1) s (change_at (λ n. n + 1) s owed) ≡ owed
 change-back s [] = refl
 change-back zero (o ∷ os) = let e : o + 1 - 1 ≡ o = omega arith in ap (λ n. n ∷ os) e
 change-back (suc s) (o ∷ os) = ap (λ xs. o ∷ xs) (change-back s os)

@@ -346,3 +346,35 @@ module _ {A : Type 0} where
             → OnFalse m ((image ≡ p.image) × (may_want_memory again.request ≡ true) × (reply_to m again.request.head.cookie content ≡ record { error = 12; cookie = again.request.head.cookie; content = [] }))
         less true x = x
         less false x = (x.2, ap (λ (r : Row A). may_want_memory r.request) (sym same_row) ∙ x.3, refl)
+
+  -- the same of a request that was taken out of service first, and then performed
+  module _ (p : Parts A) (slot n : ℕ) (row : Row A) (image : List ℕ) (memory : Bool) (q : Queue (Row A)) (b : Box) (w : Whole)
+      (is : IsLone p) (e : whole_of p ≡ w) (h : Some row ≡ item_held p.queue slot n) (request : IsRequest row.request) (finished : q ≡ after_finish p.queue n)
+      (replied : b ≡ after_put p.sessions row.session (reply_to memory row.request.head.cookie (data_of p.image row.request)))
+      (with : OnTrue memory (image ≡ image_after p.image row.request)) (without : OnFalse memory ((image ≡ p.image) × IsTrue (may_want_memory row.request))) where
+    pub answered_lone : IsLone (record p { image = image; queue = q; sessions = b; count = p.count + 1 })
+    answered_lone = lone-perform p slot n row image _ q b is (sym h) (length_done p slot n row image memory is (sym h) request with (stays_so memory without)) finished replied
+      where
+        stays_so : (m : Bool) → OnFalse m ((image ≡ p.image) × IsTrue (may_want_memory row.request)) → OnFalse m (image ≡ p.image)
+        stays_so true x = x
+        stays_so false x = x.0
+
+    pub answered_does : (slot_at w n ≡ Some slot) × Does {A = A} w (whole_of (record p { image = image; queue = q; sessions = b; count = p.count + 1 })) (step.Perform n memory) (said.Performed memory)
+    answered_does = (perform_at p slot n row w is e (sym h), perform_does p slot n row image memory (reply_to memory row.request.head.cookie (data_of p.image row.request)) q b w is e (sym h) finished replied (by memory with) (less memory without))
+      where
+        by : (m : Bool) → OnTrue m (image ≡ image_after p.image row.request)
+            → OnTrue m ((image ≡ image_after p.image row.request) × (reply_to m row.request.head.cookie (data_of p.image row.request) ≡ record { error = 0; cookie = row.request.head.cookie; content = data_of p.image row.request }))
+        by true x = (x, refl)
+        by false x = x
+
+        less : (m : Bool) → OnFalse m ((image ≡ p.image) × IsTrue (may_want_memory row.request))
+            → OnFalse m ((image ≡ p.image) × (may_want_memory row.request ≡ true) × (reply_to m row.request.head.cookie (data_of p.image row.request) ≡ record { error = 12; cookie = row.request.head.cookie; content = [] }))
+        less true x = x
+        less false x = (x.0, x.1, refl)
+
+  -- nothing was in service there: the queue is as it was
+  pub nothing_lone : (p : Parts A) (q : Queue (Row A)) → IsLone p → q ≡ p.queue → IsLone (record p { queue = q })
+  nothing_lone p q is same = subst (λ (x : Queue (Row A)). IsLone (record p { queue = x })) (sym same) is
+
+  pub nothing_whole : (p : Parts A) (q : Queue (Row A)) (w : Whole) → IsLone p → whole_of p ≡ w → q ≡ p.queue → whole_of (record p { queue = q }) ≡ w
+  nothing_whole p q w is e same = ap (λ (x : Queue (Row A)). whole_of (record p { queue = x })) same ∙ e

@@ -237,6 +237,10 @@ module _ {A : Type 0} where
       let long : length (map out_job (fin.entries p.queue.out)) ≡ fin.len p.queue.out = length-map (fin.entries p.queue.out) out_job ∙ sym (fin.len-entries p.queue.out) in
       subst (λ (v : Whole). IsTrue b ↔ (length v.state.out < v.inflight)) e (subst (λ n. IsTrue b ↔ (n < p.queue.inflight)) (sym long) h)
 
+  -- how many are in service, from the Value
+  pub out_len : (p : Parts A) (w : Whole) → IsLone p → whole_of p ≡ w → fin.len p.queue.out ≡ length w.state.out
+  out_len p w is e = fin.len-entries p.queue.out ∙ sym (length-map (fin.entries p.queue.out) out_job) ∙ ap (λ (v : Whole). length v.state.out) e
+
   -- what is still to come, from the parts
   come_of : (p : Parts A) → 3 * length p.queue.waiting + 2 * fin.len p.queue.out + sessions_worth p.sessions.sessions ≡ to_come (state_at p)
   come_of p =

@@ -7,6 +7,7 @@ pub mod Done
 pub mod Opening
 pub mod Again
 pub mod Skip
+pub mod Rounds
 pub mod Tags
 pub mod Replays
 pub mod Bounds

@@ -16,7 +16,7 @@ use Rattle.reply_box.specs.declared.seat.Taken.{Taken}
 use Rattle.reply_box.specs.declared.seat.Taken.TheVariants as taking
 use Rattle.export_queue.specs.Queue.{Queue, item_held, slot_in}
 use Rattle.lone_export.specs.Alone.{Alone, Job, Moved, own_step, outstanding, moves, stays}
-use Rattle.lone_export.specs.Lone.{Whole, Does, DoesBoth, is_reading, is_read_next}
+use Rattle.lone_export.specs.Lone.{Whole, Does, DoesAll, is_reading, is_read_next}
 use Rattle.lone_export.specs.Parts.{Parts, state_at, terms_at, whole_of, IsLone, Settles}
 use Rattle.lone_export.specs.declared.row.Row.{Row}
 use Rattle.lone_export.specs.declared.step.Step.TheVariants as step
@@ -79,17 +79,17 @@ module _ (reply : ReplyMessage) where
       by place.Left (r ∷ rest) h = not_empty r rest h
       by place.Gone outbox h = absurd (cc)
 
-  post-take : (s : ℕ) (ss : List Session) → is_quiet_at ss s ≡ true → take_at s (post_at s reply ss) ≡ ss
+  pub post-take : (s : ℕ) (ss : List Session) → is_quiet_at ss s ≡ true → take_at s (post_at s reply ss) ≡ ss
   post-take s [] quiet = refl
   post-take zero (x ∷ ss) quiet = ap (λ (y : Session). y ∷ ss) (one_still x quiet)
   post-take (suc s) (x ∷ ss) quiet = ap (λ (ys : List Session). x ∷ ys) (post-take s ss quiet)
 
-  post-here : (s : ℕ) (ss : List Session) → is_quiet_at ss s ≡ true → is_here_at (post_at s reply ss) s ≡ true
+  pub post-here : (s : ℕ) (ss : List Session) → is_quiet_at ss s ≡ true → is_here_at (post_at s reply ss) s ≡ true
   post-here s [] quiet = absurd (cc)
   post-here zero (x ∷ ss) quiet = one_here x quiet
   post-here (suc s) (x ∷ ss) quiet = post-here s ss quiet
 
-  post-first : (s : ℕ) (ss : List Session) → is_quiet_at ss s ≡ true → slice_get (outbox_at (post_at s reply ss) s) 0 ≡ Some reply
+  pub post-first : (s : ℕ) (ss : List Session) → is_quiet_at ss s ≡ true → slice_get (outbox_at (post_at s reply ss) s) 0 ≡ Some reply
   post-first s [] quiet = absurd (cc)
   post-first zero (x ∷ ss) quiet = one_first x quiet
   post-first (suc s) (x ∷ ss) quiet = post-first s ss quiet
@@ -188,7 +188,7 @@ module _ (A : Type 0) where
     window_still : c.window ≡ p.sessions.window
     window_still = ap (λ (x : Box). x.window) took ∙ ap (λ (x : Box). x.window) settles.replied
 
-    pub skipped_does : DoesBoth {A = A} w (whole_of (record p { queue = q; sessions = c; count = p.count + 1 + 1 })) (step.Perform n true) (step.Take s)
+    pub skipped_does : DoesAll {A = A} w (whole_of (record p { queue = q; sessions = c; count = p.count + 1 + 1 })) (step.Perform n true ∷ step.Take s ∷ [])
     skipped_does = record {
       state =
           sym

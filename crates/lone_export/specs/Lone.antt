@@ -102,6 +102,13 @@ pub record Admits (terms : Terms) (state : Alone) (s : ℕ) (q : RequestMessage)
   pub fine : (verdict_of terms q == 0) ≡ true
   pub shallow : (length state.waiting == terms.depth) ≡ false
 
+-- no request waits or is in service, one of session s would wait, if it arrived, and its reply would be the next that s takes
+pub record IsIdleFor (terms : Terms) (state : Alone) (s : ℕ) (q : RequestMessage) : Type 0 where
+  pub admits : Admits terms state s q
+  pub none_wait : length state.waiting ≡ 0
+  pub none_out : length state.out ≡ 0
+  pub quiet : is_quiet_at state.sessions s ≡ true
+
 module _ {A : Type 0} where
   -- a call is this step, with this answer
   pub record Does (old new : Whole) (step : Step A) (answer : StepAnswer A) : Type 0 where
@@ -109,9 +116,9 @@ module _ {A : Type 0} where
     pub terms : new.terms ≡ old.terms
     pub inflight : new.inflight ≡ old.inflight
 
-  -- a call is these two steps, one after the other
-  pub record DoesBoth (old new : Whole) (first second : Step A) : Type 0 where
-    pub state : new.state ≡ alone old.terms old.state (first ∷ second ∷ [])
+  -- a call is these steps, one after the other
+  pub record DoesAll (old new : Whole) (steps : List (Step A)) : Type 0 where
+    pub state : new.state ≡ alone old.terms old.state steps
     pub terms : new.terms ≡ old.terms
     pub inflight : new.inflight ≡ old.inflight
 

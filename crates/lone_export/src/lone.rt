@@ -1,15 +1,20 @@
 //! One export alone: its image, its requests, its sessions and its limit tags.
-ghost use Rattle.std.specs.Prelude.{◌≡◌, ◌≢◌, ◌<◌, [], length, Ok, IsErrOf, IfOk, IfErr, IfSome, IfNone, OnSome, Some, IsSome};
+ghost use Rattle.std.specs.Prelude.{◌≡◌, ◌≢◌, ◌<◌, [], length, false, Ok, IsTrue, IsErrOf, IfOk, IfErr, IfSome, IfNone, OnSome, Some, IsSome};
+ghost use Rattle.std.specs.Bool.{OnTrue, OnFalse};
+ghost use Rattle.nbd_wire.specs.Grammar.{IsRequest};
+ghost use Rattle.nbd_commands.specs.Verdict.{verdict_at};
+ghost use Rattle.nbd_commands.specs.Meaning.{image_after, data_of, may_want_memory};
 ghost use Rattle.nbd_commands.specs.Terms.{terms_of};
 ghost use Rattle.nbd_commands.specs.Exports.{IsWithin};
 ghost use Rattle.export_queue.specs.Queue.{item_held};
-ghost use Rattle.reply_box.specs.Box.{IsOwed};
+ghost use Rattle.reply_box.specs.Box.{IsOwed, after_put};
 ghost use Rattle.lone_export.specs.Parts.{Settles, reply_to};
 ghost use Rattle.lone_export.specs.declared.row.Row.{Row};
 ghost use Rattle.lone_export.specs.Lone.{opening_of, Does, DoesOr, pick_said, leave_said, gone_said, take_said, attach_said, arrived_said, slots_picked, slots_without, slot_at, MayAttach};
 
 mod reading;
 mod replaying;
+mod rounds;
 mod skipping;
 
 use crate::refusal::{Arrived, NotArrived, NotAttached};
@@ -18,7 +23,7 @@ use crate::step::{Step, StepAnswer};
 use export_queue::{ExportQueue, Picked};
 use export_store::Image;
 use nbd_base::NoMemory;
-use nbd_commands::{Done, ExportConfig, ExportInfo, apply, verdict};
+use nbd_commands::{Done, ExportConfig, ExportInfo, apply_owned, verdict};
 use nbd_wire::protocol::{EIO, ENOMEM};
 use nbd_wire::{Reply, Request};
 use payload::Page;
@@ -170,12 +175,10 @@ impl<I: Image> Lone<I> {
         ensures none { IfNone result ((slot_at self.old number ≢ Some slot) × (self.new ≡ self.old)) }
         ensures slots { OnSome result (self.new.slots ≡ slots_without self.old.state.out self.old.slots number) }
     {
-        let Some(row) = self.queue.held(slot, number) else {
+        let Some(row) = self.queue.finish(slot, number) else {
             return None;
         };
-        let done = apply(&mut self.image, &row.request);
-        let memory = done.memory;
-        settle(&mut self.queue, &mut self.sessions, slot, number, done);
+        let memory = answer(&mut self.image, &mut self.sessions, row);
         self.count += 1;
         Some(memory)
     }
@@ -211,6 +214,29 @@ impl<I: Image> Lone<I> {
             count: 0,
             asked: 0,
         })
+    }
+}
+
+/// Performs a request that is in service no longer, and its reply goes to its session. The answer tells whether memory was there for it.
+fn answer<I: Image>(image: &mut I, sessions: &mut ReplyBox<I::Alloc>, row: Row<I::Alloc>) -> bool
+    requires served { verdict_at (length (I.bytes image.old)) false row.request ≡ 0 }
+    requires owed { IsOwed sessions.old row.session }
+    ensures request { IsRequest row.request }
+    ensures done { OnTrue result (I.bytes image.new ≡ image_after (I.bytes image.old) row.request) }
+    ensures no_memory { OnFalse result ((I.bytes image.new ≡ I.bytes image.old) × IsTrue (may_want_memory row.request)) }
+    ensures replied { sessions.new ≡ after_put sessions.old row.session (reply_to result row.request.head.cookie (data_of (I.bytes image.old) row.request)) }
+{
+    let Row { session, request } = row;
+    let cookie = request.head().cookie;
+    match apply_owned(image, request) {
+        Ok(content) => {
+            sessions.put(session, Reply::done(cookie, content));
+            true
+        }
+        Err(_) => {
+            sessions.put(session, Reply::bare(ENOMEM, cookie));
+            false
+        }
     }
 }
 

@@ -12,6 +12,7 @@ use std::alloc::Allocator;
 use tag_clock::Moment;
 
 mod memory;
+mod rounds;
 mod runs;
 mod skipping;
 

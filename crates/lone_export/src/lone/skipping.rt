@@ -1,9 +1,9 @@
 //! A READ that is performed without its data: where its reply is taken at once, nobody looks at them.
-ghost use Rattle.std.specs.Prelude.{◌≡◌, ◌==◌, ◌&&◌, true};
+ghost use Rattle.std.specs.Prelude.{◌≡◌, ◌==◌, ◌&&◌, [], ◌∷◌, true};
 ghost use Rattle.std.specs.Bool.{OnTrue, OnFalse};
 ghost use Rattle.nbd_commands.specs.Verdict.{is_read};
 ghost use Rattle.reply_box.specs.Sessions.{is_quiet_at};
-ghost use Rattle.lone_export.specs.Lone.{DoesBoth, is_reading, is_read_next};
+ghost use Rattle.lone_export.specs.Lone.{DoesAll, is_reading, is_read_next};
 ghost use Rattle.lone_export.specs.declared.step.Step.TheVariants as step;
 
 use crate::lone::{Lone, settle};
@@ -36,7 +36,7 @@ impl<I: Image> Lone<I> {
     /// that is to be taken before.
     pub fn skip_read(&mut self, number: u64, session: u64) -> bool
         ensures told { result ≡ is_read_next self.old.state number session }
-        ensures both { OnTrue result (DoesBoth {A = I.Alloc} self.old self.new (step.Perform number true) (step.Take session)) }
+        ensures both { OnTrue result (DoesAll {A = I.Alloc} self.old self.new (step.Perform number true ∷ step.Take session ∷ [])) }
         ensures stays { OnFalse result (self.new ≡ self.old) }
     {
         let Some(slot) = self.queue.slot_of(number) else {
