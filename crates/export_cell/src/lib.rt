@@ -3,6 +3,7 @@
 
 mod base;
 mod cell;
+mod late;
 mod outdated;
 mod refusal;
 

@@ -20,6 +20,10 @@ const PAYLOAD: usize = 67_108_864;
 /// The most steps that an attach or an arrival brings, itself among them.
 const BROUGHT: usize = 4;
 
+/// The room that a log gets first. Doubled eight times it is that of 4,352 steps, in which a full log and what is to come mostly fits. In
+/// twice as much its steps would go round in twice as much memory, and more of it would have left the processor's cache.
+const FIRST_ROOM: usize = 17;
+
 /// How many steps can still come of what is there, with those of an attach or an arrival.
 fn steps_brought<I: Image>(live: &Lone<I>) -> usize
     ensures { result ≡ to_come live.now.state + 4 }
@@ -50,7 +54,7 @@ fn widen<T, A: Allocator>(log: &mut VecDeque<T, A>, more: usize) -> Result<(), N
         return Ok(());
     }
     let twice = room.saturating_mul(2);
-    if log.reserve(more.max(twice - len)).is_err() {
+    if log.reserve(more.max(twice - len).max(FIRST_ROOM)).is_err() {
         return Err(NoMemory);
     }
     Ok(())
@@ -104,16 +108,14 @@ impl<I: Image> ExportCell<I> {
         ensures ok { OnOk result (self.new ≡ advanced_cell 1 self.old) }
         ensures err { OnErr result (self.new ≡ self.old) }
     {
-        let Some(step) = self.log.front() else {
+        let Some(step) = self.log.pop_front() else {
             unreachable!();
         };
-        let bytes = payload_of(step);
-        if let Err(error) = self.base.replay(step) {
-            return Err(error);
+        let bytes = payload_of(&step);
+        if let Err(step) = self.base.replay(step) {
+            self.log.push_front_reserved(step);
+            return Err(NoMemory);
         }
-        let Some(_step) = self.log.pop_front() else {
-            unreachable!();
-        };
         self.payload -= bytes;
         Ok(())
     }
