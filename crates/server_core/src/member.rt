@@ -8,7 +8,7 @@ ghost use Rattle.lone_export.specs.declared.step.StepAnswer.TheVariants.{Perform
 ghost use Rattle.export_cell.specs.Journal.{JournalMove, IsAdvanced, IsJournal, surplus, reserved, noted_as};
 ghost use Rattle.server_table.specs.Parts.{alone_of};
 
-use crate::tagging::{give_credit, shift_all};
+use crate::tagging::{give_credit, put_behind, shift_all};
 use export_cell::{ExportCell, Outdated};
 use export_queue::Picked;
 use export_store::Image;
@@ -238,7 +238,7 @@ impl<I: Image> Member<I> {
         match self.cell.enter(session, moment, request, kept) {
             Ok(Arrived::Accepted { number, limit_tag }) => {
                 let (r, p) = self.shares.admit(moment);
-                self.waiting.push_back_reserved(Tags { r, l: limit_tag, p });
+                put_behind(&mut self.waiting, Tags { r, l: limit_tag, p });
                 Ok(Arrived::Accepted { number, limit_tag })
             }
             Ok(Arrived::Answered(error)) => Ok(Arrived::Answered(error)),

@@ -1,5 +1,5 @@
 //! The tags of the requests of one export that wait, in their order.
-ghost use Rattle.std.specs.Prelude.{◌≡◌, ◌≤◌, map, pos};
+ghost use Rattle.std.specs.Prelude.{◌≡◌, ◌<◌, ◌≤◌, [], ◌∷◌, ◌++◌, length, map, pos};
 ghost use Rattle.nbd_base.specs.Range.{IsOptionInRange};
 ghost use Rattle.std.specs.VecDeque.{deque_capacity};
 ghost use Rattle.tag_clock.specs.Clocks.{lowered};
@@ -94,6 +94,20 @@ pub(crate) fn give_credit<A: Allocator>(
             shares.credit();
         }
         _ => {}
+    }
+}
+
+/// Puts a request's tags behind those that wait, where there is room. The first take the place of those that were taken last: a ring
+/// whose tags come and go one at a time stays in one place of its memory, and so in the processor's cache.
+pub(crate) fn put_behind<A: Allocator>(waiting: &mut VecDeque<Tags, A>, tags: Tags)
+    requires { length waiting.old.items < deque_capacity waiting.old }
+    ensures items { waiting.new.items ≡ waiting.old.items ++ tags ∷ [] }
+    ensures capacity { deque_capacity waiting.new ≡ deque_capacity waiting.old }
+{
+    if waiting.is_empty() {
+        waiting.push_front_reserved(tags);
+    } else {
+        waiting.push_back_reserved(tags);
     }
 }
 

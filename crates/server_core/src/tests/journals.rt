@@ -140,8 +140,8 @@ fn each_growth_of_a_log_is_refused_in_turn(rt: HostRuntime) -> Result<(), Fail> 
         let config = configured(&memory).ok_or("configured")?;
         let mut server: Kept = Server::new(&memory, &config)?;
         memory.arm(nth);
-        assert!(rt; is_served(&mut server, 0, 20), "at {nth}");
-        assert_eq!(rt; counts(&server, 0), Some((81, 81, 0)));
+        assert!(rt; is_served(&mut server, 0, 100), "at {nth}");
+        assert_eq!(rt; counts(&server, 0), Some((401, 401, 0)));
         if memory.is_armed() {
             break;
         }

@@ -25,8 +25,8 @@ arrived_is {A} old new s t n tag q said is does = subst (λ (x : Arrived). Does 
 answered_is : {A : Type 0} (old new : Whole) (s t error : ℕ) (q : RequestMessage) (said : Arrived) → said ≡ arrived.Answered error → Does {A = A} old new (Arrive s t q) (arrived_said (Ok said)) → Does {A = A} old new (Arrive s t q) (Answered error)
 answered_is {A} old new s t error q said is does = subst (λ (x : Arrived). Does {A = A} old new (Arrive s t q) (arrived_said {A = A} (Ok x))) is does
 
-pub push_back_reserved-requires : goal.push_back_reserved-requires
-push_back_reserved-requires g c =
+pub put_behind-requires : goal.put_behind-requires
+put_behind-requires g c =
     let i = c.self.inside in
     let A = g.row.I-Alloc.Denot in
     let m0 : Kept = record { whole = i.cell.live; journal = i.cell.journal; room = i.cell.room; share = i.shares; interval = i.r_interval; waiting = i.waiting.items; waiting_room = deque_capacity i.waiting; out = i.out.items; out_room = vec_capacity i.out } in
@@ -69,8 +69,8 @@ invariant_of-self g c =
     let fits = p_fits m t h range.last_p short.weight small in
     let p_fit : FitsSigned w128 p = subst (FitsSigned w128) (sym p_is) fits in
     let one : Tags = record { r = c.admit-r.result.0; l = to_z w128 (of_z w128 tag); p = to_z w128 (of_z w128 p) } in
-    let w : Waits A m new s t n tag q c.admit-r.new.self one c.push_back_reserved.new.self.items = record { does = does; slots = c.in-Ok-Accepted.ensures.slots; clock = c.admit-r.ensures.clock; r = ap (λ x. x.0) c.admit-r.ensures.tags; l = to_z-of_z w128 tag l_fits; p = to_z-of_z w128 p p_fit ∙ p_is; pushed = c.push_back_reserved.ensures.items } in
-    waits_kept A m new s t n (deque_capacity c.push_back_reserved.new.self) tag q c.admit-r.new.self one c.push_back_reserved.new.self.items h w c.push_back_reserved.ensures.capacity
+    let w : Waits A m new s t n tag q c.admit-r.new.self one c.put_behind.new.waiting.items = record { does = does; slots = c.in-Ok-Accepted.ensures.slots; clock = c.admit-r.ensures.clock; r = ap (λ x. x.0) c.admit-r.ensures.tags; l = to_z-of_z w128 tag l_fits; p = to_z-of_z w128 p p_fit ∙ p_is; pushed = c.put_behind.ensures.items } in
+    waits_kept A m new s t n (deque_capacity c.put_behind.new.waiting) tag q c.admit-r.new.self one c.put_behind.new.waiting.items h w c.put_behind.ensures.capacity
 
 pub returns-in-Ok-Accepted-clause-arrives : goal.returns-in-Ok-Accepted-clause-arrives
 returns-in-Ok-Accepted-clause-arrives g c =
@@ -97,9 +97,9 @@ returns-in-Ok-Accepted-clause-arrives g c =
     let fits = p_fits m t h range.last_p short.weight small in
     let p_fit : FitsSigned w128 p = subst (FitsSigned w128) (sym p_is) fits in
     let one : Tags = record { r = c.admit-r.result.0; l = to_z w128 (of_z w128 tag); p = to_z w128 (of_z w128 p) } in
-    let w : Waits A m new s t n tag q c.admit-r.new.self one c.push_back_reserved.new.self.items = record { does = does; slots = c.in-Ok-Accepted.ensures.slots; clock = c.admit-r.ensures.clock; r = ap (λ x. x.0) c.admit-r.ensures.tags; l = to_z-of_z w128 tag l_fits; p = to_z-of_z w128 p p_fit ∙ p_is; pushed = c.push_back_reserved.ensures.items } in
-    let new_is = waits A m new s t n (deque_capacity c.push_back_reserved.new.self) tag q c.admit-r.new.self one c.push_back_reserved.new.self.items h w in
-    let after = standing_of (kept_waiting m new c.admit-r.new.self c.push_back_reserved.new.self.items (deque_capacity c.push_back_reserved.new.self)) in
+    let w : Waits A m new s t n tag q c.admit-r.new.self one c.put_behind.new.waiting.items = record { does = does; slots = c.in-Ok-Accepted.ensures.slots; clock = c.admit-r.ensures.clock; r = ap (λ x. x.0) c.admit-r.ensures.tags; l = to_z-of_z w128 tag l_fits; p = to_z-of_z w128 p p_fit ∙ p_is; pushed = c.put_behind.ensures.items } in
+    let new_is = waits A m new s t n (deque_capacity c.put_behind.new.waiting) tag q c.admit-r.new.self one c.put_behind.new.waiting.items h w in
+    let after = standing_of (kept_waiting m new c.admit-r.new.self c.put_behind.new.waiting.items (deque_capacity c.put_behind.new.waiting)) in
     let all : Arrives {A = A} (standing_of m0) after s t q (Ok (arrived.Accepted n (to_z w128 (of_z w128 tag)))) = (admits_at m s q h (was_admitted A i.cell.live new s t n tag q does), new_is, number_is A i.cell.live new s t n tag q does, to_z-of_z w128 tag l_fits ∙ tag_is A i.cell.live new s t n tag q does) in
     subst (λ (v : Standing). Arrives {A = A} v after s t q (Ok (arrived.Accepted n (to_z w128 (of_z w128 tag))))) c.self.view_is all
 
