@@ -163,6 +163,7 @@ fn serve_booked<L: Ledger + Send + Sync, R: Wait + Threads + Sync + time::Clock>
         table: table_of(alloc, config.exports())?,
         start: Instant::now(rt).ok(),
         closed: AtomicBool::new(false),
+        taken: AtomicBool::new(false),
         light: AtomicUsize::new(0),
         looking: AtomicUsize::new(0),
         latest_long: Mutex::new(None),

@@ -3,7 +3,7 @@
 use super::ahead::Ahead;
 use super::port::{Port, is_late};
 use super::service::{Disks, Service};
-use super::stage::{Ready, Stage};
+use super::stage::{Ready, Stage, take_one};
 use nbd_base::NoMemory;
 use nbd_session::{Counted, Stop, put, put_reply, take_replies};
 use nbd_wire::Reply;
@@ -123,9 +123,11 @@ impl<'a> Line<'a> {
         }
     }
 
-    /// A request was handed in.
-    pub fn note_arrived(&self) {
-        self.arrived.fetch_add(1, Ordering::SeqCst);
+    /// So many requests were handed in.
+    pub fn note_arrived(&self, count: u64) {
+        if count > 0 {
+            self.arrived.fetch_add(count, Ordering::SeqCst);
+        }
     }
 
     /// Whether the client asks for long data, or sends several requests at a time.
@@ -236,6 +238,20 @@ impl<'a> Outlet<'a> {
         session: SessionId,
     ) -> Stop {
         take_replies(disks, pass, session, &mut self.taken)
+    }
+
+    /// Takes the session's oldest reply, where there is one and room for it.
+    pub fn take_one<L: Ledger>(
+        &mut self,
+        disks: &mut Disks<L>,
+        pass: &mut Pass<L>,
+        session: SessionId,
+    ) {
+        if self.taken.len() < self.taken.capacity() {
+            if let Some(reply) = take_one(disks, pass, session) {
+                self.taken.push_reserved(reply);
+            }
+        }
     }
 
     /// Whether the replies that were taken are short enough for a reader to write them: there is room for them beside those that

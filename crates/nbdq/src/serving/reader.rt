@@ -4,7 +4,7 @@ use super::ahead::Feed;
 use super::hold_clock::HoldClock;
 use super::line::{Line, Outlet, PATIENCE, Sent};
 use super::service::{Disks, Service};
-use super::shift::Shift;
+use super::shift::{Asked, Shift};
 use super::stage::make_ready;
 use super::warming::touch_next;
 use export_cell::Outdated;
@@ -70,8 +70,20 @@ struct Came {
     writes: bool,
     /// Whether something waits to be chosen.
     waits: bool,
+    /// How many requests were handed in.
+    arrived: u64,
     /// What touching what these requests change came to.
     touched: u64,
+}
+
+/// What a turn came to.
+#[derive(Clone, Copy, Debug, PartialEq, Eq, Drop)]
+struct Noted {
+    /// Whether a request was handed in.
+    arrived: bool,
+    handed: Handed,
+    /// The request's number, where it wasn't answered at once.
+    number: Option<u64>,
 }
 
 /// What a turn handed in.
@@ -126,14 +138,16 @@ impl<'a, 'b, R: Wait> Intake<'a, 'b, R> {
             Offer::Read(frame) => hand_in(disks, pass, line.session, frame, clock),
             Offer::Again(request) => offer_held(disks, pass, line.session, request, clock),
         };
-        let mut latest = note_turn(service, line, &turn, pass.last());
-        let stop = self.follow(disks, service, line, pass, outlet, latest, clock);
+        let mut noted = noted_of(&turn, pass.last());
+        self.follow(disks, service, line, pass, outlet, noted, clock);
+        let mut latest = noted.handed;
         let mut came = Came {
             turn,
-            stop,
+            stop: None,
             reads: latest == Handed::LongRead,
             writes: latest == Handed::LongWrite,
             waits: false,
+            arrived: noted.arrived as u64,
             touched,
         };
         for _ in 1..most {
@@ -143,25 +157,29 @@ impl<'a, 'b, R: Wait> Intake<'a, 'b, R> {
             let Some(turn) = read_ready(disks, pass, line.session, &mut self.frames, clock) else {
                 break;
             };
-            let handed = note_turn(service, line, &turn, pass.last());
-            came.stop = self.follow(disks, service, line, pass, outlet, handed, clock);
+            noted = noted_of(&turn, pass.last());
+            self.follow(disks, service, line, pass, outlet, noted, clock);
             came.turn = turn;
-            came.writes = came.writes || handed == Handed::LongWrite;
-            came.reads = came.reads || handed == Handed::LongRead;
-            latest = if handed == latest {
-                handed
+            came.arrived = came.arrived.saturating_add(noted.arrived as u64);
+            came.writes = came.writes || noted.handed == Handed::LongWrite;
+            came.reads = came.reads || noted.handed == Handed::LongRead;
+            latest = if noted.handed == latest {
+                latest
             } else {
                 Handed::Nothing
             };
+        }
+        if let Some(outlet) = outlet {
+            came.stop = Some(outlet.take(disks, pass, line.session));
         }
         came.waits = disks.server().waiting() > 0;
         disks.sweep(line.session.export, &mut self.outdated);
         came
     }
 
-    /// What follows a turn under the same hold: a request other than a READ of long data is performed, and what replies are there are taken,
+    /// What follows a turn under the same hold: a request other than a READ of long data is performed, and its reply taken,
     /// where the outlet is at hand. So the steps of a request stand side by side in its export's log, and those of a READ go into
-    /// the base without its data.
+    /// the base without its data. Who asked is noted only where the request stays: whoever performs it has to know.
     fn follow<L: Ledger, C: Clock>(
         &mut self,
         disks: &mut Disks<L>,
@@ -169,41 +187,51 @@ impl<'a, 'b, R: Wait> Intake<'a, 'b, R> {
         line: &Line<'_>,
         pass: &mut Pass<L>,
         outlet: &mut Option<MutexGuard<'_, Outlet<'_>>>,
-        handed: Handed,
+        noted: Noted,
         clock: &C,
-    ) -> Option<Stop> {
-        if handed == Handed::Short || handed == Handed::LongWrite {
-            self.shift
-                .serve_own(disks, &service.bells, pass, line.session, clock);
+    ) {
+        let Some(number) = noted.number else {
+            return;
+        };
+        let own = Asked {
+            session: line.session,
+            number,
+        };
+        let served = (noted.handed == Handed::Short || noted.handed == Handed::LongWrite)
+            && self
+                .shift
+                .serve_own(disks, &service.bells, pass, own, clock);
+        if !served {
+            service.bells.note_asker(line.session, number);
+            return;
         }
-        match outlet {
-            Some(outlet) => Some(outlet.take(disks, pass, line.session)),
-            None => None,
+        if let Some(outlet) = outlet {
+            outlet.take_one(disks, pass, line.session);
         }
     }
 }
 
-/// Notes what a turn came to, and tells what it handed in.
-fn note_turn<L: Ledger>(
-    service: &Service<L>,
-    line: &Line<'_>,
-    turn: &Turn<Global>,
-    last: Option<Trace>,
-) -> Handed {
-    let Turn::Going = turn else {
-        return Handed::Nothing;
+/// What a turn came to, by what its pass was told last.
+fn noted_of(turn: &Turn<Global>, last: Option<Trace>) -> Noted {
+    let mut noted = Noted {
+        arrived: false,
+        handed: Handed::Nothing,
+        number: None,
     };
-    line.note_arrived();
+    let Turn::Going = turn else {
+        return noted;
+    };
+    noted.arrived = true;
     let Some(Trace { event, answer }) = last else {
-        return Handed::Nothing;
+        return noted;
     };
     if let AnswerTrace::Accepted { number, .. } = answer {
-        service.bells.note_asker(line.session, number);
+        noted.number = Some(number);
     }
-    match event {
-        EventTrace::Arrive { head, .. } => handed_by(head),
-        _ => Handed::Nothing,
+    if let EventTrace::Arrive { head, .. } = event {
+        noted.handed = handed_by(head);
     }
+    noted
 }
 
 /// What a request is, by its head.
@@ -306,7 +334,8 @@ fn read_on<L: Ledger, R: Wait + time::Clock>(
         most,
         &held,
     );
-    drop(disks);
+    service.let_go(disks);
+    line.note_arrived(came.arrived);
     intake.outdated.let_go();
     line.note_touched(came.touched);
     intake.shift.tell(&service.bells);
@@ -314,8 +343,7 @@ fn read_on<L: Ledger, R: Wait + time::Clock>(
     let written = match outlet {
         Some(mut outlet) => {
             line.note_taken(outlet.unwritten().saturating_sub(before));
-            let more = intake.frames.is_ready() || line.keeps_replies(rt, &*outlet);
-            let last = !is_going(&came.turn) || !more;
+            let last = !is_going(&came.turn) || !line.keeps_replies(rt, &*outlet);
             is_written(rt, service, line, &mut *outlet, pass, last)
                 && came.stop == Some(Stop::Empty)
         }

@@ -53,6 +53,9 @@ pub struct Service<L: Ledger> {
     pub start: Option<Instant>,
     /// Whether no more connections are accepted.
     pub closed: AtomicBool,
+    /// Whether the server is held, more or less. Who looks for it reads this, which disturbs nobody; each try to hold it takes a part of
+    /// the server out of the cache of the processor that holds it.
+    pub taken: AtomicBool,
     /// How many ask for the server who have little to do there.
     pub light: AtomicUsize,
     /// How many look for the server who have much to do there.
@@ -68,49 +71,67 @@ impl<L: Ledger> Service<L> {
         RunningClock::since(rt, self.start)
     }
 
-    /// Holds the server. Who has much to do there lets those go first, for a while, who have little.
+    /// Holds the server, until `let_go`. Who has much to do there lets those go first, for a while, who have little.
     pub fn hold<R: Wait + time::Clock>(&self, rt: &R, heavy: bool) -> MutexGuard<'_, Disks<L>> {
         if heavy {
             return self.hold_after(rt);
         }
         self.light.fetch_add(1, Ordering::SeqCst);
-        let held = self.shared.hold(rt);
+        let held = match self.look_long(false) {
+            Some(held) => held,
+            None => self.wait(rt),
+        };
         self.light.fetch_sub(1, Ordering::SeqCst);
         held
     }
 
-    /// Holds the server, mostly not before those who have little to do there.
+    /// Lets others hold the server.
+    pub fn let_go(&self, held: MutexGuard<'_, Disks<L>>) {
+        self.taken.store(false, Ordering::SeqCst);
+        drop(held);
+    }
+
+    /// Holds the server, mostly not before those who have little to do there. Few look for it at a time: those who look leave less of
+    /// the processors to who holds it, and to the clients.
     fn hold_after<R: Wait + time::Clock>(&self, rt: &R) -> MutexGuard<'_, Disks<L>> {
         for _ in 0..NAPS {
-            if let Some(held) = self.look_long() {
+            let mut held = None;
+            if self.looking.fetch_add(1, Ordering::SeqCst) < LOOKERS {
+                held = self.look_long(true);
+            }
+            self.looking.fetch_sub(1, Ordering::SeqCst);
+            if let Some(held) = held {
                 return held;
             }
             thread::sleep(rt, Duration::from_micros(NAP));
         }
-        self.shared.hold(rt)
+        self.wait(rt)
     }
 
-    /// The server, where it is free at one of many looks, and few others look for it: those who look leave less of the processors
-    /// to who holds it, and to the clients.
-    fn look_long(&self) -> Option<MutexGuard<'_, Disks<L>>> {
-        let mut held = None;
-        if self.looking.fetch_add(1, Ordering::SeqCst) < LOOKERS {
-            for _ in 0..TRIES {
-                held = self.look();
-                if held.is_some() {
-                    break;
-                }
-                yield_now();
-            }
-        }
-        self.looking.fetch_sub(1, Ordering::SeqCst);
+    /// Holds the server, however long it takes.
+    fn wait<R: Wait>(&self, rt: &R) -> MutexGuard<'_, Disks<L>> {
+        let held = self.shared.hold(rt);
+        self.taken.store(true, Ordering::SeqCst);
         held
     }
 
-    /// The server, where it is free at one of some looks, and nobody asks for it who has little to do there.
-    fn look(&self) -> Option<MutexGuard<'_, Disks<L>>> {
+    /// The server, where it is free at one of many looks.
+    fn look_long(&self, heavy: bool) -> Option<MutexGuard<'_, Disks<L>>> {
+        for _ in 0..TRIES {
+            if let Some(held) = self.look(heavy) {
+                self.taken.store(true, Ordering::SeqCst);
+                return Some(held);
+            }
+            yield_now();
+        }
+        None
+    }
+
+    /// The server, where it is free at one of some looks, and, where that is asked for, nobody wants it who has little to do there.
+    fn look(&self, heavy: bool) -> Option<MutexGuard<'_, Disks<L>>> {
         for _ in 0..LOOKS {
-            if self.light.load(Ordering::SeqCst) == 0 {
+            let yields = heavy && self.light.load(Ordering::SeqCst) > 0;
+            if !yields && !self.taken.load(Ordering::SeqCst) {
                 if let Some(held) = self.shared.try_hold() {
                     return Some(held);
                 }

@@ -12,6 +12,19 @@ use tag_clock::Clock;
 /// How many sessions are noted under one hold; those that are more are woken at once.
 const NOTED: usize = 16;
 
+/// A request that a session has just handed in, and for which nobody is noted as its asker.
+#[derive(Clone, Copy, Debug, PartialEq, Eq, Drop)]
+pub struct Asked {
+    pub session: SessionId,
+    pub number: u64,
+}
+
+impl Asked {
+    fn is(&self, ticket: &Ticket) -> bool {
+        ticket.export() == self.session.export && ticket.number() == self.number
+    }
+}
+
 /// The sessions that are to be woken once the server is let go.
 #[derive(Drop)]
 pub struct Shift {
@@ -38,25 +51,34 @@ impl Shift {
         session: SessionId,
         clock: &C,
     ) -> bool {
-        let Some(chosen) = turn_dispatch(disks, pass, clock.now()) else {
-            return false;
-        };
-        turn_perform(disks, pass, chosen.ticket);
-        self.note(bells, session, &chosen.ticket)
+        match perform_next(disks, pass, clock) {
+            Some(ticket) => self.note(bells, session, &ticket),
+            None => false,
+        }
     }
 
-    /// Performs requests until one of the session's own is performed, or two in all.
+    /// Performs requests until the session's own is performed, or one that it handed in before, or two in all. Tells whether its own was.
     pub fn serve_own<L: Ledger, C: Clock>(
         &mut self,
         disks: &mut Disks<L>,
         bells: &Bells,
         pass: &mut Pass<L>,
-        session: SessionId,
+        own: Asked,
         clock: &C,
-    ) {
-        if !self.serve_one(disks, bells, pass, session, clock) {
-            self.serve_one(disks, bells, pass, session, clock);
+    ) -> bool {
+        for _ in 0..2 {
+            let Some(ticket) = perform_next(disks, pass, clock) else {
+                return false;
+            };
+            if own.is(&ticket) {
+                self.performed = true;
+                return true;
+            }
+            if self.note(bells, own.session, &ticket) {
+                return false;
+            }
         }
+        false
     }
 
     /// Whether a request of another session was performed under this hold.
@@ -94,4 +116,15 @@ impl Shift {
         self.performed = false;
         performed
     }
+}
+
+/// Chooses a request and performs it, whoever asked for it.
+fn perform_next<L: Ledger, C: Clock>(
+    disks: &mut Disks<L>,
+    pass: &mut Pass<L>,
+    clock: &C,
+) -> Option<Ticket> {
+    let ticket = turn_dispatch(disks, pass, clock.now())?.ticket;
+    turn_perform(disks, pass, ticket);
+    Some(ticket)
 }

@@ -138,13 +138,13 @@ fn take_or_serve<L: Ledger, R: Wait + time::Clock>(
         shift.serve_one(&mut *disks, &service.bells, pass, line.session, &clock);
         taken = take_one(&mut *disks, pass, line.session);
     }
-    drop(disks);
+    service.let_go(disks);
     shift.tell(&service.bells);
     taken
 }
 
 /// The oldest reply of the session.
-fn take_one<L: Ledger>(
+pub fn take_one<L: Ledger>(
     disks: &mut Disks<L>,
     pass: &mut Pass<L>,
     session: SessionId,

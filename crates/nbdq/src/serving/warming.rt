@@ -42,7 +42,6 @@ fn touch_base(cell: &ExportCell<Paged<Global>>, most: usize) -> u64 {
     for step in cell.entries().iter().take(STEPS.saturating_mul(most)) {
         if let Step::Arrive { request, .. } = step {
             touched = touched.wrapping_add(touch(base, request));
-            touched = touched.wrapping_add(first_byte(request));
         }
     }
     touched
@@ -54,15 +53,5 @@ fn touch(image: &Paged<Global>, request: &Request<Global>) -> u64 {
     match kind {
         WRITE => image.holds(offset as usize / PAGE) as u64,
         _ => 0,
-    }
-}
-
-/// The first byte of a request's payload. The count of its page's owners lies beside it.
-fn first_byte(request: &Request<Global>) -> u64 {
-    let payload = request.payload();
-    if payload.is_empty() {
-        0
-    } else {
-        payload.from(0)[0] as u64
     }
 }

@@ -80,7 +80,7 @@ fn write_on<L: Ledger, R: Wait + time::Clock>(
         stop = outlet.take(&mut *disks, pass, line.session);
     }
     let waits = disks.server().waiting() > 0;
-    drop(disks);
+    service.let_go(disks);
     line.note_taken(outlet.unwritten().saturating_sub(before));
     let performed = shift.tell(&service.bells);
     let wrote = outlet.unwritten() > 0;
