@@ -39,6 +39,14 @@ module _ {A : Type 0} where
   IsPast w (late.Read a) = IsIdleFor w.terms w.state a.session a.request × (0 < w.inflight) × (is_read a.request ≡ true)
   IsPast w (late.Performed n) = is_reading w.state n ≡ true
 
+  -- the request that arrived is picked as well
+  abbrev pub IsPicked : Late A → Late A → Type 0
+  IsPicked (late.Arrived a) after = after ≡ late.Picked a
+  IsPicked late.Nothing after = ⊥
+  IsPicked (late.Picked a) after = ⊥
+  IsPicked (late.Read a) after = ⊥
+  IsPicked (late.Performed n) after = ⊥
+
   -- the step is made, or is late with these
   pub record Comes (old : Whole) (before : Late A) (step : Step A) (new : Whole) (after : Late A) : Type 0 where
     pub goes : Goes (past_of old before) (past_of new after) step

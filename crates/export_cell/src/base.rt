@@ -13,7 +13,7 @@ use lone_export::{Lone, Step};
 use nbd_base::NoMemory;
 use nbd_commands::ExportConfig;
 use payload::Page;
-use remaking::remade;
+use remaking::{made_in_place, remade};
 use std::marker::Model;
 use std::mem;
 
@@ -89,6 +89,9 @@ impl<I: Image> Base<I> {
         ensures ok { OnOk result (Goes {A = I.Alloc} self.old self.new step) }
         ensures err { IfErr result (λ back. (back ≡ step) × (self.new ≡ self.old)) }
     {
+        if made_in_place(&mut self.lone, &mut self.late, &step) {
+            return Ok(());
+        }
         let late = mem::replace(&mut self.late, Late::Nothing);
         match remade(&mut self.lone, late, step) {
             Ok(late) => {

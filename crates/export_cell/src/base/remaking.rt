@@ -2,7 +2,8 @@
 ghost use Rattle.std.specs.Prelude.{◌≡◌, ◌<◌, [], ◌∷◌, length, true, IfOk, IfErr, OnOk};
 ghost use Rattle.lone_export.specs.Lone.{IsIdleFor, DoesAll, MayReplay, is_reading};
 ghost use Rattle.lone_export.specs.declared.step.Step.TheVariants as step;
-ghost use Rattle.export_cell.specs.Past.{arrival_of, past_of, IsPast, Goes, Comes, Stays};
+ghost use Rattle.std.specs.Bool.{OnTrue, OnFalse};
+ghost use Rattle.export_cell.specs.Past.{arrival_of, past_of, IsPast, IsPicked, Goes, Comes, Stays};
 
 use crate::late::{Arrival, Late};
 use export_store::Image;
@@ -10,6 +11,7 @@ use lone_export::{Lone, Step};
 use nbd_wire::Request;
 use nbd_wire::protocol::READ;
 use std::alloc::Allocator;
+use std::mem;
 use tag_clock::Moment;
 
 /// A step for which no memory was there, and the steps that are late now.
@@ -54,6 +56,56 @@ pub(super) fn remade<I: Image>(
             Ok(late) => Ok(late),
             Err(late) => Err(Unmade { late, step }),
         },
+    }
+}
+
+/// Makes a pick or a take where neither what is late nor the step has to be moved for it, as most can be. False where it isn't
+/// such a step: then nothing is done.
+pub(super) fn made_in_place<I: Image>(
+    lone: &mut Lone<I>,
+    late: &mut Late<I::Alloc>,
+    step: &Step<I::Alloc>,
+) -> bool
+    requires past { IsPast lone.old late.old }
+    requires may { MayReplay (past_of lone.old late.old) step.now }
+    ensures made { OnTrue result (Comes lone.old late.old step.now lone.new late.new) }
+    ensures stays { OnFalse result ((lone.new ≡ lone.old) × (late.new ≡ late.old)) }
+{
+    match step {
+        Step::Pick => pick_late(late),
+        Step::Take { session } => take_alone(lone, late, *session),
+        _ => false,
+    }
+}
+
+/// The request that arrived is picked, where one is late. False where none is.
+fn pick_late<A: Allocator>(late: &mut Late<A>) -> bool
+    ensures picked { OnTrue result (IsPicked late.old late.new) }
+    ensures stays { OnFalse result (late.new ≡ late.old) }
+{
+    match mem::replace(late, Late::Nothing) {
+        Late::Arrived(arrival) => {
+            *late = Late::Picked(arrival);
+            true
+        }
+        other => {
+            *late = other;
+            false
+        }
+    }
+}
+
+/// The session's oldest reply is taken, where nothing is late. False where something is.
+fn take_alone<I: Image>(lone: &mut Lone<I>, late: &Late<I::Alloc>, session: u64) -> bool
+    ensures made { OnTrue result (Comes lone.old late.now (step.Take session) lone.new late.now) }
+    ensures stays { OnFalse result (lone.new ≡ lone.old) }
+{
+    match late {
+        Late::Nothing => {
+            let _ = lone.take(session);
+            true
+        }
+        _ => false,
     }
 }
 
