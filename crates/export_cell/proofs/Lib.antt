@@ -2,3 +2,4 @@ pub mod Kept
 pub mod Fronts
 pub mod Logs
 pub mod Moves
+pub mod Rounds
