@@ -165,7 +165,6 @@ fn serve_booked<L: Ledger + Send + Sync, R: Wait + Threads + Sync + time::Clock>
         closed: AtomicBool::new(false),
         taken: AtomicBool::new(false),
         light: AtomicUsize::new(0),
-        looking: AtomicUsize::new(0),
         latest_long: Mutex::new(None),
         is_wide: available_parallelism(rt).map_or(false, |count| count.get() >= PROCESSORS),
     };

@@ -2,6 +2,7 @@
 ghost use Rattle.std.specs.Prelude.{◌≤◌, length};
 
 use super::line::Line;
+use super::port::rest_after;
 use nbd_base::NoMemory;
 use nbd_workers::Bell;
 use std::alloc::Global;
@@ -22,6 +23,9 @@ const PIECE: usize = 131_072;
 const LITTLE: usize = 16_384;
 
 const FEW: usize = 2;
+
+/// So many bytes of one read are many: behind it the thread lets others run.
+const MANY: usize = 65_536;
 
 /// What one read gave.
 #[derive(Drop)]
@@ -282,6 +286,8 @@ impl<R: Wait> Read for Feed<'_, '_, R> {
             return Ok(count);
         }
         let mut peer = self.line.peer;
-        peer.read(buf)
+        let came = peer.read(buf);
+        rest_after(&came, MANY);
+        came
     }
 }

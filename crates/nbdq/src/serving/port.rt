@@ -4,6 +4,10 @@ use std::io;
 use std::io::{ErrorKind, Write};
 use std::net::TcpStream;
 use std::sync::atomic::{AtomicBool, Ordering};
+use std::thread::yield_now;
+
+/// So many bytes of one write are many: behind it the thread lets others run.
+const MANY: usize = 196_608;
 
 /// A client's socket, whose write timeout says how long a write waits for a client that doesn't read.
 #[derive(Drop)]
@@ -25,7 +29,10 @@ impl Write for Port<'_> {
         for _ in 0..u64::MAX {
             match peer.write(buf) {
                 Err(error) if self.patient.load(Ordering::SeqCst) && is_late(&error) => {}
-                written => return written,
+                written => {
+                    rest_after(&written, MANY);
+                    return written;
+                }
             }
         }
         Ok(0)
@@ -39,4 +46,14 @@ impl Write for Port<'_> {
 /// Whether a write failed since the client didn't read in time.
 pub fn is_late(error: &io::Error) -> bool {
     error.kind() == ErrorKind::WouldBlock
+}
+
+/// Lets other threads run where so many bytes were read or written at once. Beside clients that move much all processors are busy,
+/// and each of their threads would run for milliseconds before that of a client which asks for little gets its turn.
+pub fn rest_after(moved: &io::Result<usize>, many: usize) {
+    if let Ok(count) = moved {
+        if *count >= many {
+            yield_now();
+        }
+    }
 }

@@ -16,17 +16,9 @@ use std::sync::atomic::{AtomicBool, AtomicUsize, Ordering};
 use std::sync::ledger::Ledger;
 use std::sync::{Mutex, MutexGuard, Wait};
 use std::thread::yield_now;
+use std::time;
 use std::time::{Duration, Instant};
-use std::{thread, time};
 use tag_clock::{Clock, Moment};
-
-/// How many of those who have much to do with the server look for it at a time. The others sleep for so many microseconds, so
-/// often at most, before they wait like those who have little.
-const LOOKERS: usize = 2;
-
-const NAP: u64 = 20;
-
-const NAPS: usize = 16;
 
 /// How often it is looked for while other threads run in between.
 const TRIES: usize = 64;
@@ -34,11 +26,20 @@ const TRIES: usize = 64;
 /// How often it is looked at in a row before other threads run.
 const LOOKS: usize = 32;
 
-/// How many milliseconds after its last long WRITE a session is no longer taken for one that sends more.
+/// How many milliseconds after another session's long WRITE a session doesn't count as alone with its own.
 const LATELY: u64 = 20;
 
 /// A server of disks in pages, while it is held.
 pub type Disks<L> = Booked<L, Paged<Global>, Heaped<Global>>;
+
+/// The latest long WRITE.
+#[derive(Clone, Copy, Debug, PartialEq, Eq, Drop)]
+pub struct LongWrite {
+    session: SessionId,
+    at: Moment,
+    // When another session sent its latest before it.
+    other: Option<Moment>,
+}
 
 /// A server of disks in pages, and all that its threads share besides.
 #[derive(Drop)]
@@ -58,10 +59,7 @@ pub struct Service<L: Ledger> {
     pub taken: AtomicBool,
     /// How many ask for the server who have little to do there.
     pub light: AtomicUsize,
-    /// How many look for the server who have much to do there.
-    pub looking: AtomicUsize,
-    /// Who sent a long WRITE last, and when.
-    pub latest_long: Mutex<Option<(SessionId, Moment)>>,
+    pub latest_long: Mutex<Option<LongWrite>>,
     /// Whether there are processors enough to read a client's bytes ahead.
     pub is_wide: bool,
 }
@@ -72,15 +70,12 @@ impl<L: Ledger> Service<L> {
     }
 
     /// Holds the server, until `let_go`. Who has much to do there lets those go first, for a while, who have little.
-    pub fn hold<R: Wait + time::Clock>(&self, rt: &R, heavy: bool) -> MutexGuard<'_, Disks<L>> {
+    pub fn hold<R: Wait>(&self, rt: &R, heavy: bool) -> MutexGuard<'_, Disks<L>> {
         if heavy {
-            return self.hold_after(rt);
+            return self.look_or_wait(rt, true);
         }
         self.light.fetch_add(1, Ordering::SeqCst);
-        let held = match self.look_long(false) {
-            Some(held) => held,
-            None => self.wait(rt),
-        };
+        let held = self.look_or_wait(rt, false);
         self.light.fetch_sub(1, Ordering::SeqCst);
         held
     }
@@ -91,26 +86,12 @@ impl<L: Ledger> Service<L> {
         drop(held);
     }
 
-    /// Holds the server, mostly not before those who have little to do there. Few look for it at a time: those who look leave less of
-    /// the processors to who holds it, and to the clients.
-    fn hold_after<R: Wait + time::Clock>(&self, rt: &R) -> MutexGuard<'_, Disks<L>> {
-        for _ in 0..NAPS {
-            let mut held = None;
-            if self.looking.fetch_add(1, Ordering::SeqCst) < LOOKERS {
-                held = self.look_long(true);
-            }
-            self.looking.fetch_sub(1, Ordering::SeqCst);
-            if let Some(held) = held {
-                return held;
-            }
-            thread::sleep(rt, Duration::from_micros(NAP));
-        }
-        self.wait(rt)
-    }
-
     /// Holds the server, however long it takes.
-    fn wait<R: Wait>(&self, rt: &R) -> MutexGuard<'_, Disks<L>> {
-        let held = self.shared.hold(rt);
+    fn look_or_wait<R: Wait>(&self, rt: &R, heavy: bool) -> MutexGuard<'_, Disks<L>> {
+        let held = match self.look_long(heavy) {
+            Some(held) => held,
+            None => self.shared.hold(rt),
+        };
         self.taken.store(true, Ordering::SeqCst);
         held
     }
@@ -118,9 +99,9 @@ impl<L: Ledger> Service<L> {
     /// The server, where it is free at one of many looks.
     fn look_long(&self, heavy: bool) -> Option<MutexGuard<'_, Disks<L>>> {
         for _ in 0..TRIES {
-            if let Some(held) = self.look(heavy) {
-                self.taken.store(true, Ordering::SeqCst);
-                return Some(held);
+            let held = self.look(heavy);
+            if held.is_some() {
+                return held;
             }
             yield_now();
         }
@@ -144,14 +125,20 @@ impl<L: Ledger> Service<L> {
     /// A session sends a long WRITE. Tells whether no other did so lately.
     pub fn is_alone<R: Wait>(&self, rt: &R, session: SessionId, now: Moment) -> bool {
         let mut latest = self.latest_long.lock(rt);
-        let alone = match &*latest {
-            Some((other, at)) => {
-                *other == session || until(*at, now) > Duration::from_millis(LATELY)
-            }
-            None => true,
+        let other = match &*latest {
+            Some(last) if last.session == session => last.other,
+            Some(last) => Some(last.at),
+            None => None,
         };
-        *latest = Some((session, now));
-        alone
+        *latest = Some(LongWrite {
+            session,
+            at: now,
+            other,
+        });
+        match other {
+            Some(at) => until(at, now) > Duration::from_millis(LATELY),
+            None => true,
+        }
     }
 
     /// The session is dropped. Where it is gone already, all stays.
