@@ -83,9 +83,22 @@ for base in "nbd://127.0.0.1:$port" "nbd+unix://"; do
     --verify=crc32c --bs=128k --size=8m --offset_increment=8m --numjobs=4 --iodepth=8 --output-format=terse
   check "$kind a client that is killed costs nobody anything" bash -c "timeout -s KILL 1 fio --name=cut --thread --ioengine=nbd '--uri=$(uri disk)' --rw=randread --bs=128k --size=32m --iodepth=32 --time_based --runtime=30 >/dev/null 2>&1; nbdinfo '$(uri disk)'"
 done
+
+# join: one more client that stays. It chooses the disk, reads 4 KiB, and asks for nothing more.
+join() {
+  local client
+  exec {client}<>"/dev/tcp/127.0.0.1/$port" || return 1
+  printf '\0\0\0\3IHAVEOPT\0\0\0\1\0\0\0\4disk' >&$client
+  printf '\x25\x60\x95\x13\0\0\0\0\0\0\0\0\0\0\0\1\0\0\0\0\0\0\0\0\0\0\x10\0' >&$client
+  # the greeting, the answer to EXPORT_NAME, and a reply with its data
+  [ "$(timeout 10 head -c 4140 <&$client | wc -c)" = 4140 ]
+}
+joined=0
+for _ in $(seq 64); do join && joined=$((joined + 1)); done
 before=$(awk '{print $14 + $15}' "/proc/$server/stat")
 sleep 2
 after=$(awk '{print $14 + $15}' "/proc/$server/stat")
-check "an idle server uses no processor time ($((after - before)) ticks in 2 s)" test "$before" = "$after"
+check "64 clients were answered and stay connected ($joined)" test "$joined" = 64
+check "with these, idle, the server uses no processor time ($((after - before)) ticks in 2 s)" test "$before" = "$after"
 echo "$failed failed"
 [ "$failed" = 0 ]
