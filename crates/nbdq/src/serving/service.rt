@@ -41,6 +41,17 @@ pub struct LongWrite {
     other: Option<Moment>,
 }
 
+impl LongWrite {
+    /// When another session sent its latest.
+    fn by_another_than(&self, session: SessionId) -> Option<Moment> {
+        if self.session == session {
+            self.other
+        } else {
+            Some(self.at)
+        }
+    }
+}
+
 /// A server of disks in pages, and all that its threads share besides.
 #[derive(Drop)]
 pub struct Service<L: Ledger> {
@@ -126,19 +137,19 @@ impl<L: Ledger> Service<L> {
     pub fn is_alone<R: Wait>(&self, rt: &R, session: SessionId, now: Moment) -> bool {
         let mut latest = self.latest_long.lock(rt);
         let other = match &*latest {
-            Some(last) if last.session == session => last.other,
-            Some(last) => Some(last.at),
+            Some(last) => last.by_another_than(session),
             None => None,
+        };
+        let alone = match &other {
+            Some(at) => until(*at, now) > Duration::from_millis(LATELY),
+            None => true,
         };
         *latest = Some(LongWrite {
             session,
             at: now,
             other,
         });
-        match other {
-            Some(at) => until(at, now) > Duration::from_millis(LATELY),
-            None => true,
-        }
+        alone
     }
 
     /// The session is dropped. Where it is gone already, all stays.
