@@ -5,6 +5,7 @@ mod ahead;
 mod bells;
 mod connection;
 mod hold_clock;
+mod light;
 mod line;
 mod listener;
 mod lobby;
@@ -22,6 +23,7 @@ mod writer;
 
 use bells::Bells;
 use connection::serve_clients;
+use light::LightLoad;
 use listener::{Entrance, Listener, may_pass};
 use nbd_base::NoMemory;
 use nbd_commands::Config;
@@ -35,7 +37,7 @@ use std::alloc::{AllocError, AllocFailed, Global};
 use std::marker::Brand;
 use std::net::{TcpListener, TcpStream};
 use std::os::unix::net::UnixListener;
-use std::sync::atomic::{AtomicBool, AtomicUsize, Ordering};
+use std::sync::atomic::{AtomicBool, Ordering};
 use std::sync::ledger::{Blank, Ledger};
 use std::sync::{Mutex, Wait};
 use std::thread::{Threads, available_parallelism};
@@ -164,7 +166,7 @@ fn serve_booked<L: Ledger + Send + Sync, R: Wait + Threads + Sync + time::Clock>
         start: Instant::now(rt).ok(),
         closed: AtomicBool::new(false),
         taken: AtomicBool::new(false),
-        light: AtomicUsize::new(0),
+        light: LightLoad::new(),
         latest_long: Mutex::new(None),
         is_wide: available_parallelism(rt).map_or(false, |count| count.get() >= PROCESSORS),
     };

@@ -2,7 +2,6 @@
 ghost use Rattle.std.specs.Prelude.{◌≤◌, length};
 
 use super::line::Line;
-use super::port::rest_after;
 use nbd_base::NoMemory;
 use nbd_workers::Bell;
 use std::alloc::Global;
@@ -24,7 +23,7 @@ const LITTLE: usize = 16_384;
 
 const FEW: usize = 2;
 
-/// So many bytes of one read are many: behind it the thread lets others run.
+/// So many bytes of one read are many: behind it the thread rests.
 const MANY: usize = 65_536;
 
 /// What one read gave.
@@ -287,7 +286,7 @@ impl<R: Wait> Read for Feed<'_, '_, R> {
         }
         let mut peer = self.line.peer;
         let came = peer.read(buf);
-        rest_after(&came, MANY);
+        self.line.light.rest_after(&came, MANY);
         came
     }
 }

@@ -96,11 +96,12 @@ fn line_of<'a, L: Ledger>(
     patient: &'a AtomicBool,
     session: SessionId,
 ) -> Result<Line<'a>, NoMemory> {
-    let outlet = Outlet::new(service.alloc, peer, patient)?;
+    let light = &service.light;
+    let outlet = Outlet::new(service.alloc, peer, patient, light)?;
     let stage = Stage::new(service.alloc)?;
     let ahead = Ahead::new(service.alloc)?;
     let replies = service.bells.replies(session);
-    Ok(Line::new(session, peer, outlet, stage, ahead, replies))
+    Ok(Line::new(session, peer, outlet, stage, ahead, replies, light))
 }
 
 /// The writer has a thread of its own, the reader this one.

@@ -1,6 +1,7 @@
 //! What the threads of a session share: the session, its bells, and where its replies go out.
 
 use super::ahead::Ahead;
+use super::light::LightLoad;
 use super::port::{Port, is_late};
 use super::service::{Disks, Service};
 use super::stage::{Ready, Stage, take_one};
@@ -54,6 +55,8 @@ pub struct Line<'a> {
     pub ahead: Ahead,
     /// Rung where the session has a reply, or has left.
     pub replies: &'a Bell,
+    /// The sessions that ask for little.
+    pub light: &'a LightLoad,
     /// Rung where a reply was taken.
     pub room: Bell,
     /// How many requests were handed in.
@@ -99,6 +102,7 @@ impl<'a> Line<'a> {
         stage: Stage,
         ahead: Ahead,
         replies: &'a Bell,
+        light: &'a LightLoad,
     ) -> Line<'a> {
         Line {
             session,
@@ -107,6 +111,7 @@ impl<'a> Line<'a> {
             stage,
             ahead,
             replies,
+            light,
             room: Bell::new(),
             arrived: AtomicU64::new(0),
             taken: AtomicU64::new(0),
@@ -206,8 +211,10 @@ impl<'a> Outlet<'a> {
         alloc: Global,
         peer: &'a TcpStream,
         patient: &'a AtomicBool,
+        light: &'a LightLoad,
     ) -> Result<Outlet<'a>, NoMemory> {
-        let Ok(writer) = BufWriter::with_capacity(alloc, OUTLET, Port::new(peer, patient)) else {
+        let port = Port::new(peer, patient, light);
+        let Ok(writer) = BufWriter::with_capacity(alloc, OUTLET, port) else {
             return Err(NoMemory);
         };
         Ok(Outlet {

@@ -1,12 +1,12 @@
 //! A client's socket, as replies go out to it.
 
+use super::light::LightLoad;
 use std::io;
 use std::io::{ErrorKind, Write};
 use std::net::TcpStream;
 use std::sync::atomic::{AtomicBool, Ordering};
-use std::thread::yield_now;
 
-/// So many bytes of one write are many: behind it the thread lets others run.
+/// So many bytes of one write are many: behind it the thread rests.
 const MANY: usize = 196_608;
 
 /// A client's socket, whose write timeout says how long a write waits for a client that doesn't read.
@@ -15,11 +15,16 @@ pub struct Port<'a> {
     peer: &'a TcpStream,
     // Whether a write that waited so long goes on.
     patient: &'a AtomicBool,
+    light: &'a LightLoad,
 }
 
 impl<'a> Port<'a> {
-    pub fn new(peer: &'a TcpStream, patient: &'a AtomicBool) -> Port<'a> {
-        Port { peer, patient }
+    pub fn new(peer: &'a TcpStream, patient: &'a AtomicBool, light: &'a LightLoad) -> Port<'a> {
+        Port {
+            peer,
+            patient,
+            light,
+        }
     }
 }
 
@@ -30,7 +35,7 @@ impl Write for Port<'_> {
             match peer.write(buf) {
                 Err(error) if self.patient.load(Ordering::SeqCst) && is_late(&error) => {}
                 written => {
-                    rest_after(&written, MANY);
+                    self.light.rest_after(&written, MANY);
                     return written;
                 }
             }
@@ -46,14 +51,4 @@ impl Write for Port<'_> {
 /// Whether a write failed since the client didn't read in time.
 pub fn is_late(error: &io::Error) -> bool {
     error.kind() == ErrorKind::WouldBlock
-}
-
-/// Lets other threads run where so many bytes were read or written at once. Beside clients that move much all processors are busy,
-/// and each of their threads would run for milliseconds before that of a client which asks for little gets its turn.
-pub fn rest_after(moved: &io::Result<usize>, many: usize) {
-    if let Ok(count) = moved {
-        if *count >= many {
-            yield_now();
-        }
-    }
 }

@@ -20,7 +20,7 @@ use std::sync::{MutexGuard, Wait};
 use std::thread::Scope;
 use std::time;
 use std::time::Duration;
-use tag_clock::Clock;
+use tag_clock::{Clock, Moment};
 
 /// The longest data, in bytes, of a READ that a reader performs itself, and of a WRITE that isn't long.
 const SHORT: u32 = 16_384;
@@ -315,8 +315,8 @@ fn read_on<L: Ledger, R: Wait + time::Clock>(
         Some(outlet) => outlet.unwritten(),
         None => 0,
     };
-    line.note_load(is_long(&offer) || intake.frames.is_ready());
     let asked = clock.now();
+    note_load(service, line, &offer, intake.frames.is_ready(), asked);
     let mut disks = service.hold(rt, line.is_heavy());
     let held = HoldClock::at(clock.now());
     let most = if until(asked, held.now()) > Duration::from_micros(LONG_WAIT) {
@@ -360,6 +360,34 @@ fn read_on<L: Ledger, R: Wait + time::Clock>(
     }
     let ahead = came.writes && service.is_wide && service.is_alone(rt, line.session, held.now());
     (came.turn, ahead)
+}
+
+/// Notes what the session asks for at this moment: much, where its request has long data or more are ready, and else little.
+fn note_load<L: Ledger>(
+    service: &Service<L>,
+    line: &Line<'_>,
+    offer: &Offer,
+    more: bool,
+    now: Moment,
+) {
+    if is_over(offer) {
+        return;
+    }
+    let heavy = more || is_long(offer);
+    line.note_load(heavy);
+    if heavy {
+        service.light.forget(now);
+    } else {
+        service.light.note(now);
+    }
+}
+
+/// Whether the client sends no more requests.
+fn is_over(offer: &Offer) -> bool {
+    match offer {
+        Offer::Read(Frame::Ended(_)) => true,
+        _ => false,
+    }
 }
 
 /// Whether what is offered is a request with long data.

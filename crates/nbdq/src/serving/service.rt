@@ -1,6 +1,7 @@
 //! What the threads of a server share.
 
 use super::bells::Bells;
+use super::light::LightLoad;
 use super::passes::PassPool;
 use super::running_clock::RunningClock;
 use eligibility::Heaped;
@@ -12,7 +13,7 @@ use server_lock::{Booked, Pass, Shared};
 use std::alloc::Global;
 use std::cell::Cell;
 use std::hint::spin_loop;
-use std::sync::atomic::{AtomicBool, AtomicUsize, Ordering};
+use std::sync::atomic::{AtomicBool, Ordering};
 use std::sync::ledger::Ledger;
 use std::sync::{Mutex, MutexGuard, Wait};
 use std::thread::yield_now;
@@ -68,8 +69,8 @@ pub struct Service<L: Ledger> {
     /// Whether the server is held, more or less. Who looks for it reads this, which disturbs nobody; each try to hold it takes a part of
     /// the server out of the cache of the processor that holds it.
     pub taken: AtomicBool,
-    /// How many ask for the server who have little to do there.
-    pub light: AtomicUsize,
+    /// The sessions that ask for little.
+    pub light: LightLoad,
     pub latest_long: Mutex<Option<LongWrite>>,
     /// Whether there are processors enough to read a client's bytes ahead.
     pub is_wide: bool,
@@ -85,9 +86,9 @@ impl<L: Ledger> Service<L> {
         if heavy {
             return self.look_or_wait(rt, true);
         }
-        self.light.fetch_add(1, Ordering::SeqCst);
+        self.light.begin();
         let held = self.look_or_wait(rt, false);
-        self.light.fetch_sub(1, Ordering::SeqCst);
+        self.light.end();
         held
     }
 
@@ -122,7 +123,7 @@ impl<L: Ledger> Service<L> {
     /// The server, where it is free at one of some looks, and, where that is asked for, nobody wants it who has little to do there.
     fn look(&self, heavy: bool) -> Option<MutexGuard<'_, Disks<L>>> {
         for _ in 0..LOOKS {
-            let yields = heavy && self.light.load(Ordering::SeqCst) > 0;
+            let yields = heavy && self.light.is_asking();
             if !yields && !self.taken.load(Ordering::SeqCst) {
                 if let Some(held) = self.shared.try_hold() {
                     return Some(held);

@@ -1,6 +1,7 @@
 //! Whole conversations with a running server, over loopback and over a Unix socket.
 
 use super::ahead::{Ahead, Feed};
+use super::light::LightLoad;
 use super::line::{Line, Outlet};
 use super::lobby::Lobby;
 use super::stage::Stage;
@@ -15,6 +16,7 @@ use std::net::TcpStream;
 use std::os::unix::net::UnixStream;
 use std::test::Fail;
 use std::{fs, io};
+use tag_clock::Moment;
 
 const CREW: Crew = Crew {
     workers: 4,
@@ -302,11 +304,12 @@ fn fed<R: Wait + Threads + Sync>(
         number: 0,
     };
     let patient = AtomicBool::new(false);
-    let outlet = Outlet::new(alloc, peer, &patient);
+    let light = LightLoad::new();
+    let outlet = Outlet::new(alloc, peer, &patient, &light);
     let (Ok(outlet), Ok(stage), Ok(ahead)) = (outlet, Stage::new(alloc), Ahead::new(alloc)) else {
         return Ok((0, false));
     };
-    let line = &Line::new(session, peer, outlet, stage, ahead, &bell);
+    let line = &Line::new(session, peer, outlet, stage, ahead, &bell, &light);
     thread::scope(thread::scope_env(), rt, |scope| {
         let started = line.ahead.wants_thread()
             && scope
@@ -356,6 +359,28 @@ fn bytes_that_are_read_ahead(rt: HostRuntime) -> Result<(), Fail> {
     );
     assert!(rt; sent.is_ok());
     assert_eq!(rt; told?, (3_000_000, true));
+    Ok(())
+}
+
+/// Whether a session is expected that asked for little at the moment 5, and who is still expected at another.
+fn expected_at(nanoseconds: u64) -> Option<(bool, bool, bool)> {
+    let light = LightLoad::new();
+    let before = light.is_expected();
+    light.note(Moment::new(5)?);
+    let noted = light.is_expected();
+    light.forget(Moment::new(nanoseconds)?);
+    Some((before, noted, light.is_expected()))
+}
+
+#[test]
+fn a_session_that_asked_for_little(rt: HostRuntime) -> Result<(), Fail> {
+    assert_eq!(rt; expected_at(1_000_000_005), Some((false, true, true)));
+    assert_eq!(rt; expected_at(1_000_000_006), Some((false, true, false)));
+    let light = LightLoad::new();
+    light.begin();
+    assert!(rt; light.is_asking());
+    light.end();
+    assert!(rt; !light.is_asking());
     Ok(())
 }
 

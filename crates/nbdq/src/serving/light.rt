@@ -1,0 +1,77 @@
+//! Sessions that ask for little, which those that move much let go first.
+
+use std::io;
+use std::sync::atomic::{AtomicBool, AtomicU64, AtomicUsize, Ordering};
+use std::thread::yield_now;
+use tag_clock::Moment;
+
+/// For how many nanoseconds a session that asked for little is expected to ask again.
+const LATELY: u64 = 1_000_000_000;
+
+/// What the threads of a server know of the sessions that ask for little.
+#[derive(Drop)]
+pub struct LightLoad {
+    // How many of them ask for the server.
+    asking: AtomicUsize,
+    // When one asked last, in nanoseconds, and whether that was lately, more or less: this is what threads look at all the time.
+    latest: AtomicU64,
+    expected: AtomicBool,
+}
+
+impl LightLoad {
+    /// None has asked yet.
+    pub fn new() -> LightLoad {
+        LightLoad {
+            asking: AtomicUsize::new(0),
+            latest: AtomicU64::new(0),
+            expected: AtomicBool::new(false),
+        }
+    }
+
+    /// One asks for the server, until `end`.
+    pub fn begin(&self) {
+        self.asking.fetch_add(1, Ordering::SeqCst);
+    }
+
+    /// It asks no longer.
+    pub fn end(&self) {
+        self.asking.fetch_sub(1, Ordering::SeqCst);
+    }
+
+    /// Whether one asks for the server.
+    pub fn is_asking(&self) -> bool {
+        self.asking.load(Ordering::SeqCst) > 0
+    }
+
+    /// A session asks for little.
+    pub fn note(&self, now: Moment) {
+        self.latest.store(now.nanoseconds(), Ordering::SeqCst);
+        if !self.is_expected() {
+            self.expected.store(true, Ordering::SeqCst);
+        }
+    }
+
+    /// None is expected any more where the last asked long ago.
+    pub fn forget(&self, now: Moment) {
+        let latest = self.latest.load(Ordering::SeqCst);
+        if self.is_expected() && now.nanoseconds().saturating_sub(latest) > LATELY {
+            self.expected.store(false, Ordering::SeqCst);
+        }
+    }
+
+    /// Whether a session asked for little lately.
+    pub fn is_expected(&self) -> bool {
+        self.expected.load(Ordering::SeqCst)
+    }
+
+    /// Lets other threads run where so many bytes were read or written at once, and a session is expected that asks for little. Beside
+    /// clients that move much all processors are busy, and each of their threads would run for milliseconds before that of such a
+    /// session gets its turn. Where there is none each rest would only cost time.
+    pub fn rest_after(&self, moved: &io::Result<usize>, many: usize) {
+        if let Ok(count) = moved {
+            if *count >= many && self.is_expected() {
+                yield_now();
+            }
+        }
+    }
+}
