@@ -19,6 +19,7 @@ mod stage;
 #[cfg(test)]
 mod tests;
 mod warming;
+mod watch;
 mod writer;
 
 use bells::Bells;

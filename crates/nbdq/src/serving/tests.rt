@@ -5,6 +5,7 @@ use super::light::LightLoad;
 use super::line::{Line, Outlet};
 use super::lobby::Lobby;
 use super::stage::Stage;
+use super::watch::Watch;
 use super::*;
 use nbd_commands::{ExportList, ExportSettings};
 use nbd_wire::protocol::{READ, WRITE};
@@ -13,6 +14,7 @@ use nbd_workers::Bell;
 use server_core::SessionId;
 use std::io::{Read, Write};
 use std::net::TcpStream;
+use std::os::fd::OwnedFd;
 use std::os::unix::net::UnixStream;
 use std::test::Fail;
 use std::{fs, io};
@@ -381,6 +383,24 @@ fn a_session_that_asked_for_little(rt: HostRuntime) -> Result<(), Fail> {
     assert!(rt; light.is_asking());
     light.end();
     assert!(rt; !light.is_asking());
+    Ok(())
+}
+
+/// Whether bytes came when a socket was looked at before one was sent, and at three looks after it.
+fn watched(rt: &HostRuntime) -> io::Result<(bool, [bool; 3])> {
+    let (here, mut there) = UnixStream::pair(rt)?;
+    let peer = &TcpStream::from(OwnedFd::from(here));
+    let mut watch = Watch::new();
+    let before = watch.look(peer);
+    there.write_all(b"x")?;
+    let after = [watch.look(peer), watch.look(peer), watch.look(peer)];
+    Ok((before, after))
+}
+
+#[test]
+fn a_socket_that_is_watched(rt: HostRuntime) -> Result<(), Fail> {
+    // Since nothing came at first, the next read isn't watched.
+    assert_eq!(rt; watched(&rt)?, (false, [false, true, true]));
     Ok(())
 }
 
