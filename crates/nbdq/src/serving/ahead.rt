@@ -207,9 +207,7 @@ pub struct Feed<'a, 'b, R: Wait> {
     // The piece that is read from, and how many of its bytes were.
     piece: Option<Piece>,
     used: usize,
-    // The socket, and whether the latest read of it left no room: then more has mostly come already.
     watch: Watch,
-    filled: bool,
 }
 
 impl<'a, 'b, R: Wait> Feed<'a, 'b, R> {
@@ -220,7 +218,6 @@ impl<'a, 'b, R: Wait> Feed<'a, 'b, R> {
             piece: None,
             used: 0,
             watch: Watch::new(),
-            filled: false,
         }
     }
 
@@ -291,20 +288,11 @@ impl<R: Wait> Read for Feed<'_, '_, R> {
             return Ok(count);
         }
         let mut peer = self.line.peer;
-        if !self.filled {
+        if !self.line.is_heavy() {
             self.watch.look(peer);
         }
         let came = peer.read(buf);
-        self.filled = fills(&came, buf.len());
         self.line.light.rest_after(&came, MANY);
         came
-    }
-}
-
-/// Whether a read left no room.
-fn fills(came: &io::Result<usize>, room: usize) -> bool {
-    match came {
-        Ok(count) => *count == room,
-        Err(_) => false,
     }
 }
