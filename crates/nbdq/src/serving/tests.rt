@@ -386,7 +386,7 @@ fn a_session_that_asked_for_little(rt: HostRuntime) -> Result<(), Fail> {
     Ok(())
 }
 
-/// Whether something came when a socket was looked at before a byte was sent, and at how many of ten looks after it.
+/// Whether something came when a socket was looked at before a byte was sent, and at how many of twelve looks after it.
 fn watched(rt: &HostRuntime) -> io::Result<(bool, usize)> {
     let (here, mut there) = UnixStream::pair(rt)?;
     let peer = &TcpStream::from(OwnedFd::from(here));
@@ -394,7 +394,7 @@ fn watched(rt: &HostRuntime) -> io::Result<(bool, usize)> {
     let before = watch.look(peer);
     there.write_all(b"x")?;
     let mut after = 0usize;
-    for _ in 0..10 {
+    for _ in 0..12 {
         if watch.look(peer) {
             after = after.saturating_add(1);
         }
@@ -405,7 +405,7 @@ fn watched(rt: &HostRuntime) -> io::Result<(bool, usize)> {
 #[test]
 fn a_socket_that_is_watched(rt: HostRuntime) -> Result<(), Fail> {
     // Since nothing came at first, the socket isn't looked at for eight reads.
-    assert_eq!(rt; watched(&rt)?, (false, 2));
+    assert_eq!(rt; watched(&rt)?, (false, 4));
     Ok(())
 }
 
