@@ -21,8 +21,7 @@ use std::time;
 use std::time::{Duration, Instant};
 use tag_clock::{Clock, Moment};
 
-/// How often it is looked for while other threads run in between: for a millisecond and more, since whoever holds it may be without a
-/// processor for so long. `Shared::hold`, which is left then, tries to lock it each time, which takes it out of the holder's cache.
+/// How often it is looked for while other threads run in between. `Shared::hold`, which is left then, tries the lock itself at each look.
 const TRIES: usize = 512;
 
 /// How often it is looked at in a row before other threads run.
