@@ -8,6 +8,7 @@ mod hold_clock;
 mod light;
 mod line;
 mod listener;
+mod load;
 mod lobby;
 mod passes;
 mod port;
@@ -24,6 +25,8 @@ mod writer;
 
 use bells::Bells;
 use connection::serve_clients;
+use eligibility::Heaped;
+use export_store::Paged;
 use light::LightLoad;
 use listener::{Entrance, Listener, may_pass};
 use nbd_base::NoMemory;
@@ -32,7 +35,7 @@ use nbd_session::table_of;
 use nbd_workers::work;
 use passes::PassPool;
 use server_core::Server;
-use server_lock::{Shared, settle};
+use server_lock::{Pass, Shared, settle};
 use service::{Service, ServiceGate};
 use std::alloc::{AllocError, AllocFailed, Global};
 use std::marker::Brand;
@@ -156,21 +159,7 @@ fn serve_booked<L: Ledger + Send + Sync, R: Wait + Threads + Sync + time::Clock>
     let Ok((shared, passes)) = Shared::<L, _, _>::new(alloc, server, blank, passes) else {
         return Err(ServeFault::NoMemory);
     };
-    // The C library gives no block of this size back to the system from now on, which would cost more than the copies.
-    drop(Vec::<u8>::with_capacity(alloc, LARGEST)?);
-    let service = Service {
-        alloc,
-        shared,
-        passes: PassPool::new(passes),
-        bells: Bells::new(alloc, config)?,
-        table: table_of(alloc, config.exports())?,
-        start: Instant::now(rt).ok(),
-        closed: AtomicBool::new(false),
-        taken: AtomicBool::new(false),
-        light: LightLoad::new(),
-        latest_long: Mutex::new(None),
-        is_wide: available_parallelism(rt).map_or(false, |count| count.get() >= PROCESSORS),
-    };
+    let service = service_of(rt, alloc, config, shared, passes)?;
     let listened = run_threads(rt, &service, entrances, crew);
     let Service { shared, passes, .. } = service;
     let booked = shared.end();
@@ -182,6 +171,31 @@ fn serve_booked<L: Ledger + Send + Sync, R: Wait + Threads + Sync + time::Clock>
         return Err(ServeFault::NoMemory);
     }
     Ok(settle(booked, passes))
+}
+
+/// What the threads share.
+fn service_of<L: Ledger, R: Threads + time::Clock>(
+    rt: &R,
+    alloc: Global,
+    config: &Config<Global>,
+    shared: Shared<L, Paged<Global>, Heaped<Global>>,
+    passes: Vec<Pass<L>>,
+) -> Result<Service<L>, ServeFault> {
+    // The C library gives no block of this size back to the system from now on, which would cost more than the copies.
+    drop(Vec::<u8>::with_capacity(alloc, LARGEST)?);
+    Ok(Service {
+        alloc,
+        shared,
+        passes: PassPool::new(passes),
+        bells: Bells::new(alloc, config)?,
+        table: table_of(alloc, config.exports())?,
+        start: Instant::now(rt).ok(),
+        closed: AtomicBool::new(false),
+        taken: AtomicBool::new(false),
+        light: LightLoad::new(),
+        latest_long: Mutex::new(None),
+        is_wide: available_parallelism(rt).map_or(false, |count| count.get() >= PROCESSORS),
+    })
 }
 
 /// All threads: returns once each has ended. False where a listener failed, or its thread couldn't be had.

@@ -271,6 +271,11 @@ fn command_lines(rt: HostRuntime) {
             Ok(Job::Task(Task::Replay))
         )
     );
+}
+
+#[test]
+fn command_lines_that_are_refused(rt: HostRuntime) {
+    let alloc = rt.alloc();
     for (words, kind) in [
         (["nbdq"].as_slice(), ErrorKind::MissingSubcommand),
         (&["nbdq", "--help"], ErrorKind::DisplayHelp),

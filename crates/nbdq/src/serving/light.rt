@@ -1,5 +1,6 @@
 //! Sessions that ask for little, which those that move much let go first.
 
+use super::load::Load;
 use std::io;
 use std::sync::atomic::{AtomicBool, AtomicU64, AtomicUsize, Ordering};
 use std::thread::yield_now;
@@ -43,8 +44,16 @@ impl LightLoad {
         self.asking.load(Ordering::SeqCst) > 0
     }
 
-    /// A session asks for little.
-    pub fn note(&self, now: Moment) {
+    /// A session asks for so much.
+    pub fn note(&self, load: Load, now: Moment) {
+        match load {
+            Load::Light => self.expect(now),
+            Load::Heavy => self.forget(now),
+        }
+    }
+
+    /// One that asked for little may ask again.
+    fn expect(&self, now: Moment) {
         self.latest.store(now.nanoseconds(), Ordering::SeqCst);
         if !self.is_expected() {
             self.expected.store(true, Ordering::SeqCst);
@@ -52,7 +61,7 @@ impl LightLoad {
     }
 
     /// None is expected any more where the last asked long ago.
-    pub fn forget(&self, now: Moment) {
+    fn forget(&self, now: Moment) {
         let latest = self.latest.load(Ordering::SeqCst);
         if self.is_expected() && now.nanoseconds().saturating_sub(latest) > LATELY {
             self.expected.store(false, Ordering::SeqCst);

@@ -2,6 +2,7 @@
 
 use super::ahead::Ahead;
 use super::light::LightLoad;
+use super::load::Load;
 use super::port::{Port, is_late};
 use super::service::{Disks, Service};
 use super::stage::{Ready, Stage, take_one};
@@ -135,8 +136,9 @@ impl<'a> Line<'a> {
         }
     }
 
-    /// Whether the client asks for long data, or sends several requests at a time.
-    pub fn note_load(&self, heavy: bool) {
+    /// The session asks for so much.
+    pub fn note_load(&self, load: Load) {
+        let heavy = load == Load::Heavy;
         if self.is_heavy() != heavy {
             self.heavy.store(heavy, Ordering::SeqCst);
         }
@@ -165,7 +167,7 @@ impl<'a> Line<'a> {
         }
     }
 
-    /// What was noted last.
+    /// Whether it asked for much when that was noted last.
     pub fn is_heavy(&self) -> bool {
         self.heavy.load(Ordering::SeqCst)
     }

@@ -3,6 +3,7 @@
 use super::ahead::Feed;
 use super::hold_clock::HoldClock;
 use super::line::{Line, Outlet, PATIENCE, Sent};
+use super::load::{Handed, Load};
 use super::service::{Disks, Service};
 use super::shift::{Asked, Shift};
 use super::stage::make_ready;
@@ -10,7 +11,6 @@ use super::warming::touch_next;
 use export_cell::Outdated;
 use nbd_base::NoMemory;
 use nbd_session::{Counted, Frame, FrameReader, Stop, Turn, hand_in, offer_held, read_ready};
-use nbd_wire::protocol::{READ, WRITE};
 use nbd_wire::{Request, RequestHead};
 use nbd_workers::until;
 use server_lock::{AnswerTrace, EventTrace, Pass, Trace};
@@ -21,11 +21,6 @@ use std::thread::Scope;
 use std::time;
 use std::time::Duration;
 use tag_clock::{Clock, Moment};
-
-/// The longest data, in bytes, of a READ that a reader performs itself, and of a WRITE that isn't long.
-const SHORT: u32 = 16_384;
-
-const SHORT_WRITE: u32 = 65_535;
 
 /// How many requests a reader mostly hands in under one hold of the server: what a hold costs is shared by them, and whoever waits
 /// for it waits for no more than these.
@@ -57,11 +52,25 @@ enum Offer {
     Again(Request<Global>),
 }
 
+impl Offer {
+    /// The head of the request. None where the client sends no more.
+    fn head(&self) -> Option<RequestHead> {
+        match self {
+            Offer::Read(Frame::Whole(request)) | Offer::Again(request) => Some(request.head()),
+            Offer::Read(Frame::Ended(_)) => None,
+        }
+    }
+}
+
 /// What a reader's hold of the server came to.
 #[derive(Drop)]
 struct Came {
+    /// When it began.
+    at: Moment,
     /// The last of its turns.
     turn: Turn<Global>,
+    /// What each of its turns handed in. Nothing where that isn't the same.
+    handed: Handed,
     /// Why no more replies were taken after it. None where the writer takes them.
     stop: Option<Stop>,
     /// Whether a READ asks for long data: it is left to the writer.
@@ -84,27 +93,6 @@ struct Noted {
     handed: Handed,
     /// The request's number, where it wasn't answered at once.
     number: Option<u64>,
-}
-
-/// What a turn handed in.
-#[derive(Clone, Copy, Debug, PartialEq, Eq, Drop)]
-enum Handed {
-    Nothing,
-    /// A request with short data, or with none.
-    Short,
-    /// A READ that asks for long data.
-    LongRead,
-    /// A WRITE that carries long data.
-    LongWrite,
-}
-
-impl Handed {
-    fn is_long(self) -> bool {
-        match self {
-            Handed::LongRead | Handed::LongWrite => true,
-            Handed::Nothing | Handed::Short => false,
-        }
-    }
 }
 
 impl<'a, 'b, R: Wait> Intake<'a, 'b, R> {
@@ -138,36 +126,19 @@ impl<'a, 'b, R: Wait> Intake<'a, 'b, R> {
             Offer::Read(frame) => hand_in(disks, pass, line.session, frame, clock),
             Offer::Again(request) => offer_held(disks, pass, line.session, request, clock),
         };
-        let mut noted = noted_of(&turn, pass.last());
+        let noted = noted_of(&turn, pass.last());
         self.follow(disks, service, line, pass, outlet, noted, clock);
-        let mut latest = noted.handed;
-        let mut came = Came {
-            turn,
-            stop: None,
-            reads: latest == Handed::LongRead,
-            writes: latest == Handed::LongWrite,
-            waits: false,
-            arrived: noted.arrived as u64,
-            touched,
-        };
+        let mut came = Came::first(clock.now(), turn, noted, touched);
         for _ in 1..most {
-            if latest == Handed::Nothing || self.shift.served_others() {
+            if came.handed == Handed::Nothing || self.shift.served_others() {
                 break;
             }
             let Some(turn) = read_ready(disks, pass, line.session, &mut self.frames, clock) else {
                 break;
             };
-            noted = noted_of(&turn, pass.last());
+            let noted = noted_of(&turn, pass.last());
             self.follow(disks, service, line, pass, outlet, noted, clock);
-            came.turn = turn;
-            came.arrived = came.arrived.saturating_add(noted.arrived as u64);
-            came.writes = came.writes || noted.handed == Handed::LongWrite;
-            came.reads = came.reads || noted.handed == Handed::LongRead;
-            latest = if noted.handed == latest {
-                latest
-            } else {
-                Handed::Nothing
-            };
+            came.add(turn, noted);
         }
         if let Some(outlet) = outlet {
             came.stop = Some(outlet.take(disks, pass, line.session));
@@ -211,6 +182,34 @@ impl<'a, 'b, R: Wait> Intake<'a, 'b, R> {
     }
 }
 
+impl Came {
+    /// After its first turn.
+    fn first(at: Moment, turn: Turn<Global>, noted: Noted, touched: u64) -> Came {
+        Came {
+            at,
+            turn,
+            handed: noted.handed,
+            stop: None,
+            reads: noted.handed == Handed::LongRead,
+            writes: noted.handed == Handed::LongWrite,
+            waits: false,
+            arrived: noted.arrived as u64,
+            touched,
+        }
+    }
+
+    /// One more turn was made.
+    fn add(&mut self, turn: Turn<Global>, noted: Noted) {
+        self.turn = turn;
+        self.arrived = self.arrived.saturating_add(noted.arrived as u64);
+        self.writes = self.writes || noted.handed == Handed::LongWrite;
+        self.reads = self.reads || noted.handed == Handed::LongRead;
+        if noted.handed != self.handed {
+            self.handed = Handed::Nothing;
+        }
+    }
+}
+
 /// What a turn came to, by what its pass was told last.
 fn noted_of(turn: &Turn<Global>, last: Option<Trace>) -> Noted {
     let mut noted = Noted {
@@ -229,18 +228,9 @@ fn noted_of(turn: &Turn<Global>, last: Option<Trace>) -> Noted {
         noted.number = Some(number);
     }
     if let EventTrace::Arrive { head, .. } = event {
-        noted.handed = handed_by(head);
+        noted.handed = Handed::by(head);
     }
     noted
-}
-
-/// What a request is, by its head.
-fn handed_by(head: RequestHead) -> Handed {
-    match head.kind {
-        READ if head.length > SHORT => Handed::LongRead,
-        WRITE if head.length > SHORT_WRITE => Handed::LongWrite,
-        _ => Handed::Short,
-    }
 }
 
 /// Reads requests until there are no more. Each goes in under one hold of the server, with others that are at hand, and is
@@ -309,36 +299,12 @@ fn read_on<L: Ledger, R: Wait + time::Clock>(
     pass: &mut Pass<L>,
     offer: Offer,
 ) -> (Turn<Global>, bool) {
-    let clock = service.clock(rt);
     let mut outlet = line.outlet.try_lock();
     let before = match &outlet {
         Some(outlet) => outlet.unwritten(),
         None => 0,
     };
-    let asked = clock.now();
-    note_load(service, line, &offer, intake.frames.is_ready(), asked);
-    let mut disks = service.hold(rt, line.is_heavy());
-    let held = HoldClock::at(clock.now());
-    let most = if until(asked, held.now()) > Duration::from_micros(LONG_WAIT) {
-        IN_A_ROW
-    } else {
-        TOGETHER
-    };
-    let came = intake.come_in(
-        &mut *disks,
-        service,
-        line,
-        pass,
-        &mut outlet,
-        offer,
-        most,
-        &held,
-    );
-    service.let_go(disks);
-    line.note_arrived(came.arrived);
-    intake.outdated.let_go();
-    line.note_touched(came.touched);
-    intake.shift.tell(&service.bells);
+    let came = hold_once(rt, service, line, intake, pass, &mut outlet, offer);
     let busy = outlet.is_none();
     let written = match outlet {
         Some(mut outlet) => {
@@ -358,11 +324,40 @@ fn read_on<L: Ledger, R: Wait + time::Clock>(
     if came.waits && !came.reads {
         service.bells.work.ring_one();
     }
-    let ahead = came.writes && service.is_wide && service.is_alone(rt, line.session, held.now());
+    let ahead = came.writes && service.is_wide && service.is_alone(rt, line.session, came.at);
     (came.turn, ahead)
 }
 
-/// Notes what the session asks for at this moment: much, where its request has long data or more are ready, and else little.
+/// Hands in what is offered, and requests that were read besides, under one hold of the server.
+fn hold_once<L: Ledger, R: Wait + time::Clock>(
+    rt: &R,
+    service: &Service<L>,
+    line: &Line<'_>,
+    intake: &mut Intake<'_, '_, R>,
+    pass: &mut Pass<L>,
+    outlet: &mut Option<MutexGuard<'_, Outlet<'_>>>,
+    offer: Offer,
+) -> Came {
+    let clock = service.clock(rt);
+    let asked = clock.now();
+    note_load(service, line, &offer, intake.frames.is_ready(), asked);
+    let mut disks = service.hold(rt, line.is_heavy());
+    let held = HoldClock::at(clock.now());
+    let most = if until(asked, held.now()) > Duration::from_micros(LONG_WAIT) {
+        IN_A_ROW
+    } else {
+        TOGETHER
+    };
+    let came = intake.come_in(&mut *disks, service, line, pass, outlet, offer, most, &held);
+    service.let_go(disks);
+    line.note_arrived(came.arrived);
+    intake.outdated.let_go();
+    line.note_touched(came.touched);
+    intake.shift.tell(&service.bells);
+    came
+}
+
+/// Notes how much the session asks for at this moment.
 fn note_load<L: Ledger>(
     service: &Service<L>,
     line: &Line<'_>,
@@ -370,33 +365,12 @@ fn note_load<L: Ledger>(
     more: bool,
     now: Moment,
 ) {
-    if is_over(offer) {
+    let Some(head) = offer.head() else {
         return;
-    }
-    let heavy = more || is_long(offer);
-    line.note_load(heavy);
-    if heavy {
-        service.light.forget(now);
-    } else {
-        service.light.note(now);
-    }
-}
-
-/// Whether the client sends no more requests.
-fn is_over(offer: &Offer) -> bool {
-    match offer {
-        Offer::Read(Frame::Ended(_)) => true,
-        _ => false,
-    }
-}
-
-/// Whether what is offered is a request with long data.
-fn is_long(offer: &Offer) -> bool {
-    let head = match offer {
-        Offer::Read(Frame::Whole(request)) | Offer::Again(request) => request.head(),
-        Offer::Read(Frame::Ended(_)) => return false,
     };
-    handed_by(head).is_long()
+    let load = Load::of(Handed::by(head), more);
+    line.note_load(load);
+    service.light.note(load, now);
 }
 
 fn is_going(turn: &Turn<Global>) -> bool {

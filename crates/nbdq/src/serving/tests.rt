@@ -3,12 +3,13 @@
 use super::ahead::{Ahead, Feed};
 use super::light::LightLoad;
 use super::line::{Line, Outlet};
+use super::load::{Handed, Load};
 use super::lobby::Lobby;
 use super::stage::Stage;
 use super::watch::Watch;
 use super::*;
 use nbd_commands::{ExportList, ExportSettings};
-use nbd_wire::protocol::{READ, WRITE};
+use nbd_wire::protocol::{READ, TRIM, WRITE};
 use nbd_wire::{RequestHead, write_head};
 use nbd_workers::Bell;
 use server_core::SessionId;
@@ -364,13 +365,13 @@ fn bytes_that_are_read_ahead(rt: HostRuntime) -> Result<(), Fail> {
     Ok(())
 }
 
-/// Whether a session is expected that asked for little at the moment 5, and who is still expected at another.
+/// Whether a session is expected before one asked for little at the moment 5, then, and where one asks for much at another.
 fn expected_at(nanoseconds: u64) -> Option<(bool, bool, bool)> {
     let light = LightLoad::new();
     let before = light.is_expected();
-    light.note(Moment::new(5)?);
+    light.note(Load::Light, Moment::new(5)?);
     let noted = light.is_expected();
-    light.forget(Moment::new(nanoseconds)?);
+    light.note(Load::Heavy, Moment::new(nanoseconds)?);
     Some((before, noted, light.is_expected()))
 }
 
@@ -383,6 +384,31 @@ fn a_session_that_asked_for_little(rt: HostRuntime) -> Result<(), Fail> {
     assert!(rt; light.is_asking());
     light.end();
     assert!(rt; !light.is_asking());
+    Ok(())
+}
+
+/// What a request is that asks for so many bytes, or brings them.
+fn handed(kind: u16, length: u32) -> Handed {
+    Handed::by(RequestHead {
+        flags: 0,
+        kind,
+        cookie: 1,
+        offset: 0,
+        length,
+    })
+}
+
+#[test]
+fn how_much_a_session_asks_for(rt: HostRuntime) -> Result<(), Fail> {
+    assert_eq!(rt; handed(READ, 16_384), Handed::Short);
+    assert_eq!(rt; handed(READ, 16_385), Handed::LongRead);
+    assert_eq!(rt; handed(WRITE, 65_535), Handed::Short);
+    assert_eq!(rt; handed(WRITE, 65_536), Handed::LongWrite);
+    assert_eq!(rt; handed(TRIM, 1_048_576), Handed::Short);
+    assert_eq!(rt; Load::of(Handed::Short, false), Load::Light);
+    assert_eq!(rt; Load::of(Handed::Short, true), Load::Heavy);
+    assert_eq!(rt; Load::of(Handed::LongRead, false), Load::Heavy);
+    assert_eq!(rt; Load::of(Handed::LongWrite, false), Load::Heavy);
     Ok(())
 }
 

@@ -22,6 +22,17 @@ enum Round {
     Over,
 }
 
+/// What a writer's hold of the server came to.
+#[derive(Clone, Copy, Debug, PartialEq, Eq, Drop)]
+struct Taken {
+    /// Why no more replies were taken.
+    stop: Stop,
+    /// Whether something waits to be chosen.
+    waits: bool,
+    /// Whether a request was performed.
+    performed: bool,
+}
+
 /// Writes replies until the session is over, and ends the connection. In between it serves what waits, so that a long reply
 /// is written by who has just made it.
 pub fn write_replies<L: Ledger, R: Wait + time::Clock>(
@@ -57,8 +68,7 @@ fn write_all<L: Ledger, R: Wait + time::Clock>(
     }
 }
 
-/// Takes the replies that are there, under one hold of the server, and writes them. Where none is there it performs a request
-/// first, whoever asked for it.
+/// Takes the replies that are there, under one hold of the server, and writes them.
 fn write_on<L: Ledger, R: Wait + time::Clock>(
     rt: &R,
     service: &Service<L>,
@@ -66,23 +76,16 @@ fn write_on<L: Ledger, R: Wait + time::Clock>(
     pass: &mut Pass<L>,
     shift: &mut Shift,
 ) -> Round {
-    let clock = service.clock(rt);
     let mut guard = line.outlet.lock(rt);
     let outlet = &mut *guard;
     if let Some(ready) = line.stage.take(rt) {
         return send_ready(rt, service, line, outlet, pass, ready);
     }
-    let before = outlet.unwritten();
-    let mut disks = service.hold(rt, line.is_heavy());
-    let mut stop = outlet.take(&mut *disks, pass, line.session);
-    if stop == Stop::Empty && outlet.unwritten() == 0 {
-        shift.serve_one(&mut *disks, &service.bells, pass, line.session, &clock);
-        stop = outlet.take(&mut *disks, pass, line.session);
-    }
-    let waits = disks.server().waiting() > 0;
-    service.let_go(disks);
-    line.note_taken(outlet.unwritten().saturating_sub(before));
-    let performed = shift.tell(&service.bells);
+    let Taken {
+        stop,
+        waits,
+        performed,
+    } = take_on(rt, service, line, outlet, pass, shift);
     let wrote = outlet.unwritten() > 0;
     if !outlet.write() {
         service.give_up(rt, line.session, pass);
@@ -103,6 +106,34 @@ fn write_on<L: Ledger, R: Wait + time::Clock>(
             service.give_up(rt, line.session, pass);
             Round::Over
         }
+    }
+}
+
+/// Takes the replies that are there. Where none is there it performs a request first, whoever asked for it.
+fn take_on<L: Ledger, R: Wait + time::Clock>(
+    rt: &R,
+    service: &Service<L>,
+    line: &Line<'_>,
+    outlet: &mut Outlet<'_>,
+    pass: &mut Pass<L>,
+    shift: &mut Shift,
+) -> Taken {
+    let clock = service.clock(rt);
+    let before = outlet.unwritten();
+    let mut disks = service.hold(rt, line.is_heavy());
+    let mut stop = outlet.take(&mut *disks, pass, line.session);
+    if stop == Stop::Empty && outlet.unwritten() == 0 {
+        shift.serve_one(&mut *disks, &service.bells, pass, line.session, &clock);
+        stop = outlet.take(&mut *disks, pass, line.session);
+    }
+    let waits = disks.server().waiting() > 0;
+    service.let_go(disks);
+    line.note_taken(outlet.unwritten().saturating_sub(before));
+    let performed = shift.tell(&service.bells);
+    Taken {
+        stop,
+        waits,
+        performed,
     }
 }
 
