@@ -1,7 +1,8 @@
 //! The words that the program is called with.
 
 ghost use Rattle.std.specs.Prelude.{◌≡◌, false, map, option_map, string_bytes, IfOk};
-ghost use Rattle.clap.specs.Words.{app_of, found_of, rows_of, rule_of, subcommand_name_of, subcommand_rows_of, with_subcommand, FailsBy};
+ghost use Rattle.clap.specs.declared.builder.command.Command.TheViews.{out-Command as fields_of};
+ghost use Rattle.clap.specs.Words.{app_of, found_of, new_app, rows_of, rule_of, subcommand_name_of, subcommand_rows_of, with_subcommand, FailsBy};
 ghost use Rattle.nbdq.specs.Asked.{faults_in, AsksFor, IsJob, IsServe};
 ghost use Rattle.nbdq.specs.Commands.{number_rule, numbers_up_to, option_rule, program, serve_command};
 
@@ -19,6 +20,25 @@ const CREW: Crew = Crew {
     workers: 4,
     sessions: 100_000,
 };
+
+// What help says of the program, of its commands, and of the options of `serve`.
+const PROGRAM: &str = "A Network Block Device server for disks held in memory";
+
+const CHECK: &str = "Say what the configuration on standard input sets up";
+
+const TALK: &str = "Hold the conversation of the script on standard input";
+
+const REPLAY: &str = "Make the events of the script on standard input";
+
+const SERVE: &str = "Serve the disks of the configuration on standard input";
+
+const TCP: &str = "Listen on an IP address and a port, as 127.0.0.1:10809";
+
+const UNIX: &str = "Listen on a Unix socket, whose file is made";
+
+const WORKERS: &str = "Threads that perform requests, 1 to 64 [default: 4]";
+
+const SESSIONS: &str = "Connections that each listener accepts, 1 to 1000000 [default: 100000]";
 
 /// What the program is asked to do.
 #[derive(Debug, Drop)]
@@ -112,11 +132,11 @@ fn kept(alloc: Global, word: Option<&str>) -> Result<Option<String>, AllocError>
 fn command<'a>(alloc: Global) -> Result<Command<'a>, AllocError>
     ensures { IfOk result (λ command. app_of command ≡ program) }
 {
-    let program = Command::new(alloc, "nbdq")
+    let program = new_command(alloc, "nbdq", PROGRAM)
         .subcommand_required(true)
-        .subcommand(Command::new(alloc, "check"))?
-        .subcommand(Command::new(alloc, "talk"))?
-        .subcommand(Command::new(alloc, "replay"))?;
+        .subcommand(new_command(alloc, "check", CHECK))?
+        .subcommand(new_command(alloc, "talk", TALK))?
+        .subcommand(new_command(alloc, "replay", REPLAY))?;
     with_serve(alloc, program)
 }
 
@@ -124,28 +144,39 @@ fn command<'a>(alloc: Global) -> Result<Command<'a>, AllocError>
 fn with_serve<'a>(alloc: Global, program: Command<'a>) -> Result<Command<'a>, AllocError>
     ensures { IfOk result (λ command. app_of command ≡ with_subcommand (app_of program.entry) serve_command.top) }
 {
-    let serve = Command::new(alloc, "serve")
-        .arg(option(alloc, "tcp", "ADDR"))?
-        .arg(option(alloc, "unix", "PATH"))?
-        .arg(number(alloc, "workers", workers()))?
-        .arg(number(alloc, "sessions", sessions()))?;
+    let serve = new_command(alloc, "serve", SERVE)
+        .arg(option(alloc, "tcp", "ADDR", TCP))?
+        .arg(option(alloc, "unix", "PATH", UNIX))?
+        .arg(number(alloc, "workers", WORKERS, workers()))?
+        .arg(number(alloc, "sessions", SESSIONS, sessions()))?;
     program.subcommand(serve)
 }
 
-/// `--NAME VALUE`.
-fn option<'a>(alloc: Global, name: &'a str, value: &'a str) -> Arg<'a>
+/// A command, and what help says of it.
+fn new_command<'a>(alloc: Global, name: &'a str, about: &'a str) -> Command<'a>
+    ensures app { app_of result ≡ new_app name.entry.now }
+    ensures local { (fields_of result).has_globals ≡ false }
+{
+    Command::new(alloc, name).about(about)
+}
+
+/// `--NAME VALUE`, and what help says of it.
+fn option<'a>(alloc: Global, name: &'a str, value: &'a str, help: &'a str) -> Arg<'a>
     ensures rule { rule_of result ≡ option_rule name.entry.now }
     ensures local { result.global ≡ false }
 {
-    Arg::new(alloc, name).long(name).value_name(value)
+    Arg::new(alloc, name)
+        .long(name)
+        .value_name(value)
+        .help(help)
 }
 
 /// `--NAME N`, of a number that this parser takes.
-fn number<'a>(alloc: Global, name: &'a str, parser: ValueParser<'a>) -> Arg<'a>
+fn number<'a>(alloc: Global, name: &'a str, help: &'a str, parser: ValueParser<'a>) -> Arg<'a>
     ensures rule { rule_of result ≡ number_rule name.entry.now parser.entry }
     ensures local { result.global ≡ false }
 {
-    option(alloc, name, "N").value_parser(parser)
+    option(alloc, name, "N", help).value_parser(parser)
 }
 
 fn workers<'a>() -> ValueParser<'a>

@@ -6,11 +6,11 @@ use Rattle.nbdq.proofs.command_line.with_serve.Goals as goal
 
 pub returns : goal.returns
 returns c =
-    let local_one = c.in_ok-arg.ensures.globals ∙ ap₂ ◌||◌ c.new.ensures.local c.option.ensures.local in
+    let local_one = c.in_ok-arg.ensures.globals ∙ ap₂ ◌||◌ c.new_command.ensures.local c.option.ensures.local in
     let local_two = c.in_ok-arg-2.ensures.globals ∙ ap₂ ◌||◌ local_one c.option-2.ensures.local in
     let local_three = c.in_ok-arg-3.ensures.globals ∙ ap₂ ◌||◌ local_two c.number.ensures.local in
     let local_four = c.in_ok-serve.ensures.globals ∙ ap₂ ◌||◌ local_three c.number-2.ensures.local in
-    let one = c.in_ok-arg.ensures.shape c.option.ensures.local ∙ ap₂ with_rule c.new.ensures.app c.option.ensures.rule in
+    let one = c.in_ok-arg.ensures.shape c.option.ensures.local ∙ ap₂ with_rule c.new_command.ensures.app c.option.ensures.rule in
     let two = c.in_ok-arg-2.ensures.shape c.option-2.ensures.local ∙ ap₂ with_rule one c.option-2.ensures.rule in
     let three =
     c.in_ok-arg-3.ensures.shape c.number.ensures.local ∙ ap₂ with_rule two (c.number.ensures.rule ∙ ap (number_rule (codes "workers")) c.workers.ensures) in
