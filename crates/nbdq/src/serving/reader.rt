@@ -65,8 +65,6 @@ impl Offer {
 /// What a reader's hold of the server came to.
 #[derive(Drop)]
 struct Came {
-    /// When it began.
-    at: Moment,
     /// The last of its turns.
     turn: Turn<Global>,
     /// What each of its turns handed in. Nothing where that isn't the same.
@@ -128,7 +126,7 @@ impl<'a, 'b, R: Wait> Intake<'a, 'b, R> {
         };
         let noted = noted_of(&turn, pass.last());
         self.follow(disks, service, line, pass, outlet, noted, clock);
-        let mut came = Came::first(clock.now(), turn, noted, touched);
+        let mut came = Came::first(turn, noted, touched);
         for _ in 1..most {
             if came.handed == Handed::Nothing || self.shift.served_others() {
                 break;
@@ -184,9 +182,8 @@ impl<'a, 'b, R: Wait> Intake<'a, 'b, R> {
 
 impl Came {
     /// After its first turn.
-    fn first(at: Moment, turn: Turn<Global>, noted: Noted, touched: u64) -> Came {
+    fn first(turn: Turn<Global>, noted: Noted, touched: u64) -> Came {
         Came {
-            at,
             turn,
             handed: noted.handed,
             stop: None,
@@ -324,7 +321,9 @@ fn read_on<L: Ledger, R: Wait + time::Clock>(
     if came.waits && !came.reads {
         service.bells.work.ring_one();
     }
-    let ahead = came.writes && service.is_wide && service.is_alone(rt, line.session, came.at);
+    let ahead = came.writes
+        && service.is_wide
+        && service.is_alone(rt, line.session, service.clock(rt).now());
     (came.turn, ahead)
 }
 
