@@ -1,0 +1,134 @@
+#!/usr/bin/env python3
+"""Writes the figures of measure.py's JSON as Markdown tables.
+
+  report.py FILE.. > tables.md
+
+Each figure is the median of its rounds; behind ± stands half of what lies between the least and the greatest, in parts of
+100. A ratio is to the best of the peers.
+"""
+import json, statistics, sys
+
+PEERS = ("nbdkit", "nbd-server", "qemu-nbd")
+UNITS = {"a_second": "requests a second", "mib_a_second": "MiB a second", "processor_us": "us of processor time a request"}
+
+
+def figures_of(files):
+    found = []
+    for name in files:
+        with open(name) as it:
+            found += json.load(it)["figures"]
+    return found
+
+
+def middle(figure):
+    return statistics.median(figure["values"])
+
+
+def shown(value):
+    return "%.2f" % value if value < 10 else "%.1f" % value if value < 100 else format(round(value), ",")
+
+
+def spread(figure):
+    values = figure["values"]
+    return " ±%d" % round(50 * (max(values) - min(values)) / middle(figure)) if len(values) > 1 and middle(figure) else ""
+
+
+def table(head, rows):
+    if rows:
+        print("| " + " | ".join(head) + " |")
+        print("|" + "---|" * len(head))
+        for row in rows:
+            print("| " + " | ".join(row) + " |")
+        print()
+
+
+def ordered(figures, key):
+    seen = []
+    for it in figures:
+        if it[key] not in seen:
+            seen.append(it[key])
+    return seen
+
+
+def in_columns(figures, row_keys, least_is_best=False):
+    """Rows by some keys, a column for each server, and the ratio to the best peer."""
+    servers, rows, order = ordered(figures, "server"), {}, []
+    for it in figures:
+        key = tuple(str(it[k]) for k in row_keys)
+        if key not in rows:
+            order.append(key)
+        rows.setdefault(key, {})[it["server"]] = it
+    best = min if least_is_best else max
+    out = []
+    for key in order:
+        peers = [middle(it) for name, it in rows[key].items() if name in PEERS]
+        cells = []
+        for name in servers:
+            it = rows[key].get(name)
+            ratio = " (%.2f)" % (middle(it) / best(peers)) if it and peers and name not in PEERS and best(peers) else ""
+            cells.append(shown(middle(it)) + ratio + spread(it) if it else "")
+        out.append([*key, *cells])
+    return servers, out
+
+
+def throughput(figures):
+    for transport in ordered(figures, "transport"):
+        for connections, exports in sorted({(it["connections"], it["exports"]) for it in figures}):
+            mine = [it for it in figures if (it["transport"], it["connections"], it["exports"]) == (transport, connections, exports)]
+            mine = [it for it in mine if it["unit"] != "processor_us"]
+            servers, rows = in_columns(mine, ("work",))
+            many = "%d connection%s to %d export%s" % (connections, "s" * (connections > 1), exports, "s" * (exports > 1))
+            print("### %s, %s\n" % (many, {"unix": "Unix socket", "tcp": "TCP"}[transport]))
+            print("4 KiB: requests a second; longer: MiB a second.\n")
+            table(["Work", *servers], rows)
+
+
+def latency(figures):
+    for transport in ordered(figures, "transport"):
+        for unit, name in (("p50_us", "Median"), ("p99_us", "99 of 100"), ("p999_us", "999 of 1,000")):
+            mine = [it for it in figures if it["unit"] == unit and it["transport"] == transport]
+            servers, rows = in_columns(mine, ("flood",), least_is_best=True)
+            print("### %s of a paced client's waits, in us, %s\n" % (name, {"unix": "Unix socket", "tcp": "TCP"}[transport]))
+            table(["Beside a flood of", *servers], rows)
+
+
+def shares(figures):
+    for server in ordered(figures, "server"):
+        rows = []
+        for case in ordered(figures, "case"):
+            mine = sorted((it for it in figures if it["case"] == case and it["server"] == server), key=lambda it: it["export"])
+            if mine:
+                first = middle(mine[0])
+                given = [shown(middle(it)) + spread(it) for it in mine]
+                ratio = ":".join("%.2f" % (middle(it) / first) if first else "-" for it in mine)
+                rows.append([case, ", ".join(given), ratio, UNITS[mine[0]["unit"]]])
+        print("### %s\n" % server)
+        table(["Exports", "Each is given", "By the first", "In"], rows)
+
+
+def memory(figures):
+    servers, rows = in_columns(figures, ("when",), least_is_best=True)
+    table(["A disk of 256 MiB", *servers], rows)
+
+
+PARTS = [
+    ("Throughput", "throughput", throughput),
+    ("A paced client beside floods", "latency", latency),
+    ("Shares", "shares", shares),
+    ("Reservations", "reservations", shares),
+    ("Limits", "limits", shares),
+    ("Memory, in MiB", "memory", memory),
+]
+
+
+def main():
+    figures = figures_of(sys.argv[1:])
+    for title, part, write in PARTS:
+        mine = [it for it in figures if it["part"] == part]
+        if mine:
+            print("## %s\n" % title)
+            write(mine)
+
+
+if __name__ == "__main__":
+    main()

@@ -1,0 +1,288 @@
+"""The tests of hostile.sh: each starts a server of its own, misuses it, and says what was seen."""
+import json, os, resource, socket, struct, subprocess, sys, threading, time
+
+HERE = os.path.dirname(os.path.abspath(__file__))
+sys.path.insert(0, os.path.join(HERE, "..", "bench"))
+from measure import exports_of, load
+from servers import DISC, MIB, NO_HOLE, READ, TRIM, WRITE, ZERO, Client, Server, fill
+
+PROGRAM = sys.argv[1]
+NBDQ = "nbdq=" + PROGRAM
+KEPT = b"keeps"
+
+
+def two_disks(**how):
+    return Server(NBDQ, exports=2, mib=256, **how)
+
+
+def neighbour(server, seconds, misuse):
+    """A client of export 0 reads 4 KiB each millisecond for so long, while export 1 is misused. What it waited for, in ms."""
+    found = []
+    reads = threading.Thread(target=lambda: found.extend(load(seconds, [server.clients(0, rate=1000)], warm=0.1)))
+    reads.start()
+    time.sleep(0.5)
+    misuse(Client(server.places[1], server.exports[1], patience=60))
+    reads.join()
+    return found[0]["most_us"] / 1000, found[0]["p999_us"] / 1000
+
+
+def in_turn(client, count, kind, flags=0, depth=32):
+    """So many requests of one kind for the whole disk, with so many under way at a time."""
+    for sent in range(count):
+        client.send(kind, 0, client.size, flags=flags)
+        if sent >= depth:
+            client.reply()
+    for _ in range(min(count, depth)):
+        client.reply()
+
+
+def waits_little(what, most, rare):
+    ok = most <= 20 and rare <= 5
+    return ok, "%s: another export's reads waited %.1f ms at most (20), 999 of 1,000 %.2f ms (5)" % (what, most, rare)
+
+
+def long_zeros():
+    """1,000 TRIMs, WRITE_ZEROES with and without NO_HOLE of a whole disk of 256 MiB, and three WRITEs of 32 MiB behind them."""
+    for name, kind, flags in (("TRIM", TRIM, 0), ("WRITE_ZEROES", ZERO, 0), ("WRITE_ZEROES with NO_HOLE", ZERO, NO_HOLE)):
+        def misuse(client):
+            in_turn(client, 1000, kind, flags)
+            for i in range(3):
+                client.ask(WRITE, 32 * MIB * i, 32 * MIB, bytes(32 * MIB))
+            client.close()
+
+        with two_disks() as server:
+            yield waits_little("1,000 times %s, then 3 WRITEs of 32 MiB" % name, *neighbour(server, 4, misuse))
+
+
+def trim_of_a_filled_disk():
+    with two_disks() as server:
+        fill(server.places[1], server.exports[1])
+
+        def misuse(client):
+            for kind, flags in ((ZERO, NO_HOLE), (TRIM, 0)):
+                client.ask(kind, 0, client.size, flags=flags)
+                time.sleep(0.3)
+            client.close()
+
+        yield waits_little("zeros over a filled disk, then its TRIM", *neighbour(server, 3, misuse))
+
+
+def greatest_memory(server, seconds, misuse):
+    client = Client(server.places[0], server.exports[0])
+    sending = threading.Thread(target=misuse, args=(client,), daemon=True)
+    sending.start()
+    most, until = 0, time.time() + seconds
+    while time.time() < until:
+        most = max(most, server.memory())
+        time.sleep(0.05)
+    client.socket.shutdown(socket.SHUT_RDWR)
+    sending.join()
+    return most
+
+
+def send_until_stuck(client, *requests):
+    try:
+        for _ in range(200):
+            for kind, length in requests:
+                client.send(kind, 0, length, bytes(length) if kind == WRITE else b"")
+    except OSError:
+        pass
+
+
+def unread_replies():
+    """Pairs of WRITE and READ of 8 MiB, to a disk of 8 MiB, by a client that reads no reply."""
+    with Server(NBDQ, mib=8) as server:
+        most = greatest_memory(server, 5, lambda it: send_until_stuck(it, (WRITE, 8 * MIB), (READ, 8 * MIB)))
+        yield most <= 256, "a client that reads no reply made the server hold %d MiB at most (256)" % most
+
+
+def writes_behind_a_limit():
+    """WRITEs of 8 MiB that wait for their limit of one a second."""
+    with Server(NBDQ, mib=8, config=exports_of(["limit = 1"], mib=8)) as server:
+        most = greatest_memory(server, 5, lambda it: send_until_stuck(it, (WRITE, 8 * MIB)))
+        yield most <= 256, "WRITEs that wait for their limit made the server hold %d MiB at most (256)" % most
+
+
+def many_connects():
+    """A server that serves for ever outlives 110,000 connects, and tells nothing of them."""
+    with Server(NBDQ, mib=8, words=["--sessions", "forever"]) as server:
+        keeper = Client(server.places[0], server.exports[0])
+        keeper.ask(WRITE, 0, len(KEPT), KEPT)
+
+        def connect():
+            for _ in range(110000 // 8):
+                for _ in range(100):
+                    try:
+                        with socket.socket(socket.AF_UNIX) as it:
+                            it.connect(server.places[0][5:])
+                        break
+                    except BlockingIOError:
+                        time.sleep(0.001)
+
+        threads = [threading.Thread(target=connect) for _ in range(8)]
+        [it.start() for it in threads]
+        [it.join() for it in threads]
+        kept = server.is_running() and keeper.ask(READ, 0, len(KEPT))[2] == KEPT
+        yield kept, "110,000 connects: the server %s" % ("goes on, with its disk" if kept else "ended")
+
+
+def innocent_session():
+    """Five sessions fill the queue with READs whose replies they don't read; another session's WRITE is served."""
+    with Server(NBDQ, mib=8) as server:
+        floods = [Client(server.places[0], server.exports[0]) for _ in range(5)]
+        for count in (30, 226):
+            for it in floods:
+                for _ in range(count):
+                    it.send(READ, 0, 65536)
+            time.sleep(1)
+        innocent = Client(server.places[0], server.exports[0], patience=10)
+        errors = [innocent.ask(WRITE, 0, 4096, bytes(4096))[0] for _ in range(50)]
+        yield not any(errors), "beside five sessions that don't read, %d of 50 WRITEs of another were answered with an error" % sum(map(bool, errors))
+
+
+def silence():
+    """A client that connects and says nothing, or says too little, loses its seat; one that vanished is noticed."""
+    with Server(NBDQ, tcp=True, mib=8) as server:
+        host, port = server.places[0][4:].rsplit(":", 1)
+        silent = socket.create_connection((host, int(port)), 30)
+        silent.recv(18)
+        began = time.time()
+        try:
+            rest = silent.recv(1)
+        except socket.timeout:
+            rest = b"?"
+        took = time.time() - began
+        yield rest == b"" and took < 15, "a client that is silent in its handshake is dropped after %.0f s (10)" % took
+        client = Client(server.places[0], server.exports[0])
+        said = subprocess.run(["ss", "-Htno", "sport = :%s" % port], capture_output=True, text=True).stdout
+        yield "keepalive" in said, "a connection over TCP has a keepalive timer"
+        client.close()
+
+
+def last_connection():
+    """Behind the last accepted connection a client is refused, not left waiting."""
+    with Server(NBDQ, tcp=True, mib=8, words=["--sessions", "2"]) as server:
+        client = Client(server.places[0], server.exports[0])
+        time.sleep(0.3)
+        try:
+            Client(server.places[0], server.exports[0], patience=3)
+            said = "is served"
+        except (ConnectionError, EOFError):
+            said = "is refused"
+        except (TimeoutError, socket.timeout):
+            said = "waits for ever"
+        yield said == "is refused", "a client behind the last accepted connection %s" % said
+        client.close()
+
+
+def many_descriptors():
+    """A soft limit of 256 descriptors is raised to the hard one: 1,000 clients at 20 exports are greeted."""
+    with Server(NBDQ, exports=20, mib=1, limit_files=(256, 8192)) as server:
+        clients = []
+        try:
+            for i in range(1000):
+                clients.append(Client(server.places[0], server.exports[i % 20], patience=5))
+        except OSError:
+            pass
+        yield len(clients) == 1000, "with a soft limit of 256 descriptors %d of 1,000 clients are greeted" % len(clients)
+        [it.socket.close() for it in clients]
+
+
+def serve(*words, config=exports_of(["weight = 1"], mib=8)):
+    how = {"stdin": subprocess.PIPE, "stdout": subprocess.PIPE, "stderr": subprocess.PIPE}
+    process = subprocess.Popen([PROGRAM, "serve", *words], **how)
+    process.stdin.write(config.encode())
+    process.stdin.close()
+    return process
+
+
+def socket_files():
+    """A start that fails leaves no file behind, and an orderly end removes the one that it made."""
+    path = "/dev/shm/nbdq-hostile-%d" % os.getpid()
+    with socket.create_server(("127.0.0.1", 0)) as taken:
+        failed = serve("--unix", path, "--tcp", "127.0.0.1:%d" % taken.getsockname()[1])
+        failed.wait(10)
+    yield failed.returncode == 4 and not os.path.exists(path), "a start that fails leaves no socket's file"
+    again = serve("--unix", path, "--sessions", "1")
+    ready = again.stdout.readline() == b"ready\n"
+    if ready:
+        Client("unix:" + path, "e0").close()
+    again.wait(10)
+    yield ready and not os.path.exists(path), "the corrected start serves, and its end removes the file"
+    if os.path.exists(path):
+        os.remove(path)
+
+
+def last_clients():
+    """Of clients that come one behind another up to the last that is accepted, each is greeted."""
+    path, missed, rounds = "/dev/shm/nbdq-hostile-%d" % os.getpid(), 0, 60
+    for _ in range(rounds):
+        process = serve("--unix", path, "--sessions", "8")
+        process.stdout.readline()
+        for _ in range(8):
+            try:
+                Client("unix:" + path, "e0", patience=3).close()
+            except (OSError, EOFError):
+                missed += 1
+        try:
+            process.wait(5)
+        except subprocess.TimeoutExpired:
+            process.kill()
+        if os.path.exists(path):
+            os.remove(path)
+    yield missed == 0, "%d of %d clients up to the last accepted one weren't greeted" % (missed, 8 * rounds)
+
+
+def stuck_reader():
+    """A client that reads nothing for a minute while replies wait for it is dropped."""
+    with Server(NBDQ, mib=8) as server:
+        client = Client(server.places[0], server.exports[0], patience=90)
+        for _ in range(40):
+            client.send(READ, 0, 1 << 18)
+        time.sleep(66)
+        try:
+            while client.socket.recv(MIB):
+                pass
+            dropped = True
+        except ConnectionError:
+            dropped = True
+        except (TimeoutError, socket.timeout):
+            dropped = False
+        yield dropped, "a client that reads nothing for a minute is %s" % ("dropped" if dropped else "kept")
+
+
+TESTS = [
+    long_zeros,
+    trim_of_a_filled_disk,
+    unread_replies,
+    writes_behind_a_limit,
+    many_connects,
+    innocent_session,
+    silence,
+    last_connection,
+    many_descriptors,
+    socket_files,
+    last_clients,
+    stuck_reader,
+]
+
+
+def main():
+    resource.setrlimit(resource.RLIMIT_NOFILE, (resource.getrlimit(resource.RLIMIT_NOFILE)[1],) * 2)
+    passed = failed = 0
+    for test in TESTS:
+        if sys.argv[2:] and test.__name__ not in sys.argv[2:]:
+            continue
+        try:
+            seen = list(test())
+        except Exception as error:  # a test that can't go on has failed
+            seen = [(False, "%s: %r" % (test.__name__, error))]
+        for ok, text in seen:
+            print("%s  %s" % ("ok    " if ok else "FAILED", text), flush=True)
+            passed, failed = passed + ok, failed + (not ok)
+    print("%d passed, %d failed" % (passed, failed))
+    return 1 if failed else 0
+
+
+if __name__ == "__main__":
+    sys.exit(main())
