@@ -143,8 +143,9 @@ def shares(o, figures):
         for operation in ("read", "write"):
             case = "weights 1:3, 4 connections each, %s %ss" % (name, operation)
             shared(o, figures, case, weights(1, 3), [dict(connections=4, bytes=size, depth=8, operation=operation)] * 2, unit="mib_a_second")
-    case = "weights 1:3, 4 connections each, 4 KiB reads beside 128 KiB reads, by bytes"
-    shared(o, figures, case, weights(1, 3), [flood, dict(connections=4, bytes=131072, depth=8)], unit="mib_a_second")
+    case = "weights 1:3, 4 connections each, 128 KiB reads beside 1 MiB reads"
+    long = [dict(connections=4, bytes=size, depth=8) for size in (131072, MIB)]
+    shared(o, figures, case, weights(1, 3), long, unit="mib_a_second")
     shared(o, figures, "weights 1:3, 1 connection each, 4 KiB reads", weights(1, 3), [SMALL] * 2)
     shared(o, figures, "weights 1:1:1:1, 1 connection each, 4 KiB reads", weights(1, 1, 1, 1), [SMALL] * 4)
     shared(o, figures, "weights 1:1:1:1, 4 connections each, 4 KiB reads", weights(1, 1, 1, 1), [flood] * 4)
