@@ -11,6 +11,3 @@ pub use base::Base;
 pub use cell::ExportCell;
 pub use outdated::Outdated;
 pub use refusal::{ArriveFault, NotArrived};
-
-#[cfg(test)]
-mod tests;

@@ -18,17 +18,3 @@ pub fn steps_to_come<A: Allocator>()
 pub fn limit_tags_unrolled<A: Allocator>()
     ensures { (terms : Terms) (steps : List (Step A)) → GivesUnrolledTags terms steps }
 {}
-
-#[cfg(test)]
-mod tests {
-    use super::*;
-    use std::alloc::Global;
-    use std::test::Fail;
-
-    #[test]
-    fn laws_of_the_global_allocator(_rt: HostRuntime) -> Result<(), Fail> {
-        steps_to_come::<Global>();
-        limit_tags_unrolled::<Global>();
-        Ok(())
-    }
-}

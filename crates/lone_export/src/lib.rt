@@ -12,6 +12,3 @@ pub use laws::{limit_tags_unrolled, steps_to_come};
 pub use lone::Lone;
 pub use refusal::{ArriveRefusal, Arrived, AttachRefusal, NotArrived, NotAttached};
 pub use step::{Step, StepAnswer};
-
-#[cfg(test)]
-mod tests;

@@ -13,8 +13,6 @@ mod pieces;
 pub mod protocol;
 mod replies;
 mod requests;
-#[cfg(test)]
-mod tests;
 
 pub use begun::{BegunWrite, begin_write};
 pub use fault::{FeedFault, WireFault};

@@ -1,0 +1,5 @@
+//! Tests of export_cell.
+#![tactic(auto)]
+
+#[cfg(test)]
+mod tests;

@@ -1,0 +1,5 @@
+//! Tests of lone_export.
+#![tactic(auto)]
+
+#[cfg(test)]
+mod tests;
