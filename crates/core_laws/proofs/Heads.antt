@@ -38,7 +38,7 @@ mem_append x (z ∷ xs) ys (inr m) = go (mem_append x xs ys m)
 abbrev IsFirst : List Row → Row → Type 0
 IsFirst rows x = slice_get (filter (waits_in x.export) rows) 0 ≡ Some x
 
-first_mem : (xs : List Row) (x : Row) → slice_get xs 0 ≡ Some x → Mem x xs
+pub first_mem : (xs : List Row) (x : Row) → slice_get xs 0 ≡ Some x → Mem x xs
 first_mem [] x h = absurd (none-some x h)
 first_mem (y ∷ ys) x h = inl (same_Some y x h)
 
@@ -76,7 +76,7 @@ of_first (suc n) rows x m = go (of_first n rows x) (slice_get (filter (waits_in 
 tied : (a b : ℤ) (e f m n : ℕ) → before a b e f m n ≡ false → before b a f e n m ≡ false → e ≡ f
 tied a b e f m n h k = grind (arith, ints, nat_tests, h, k)
 
-foremost_some : (key : Row → ℤ) (xs : List Row) (x : Row) → Mem x xs → (c : Row) × (foremost key xs ≡ Some c)
+pub foremost_some : (key : Row → ℤ) (xs : List Row) (x : Row) → Mem x xs → (c : Row) × (foremost key xs ≡ Some c)
 foremost_some key [] x m = absurd m
 foremost_some key (y ∷ ys) x m = go (foremost key ys) refl
   where

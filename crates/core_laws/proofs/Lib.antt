@@ -13,3 +13,4 @@ pub mod Pace
 pub mod Counts
 pub mod Made
 pub mod Places
+pub mod Reserved

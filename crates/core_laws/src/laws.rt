@@ -6,7 +6,7 @@ ghost use Rattle.lone_export.specs.declared.step.Step.{Step};
 ghost use Rattle.server_table.specs.declared.event.Event.{Event};
 ghost use Rattle.server_table.specs.Table.{Table, Setup};
 ghost use Rattle.core_laws.specs.Runs.{Run, answers_in, table_in};
-ghost use Rattle.core_laws.specs.Statements.{IsToldAsAlone, EndsAsAlone, IsToldTheSame, EndsTheSame, LeavesOthers, LeavesUnchosen, LeavesAll, QueueCountsItsOwn, QueuesCountTheirOwn, WeightWaitsForItsLimit, WeightsWait, HasUnrolledTags, HeadsSuffice, ChoosesNoneBefore, ChoosesByLimit, ChoosesByReservation, KeepsOtherAnswers, KeepsLastTable};
+ghost use Rattle.core_laws.specs.Statements.{IsToldAsAlone, EndsAsAlone, IsToldTheSame, EndsTheSame, LeavesOthers, LeavesUnchosen, LeavesAll, QueueCountsItsOwn, QueuesCountTheirOwn, WeightWaitsForItsLimit, WeightsWait, ReservationGoesFirst, ReservationsGoFirst, HasUnrolledTags, HeadsSuffice, ChoosesNoneBefore, ChoosesByLimit, ChoosesByReservation, KeepsOtherAnswers, KeepsLastTable};
 
 use std::alloc::Allocator;
 
@@ -44,6 +44,15 @@ pub fn weight_waits_for_its_limit<A: Allocator>()
     ensures step { (setup : Setup) (table : Table) (t : ℕ) (memory : Bool)
         → WeightWaitsForItsLimit A setup table t memory }
     ensures run { (run : Run A) → WeightsWait run.setup run.events (answers_in run) run.marks }
+{}
+
+/// A dispatch that chooses while a request waits whose R tag isn't above the greatest moment of a dispatch, its own
+/// included, chooses by reservation: at any table, and so at each place of a run. So no request is chosen by weight while a
+/// reservation is due.
+pub fn reservations_first<A: Allocator>()
+    ensures step { (setup : Setup) (table : Table) (t : ℕ) (memory : Bool)
+        → ReservationGoesFirst A setup table t memory }
+    ensures run { (run : Run A) → ReservationsGoFirst run.setup run.events (answers_in run) run.marks }
 {}
 
 /// An export's limit tags follow from the moments of its own accepted arrivals: that of the k-th is the greatest, over the

@@ -8,7 +8,7 @@ mod worked;
 
 pub use laws::{
     choice_count, heads_suffice, left_out, limit_tags_unrolled, locality, projection,
-    queue_refusal, two_worlds, weight_waits_for_its_limit,
+    queue_refusal, reservations_first, two_worlds, weight_waits_for_its_limit,
 };
 pub use worked::worked_runs;
 
@@ -26,6 +26,7 @@ mod tests {
         locality::<Global>();
         queue_refusal::<Global>();
         weight_waits_for_its_limit::<Global>();
+        reservations_first::<Global>();
         limit_tags_unrolled::<Global>();
         heads_suffice::<Global>();
         choice_count::<Global>();
