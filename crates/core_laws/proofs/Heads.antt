@@ -130,7 +130,7 @@ pub same_choice : (setup : Setup) (table : Table) → Ordered setup table → ch
 same_choice setup table ordered = rw (← foremost_of_first r_key (is_due_by_reservation table.now) (lowers_r table.now) setup table ordered, ← foremost_of_first p_key (is_due_by_limit table.now) (lowers_p table.now) setup table ordered) refl
 
 module _ {A : Type 0} where
-  tidy_all : (setup : Setup) (terms : Terms) (e : ℕ) → slice_get setup.exports e ≡ Some terms → (events : List (Event A)) (table : Table) (marks : List Bool) → Tidy terms e table → Tidy terms e (table_after setup table events marks)
+  pub tidy_all : (setup : Setup) (terms : Terms) (e : ℕ) → slice_get setup.exports e ≡ Some terms → (events : List (Event A)) (table : Table) (marks : List Bool) → Tidy terms e table → Tidy terms e (table_after setup table events marks)
   tidy_all setup terms e there [] table marks tidy = tidy
   tidy_all setup terms e there (event ∷ events) table marks tidy = tidy_all setup terms e there events (step setup table event (get_or marks 0 true)).table (drop 1 marks) (tidy_step setup terms table e event (get_or marks 0 true) there tidy)
 

@@ -14,3 +14,8 @@ pub mod Counts
 pub mod Made
 pub mod Places
 pub mod Reserved
+pub mod Lanes
+pub mod Chains
+pub mod Onward
+pub mod Beside
+pub mod Timely

@@ -98,8 +98,8 @@ module _ {A : Type 0} where
       WaitsInItsLimit (table_before k setup events marks) t e n
 
   -- a dispatch that chooses while a reservation is due chooses by reservation
-  abbrev pub ReservationsGoFirst : Setup → List (Event A) → List (Answer A) → List Bool → Type 0
-  ReservationsGoFirst setup events answers marks = (k t e n : ℕ) (phase : Phase) → StandsAt k events answers (Dispatch t) (Picked e n phase) →
+  abbrev pub ReservationsBeforeWeights : Setup → List (Event A) → List (Answer A) → List Bool → Type 0
+  ReservationsBeforeWeights setup events answers marks = (k t e n : ℕ) (phase : Phase) → StandsAt k events answers (Dispatch t) (Picked e n phase) →
       IsReservationDue (table_before k setup events marks) t → phase ≡ Reservation
 
   -- ---- two runs
@@ -170,6 +170,6 @@ WeightWaitsForItsLimit A setup table t memory = (e n : ℕ) →
     (step {A = A} setup table (Dispatch t) memory).answer ≡ Picked e n Weight → WaitsInItsLimit table t e n
 
 -- a dispatch that chooses while a reservation is due chooses by reservation
-abbrev pub ReservationGoesFirst : Type 0 → Setup → Table → ℕ → Bool → Type 0
-ReservationGoesFirst A setup table t memory = (e n : ℕ) (phase : Phase) →
+abbrev pub ReservationBeforeWeight : Type 0 → Setup → Table → ℕ → Bool → Type 0
+ReservationBeforeWeight A setup table t memory = (e n : ℕ) (phase : Phase) →
     (step {A = A} setup table (Dispatch t) memory).answer ≡ Picked e n phase → IsReservationDue table t → phase ≡ Reservation
