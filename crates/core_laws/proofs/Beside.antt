@@ -1,5 +1,5 @@
 -- Two exports that wait side by side: how often the one is chosen by weight while the other's first tag rises.
-use Rattle.std.proofs.Common.{◌≡◌, ◌≢◌, ◌⊎◌, ℕ, zero, suc, ◌+◌, ◌-◌, ◌*◌, ◌/◌, ◌<◌, ◌≤◌, max, Bool, true, false, not, ◌&&◌, eqb, ◌==◌, List, [], ◌∷◌, length, map, filter, take, drop, slice_get, Option, Some, None, if◌then◌else◌, ℤ, pos, negsuc, ◌-ℤ◌, ◌+ℤ◌, ◌≤ℤ◌, int_le, refl, sym, subst, ap, ◌∙◌, arith, inl, inr, le-div_iff_mul-le}
+use Rattle.std.proofs.Common.{◌≡◌, ◌⊎◌, ℕ, suc, ◌+◌, ◌-◌, ◌*◌, ◌/◌, ◌<◌, ◌≤◌, max, Bool, true, false, eqb, ◌==◌, List, [], ◌∷◌, length, map, filter, take, drop, slice_get, Some, if◌then◌else◌, ℤ, pos, negsuc, ◌-ℤ◌, ◌+ℤ◌, ◌≤ℤ◌, int_le, refl, sym, subst, ap, ◌∙◌, arith, inl, inr, le-div_iff_mul-le}
 use Rattle.std.specs.Int.{int_gap}
 use Rattle.std.proofs.lemmas.Int.{ints}
 use Rattle.std.proofs.lemmas.Bool.Decides.{nat_tests}
@@ -12,20 +12,20 @@ use Rattle.server_table.specs.declared.event.Event.TheVariants.{Attach, Arrive, 
 use Rattle.server_table.specs.declared.event.Answer.{Answer}
 use Rattle.server_table.specs.declared.event.Answer.TheVariants as said
 use Rattle.server_table.specs.Table.{Row, Table, Setup, Choice, waits_in, is_idle, is_due_by_limit, due_by_limit, foremost, p_key, precedes, choice, opening_table}
-use Rattle.server_table.specs.Steps.{Outcome, step, sent, with_credit, outcome, answers_of, run_answers}
+use Rattle.server_table.specs.Steps.{Outcome, step, sent, with_credit, outcome, run_answers}
 use Rattle.server_table.specs.Shares.{is_choice_of}
 use Rattle.core_laws.specs.Counts.{is_phase, is_choice_in}
 use Rattle.core_laws.specs.Statements.{table_before}
-use Rattle.core_laws.specs.Shares.{first_of, fall, fallen_before, in_terms_of, chosen_before, weight_choices, WaitsThrough, IsDueThrough, GoesFrom, WaitBeside}
+use Rattle.core_laws.specs.Shares.{first_of, fall, fallen_before, in_terms_of, chosen_before, weight_choices, GoesFrom, WaitBeside}
 use Rattle.lone_export.proofs.Cases.{true_false, some_told}
 use Rattle.core_laws.proofs.Order.{Mem, before, mem_filter, mem_all, mem_of_filter, mem_passes, foremost_first}
 use Rattle.core_laws.proofs.Parts.{waits_here}
 use Rattle.core_laws.proofs.Heads.{first_mem}
 use Rattle.core_laws.proofs.Tidy.{Tidy}
-use Rattle.core_laws.proofs.Chosen.{IsChosen, is_chosen, choice_first, and_left, and_right, tidy_now}
-use Rattle.core_laws.proofs.Lanes.{Turn, Lane, lane, turn_of, lane_popped, lane_after, IsQuiet, Goes, goes}
-use Rattle.core_laws.proofs.Chains.{Chained, IsWaiting, HeadFrom, head_below, head_popped, rise, Reached, reached_before}
-use Rattle.core_laws.proofs.Onward.{along, counted, Ended, Onward, OnwardBy, onward}
+use Rattle.core_laws.proofs.Chosen.{IsChosen, is_chosen, choice_first, and_left, and_right}
+use Rattle.core_laws.proofs.Lanes.{Turn, Lane, lane, turn_of, lane_popped, lane_after, goes}
+use Rattle.core_laws.proofs.Chains.{IsWaiting, HeadFrom, head_below, head_popped, rise, Reached, reached_before}
+use Rattle.core_laws.proofs.Onward.{along, counted, Ended, OnwardBy, onward}
 
 -- ---- first requests
 

@@ -1,5 +1,5 @@
 -- From each waiting request to the next the number rises by one and the P tag by the interval or more: so every step leaves it.
-use Rattle.std.proofs.Common.{◌≡◌, ℕ, zero, suc, ◌+◌, ◌<◌, ◌≤◌, Bool, true, false, ◌==◌, List, [], ◌∷◌, ◌++◌, map, filter, take, drop, get_or, slice_get, Option, Some, None, if◌then◌else◌, ℤ, pos, ◌-ℤ◌, ◌+ℤ◌, ◌≤ℤ◌, refl, sym, subst, ap, arith}
+use Rattle.std.proofs.Common.{◌≡◌, ℕ, ◌+◌, Bool, true, false, ◌==◌, List, [], ◌∷◌, ◌++◌, map, take, drop, get_or, slice_get, Option, Some, None, if◌then◌else◌, ℤ, pos, ◌-ℤ◌, ◌+ℤ◌, ◌≤ℤ◌, refl, sym, subst, ap, arith}
 use Rattle.std.specs.Int.{int_max}
 use Rattle.std.proofs.lemmas.Int.{ints}
 use Rattle.std.proofs.lemmas.Option.{same_Some, none-some}
@@ -9,7 +9,7 @@ use Rattle.tag_clock.specs.Clocks.{lowered}
 use Rattle.server_table.specs.declared.event.Event.{Event}
 use Rattle.server_table.specs.declared.event.Event.TheVariants.{Attach, Arrive, Dispatch, Perform, Take, Leave, Gone}
 use Rattle.server_table.specs.declared.event.Answer.{Answer}
-use Rattle.server_table.specs.Table.{Row, Table, Setup, opening_table}
+use Rattle.server_table.specs.Table.{Table, Setup, opening_table}
 use Rattle.server_table.specs.Steps.{step, table_after}
 use Rattle.server_table.specs.Shares.{is_choice_of}
 use Rattle.core_laws.specs.Counts.{is_accepted}
@@ -20,7 +20,7 @@ use Rattle.core_laws.proofs.Order.{lowered_le}
 use Rattle.core_laws.proofs.Tidy.{Tidy}
 use Rattle.core_laws.proofs.Chosen.{tidy_step}
 use Rattle.core_laws.proofs.Runs.{opening_tidy}
-use Rattle.core_laws.proofs.Lanes.{Turn, Lane, lane, turn_of, turn_lowered, last_lowered, lane_lowered, lane_pushed, lane_popped, lane_after, Goes, goes}
+use Rattle.core_laws.proofs.Lanes.{Turn, Lane, lane, turn_lowered, last_lowered, lane_lowered, lane_pushed, lane_popped, lane_after, goes}
 
 -- of a request and those behind it
 abbrev pub IsNext : ℕ → Turn → List Turn → ℕ → Option ℤ → Type 0

@@ -1,9 +1,9 @@
 -- The requests of an export that wait, with their P tags, and what each step does to them.
-use Rattle.std.proofs.Common.{◌≡◌, ◌≢◌, ℕ, zero, suc, ◌+◌, ◌<◌, ◌^◌, max, Bool, true, false, not, ◌&&◌, ◌||◌, eqb, nat_le, ◌==◌, List, [], ◌∷◌, ◌++◌, length, map, filter, find, drop, slice_get, Option, Some, None, option_map, if◌then◌else◌, ℤ, pos, ◌-ℤ◌, refl, sym, subst, ap, ◌∙◌, arith}
+use Rattle.std.proofs.Common.{◌≡◌, ◌≢◌, ℕ, suc, ◌+◌, ◌<◌, ◌^◌, max, Bool, true, false, not, ◌&&◌, ◌||◌, eqb, nat_le, ◌==◌, List, [], ◌∷◌, ◌++◌, length, map, filter, find, drop, slice_get, Option, Some, None, if◌then◌else◌, ℤ, pos, ◌-ℤ◌, refl, sym, subst, ap, ◌∙◌, arith}
 use Rattle.std.specs.List.{AllByRecursion}
 use Rattle.std.proofs.lemmas.Int.{ints}
 use Rattle.std.proofs.lemmas.Bool.Decides.{nat_tests}
-use Rattle.std.proofs.lemmas.Option.{same_Some, none-some}
+use Rattle.std.proofs.lemmas.Option.{same_Some}
 use Rattle.nbd_wire.specs.Grammar.{RequestMessage}
 use Rattle.nbd_base.specs.Words.{when_some}
 use Rattle.nbd_commands.specs.Terms.{Terms}
@@ -25,8 +25,8 @@ use Rattle.core_laws.specs.Shares.{shift_at, fall}
 use Rattle.lone_export.proofs.Cases.{true_false, if_one, if_both, some_one, some_told}
 use Rattle.core_laws.proofs.Lists.{filter-map, map-map_same, all_pass, get_or-change_at, get_or-change_at_other, get_or-change_each, unseen-change_at}
 use Rattle.core_laws.proofs.Parts.{put_own, put_other, waits_here, waits_kept, length-shifted}
-use Rattle.core_laws.proofs.Tidy.{IsBefore, Sorted, is_of, rows_of, is_of_all, map_same_on, filter-and, not_sent, is_sent, rest_same, Tidy}
-use Rattle.core_laws.proofs.Chosen.{choice_first, same_record, tidy_now}
+use Rattle.core_laws.proofs.Tidy.{Sorted, is_of, rows_of, is_of_all, map_same_on, filter-and, is_sent, rest_same, Tidy}
+use Rattle.core_laws.proofs.Chosen.{choice_first, same_record}
 
 -- a waiting request's number and P tag
 pub record Turn : Type 0 where

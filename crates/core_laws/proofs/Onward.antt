@@ -1,5 +1,5 @@
 -- What one place more of a run adds.
-use Rattle.std.proofs.Common.{◌≡◌, ◌⊎◌, ℕ, zero, suc, ◌+◌, ◌<◌, ◌≤◌, Bool, true, false, nat_le, List, [], ◌∷◌, ◌++◌, length, filter, take, drop, get_or, slice_get, Some, if◌then◌else◌, ℤ, pos, ◌+ℤ◌, refl, sym, subst, ap, ◌∙◌, arith, inl, inr}
+use Rattle.std.proofs.Common.{◌≡◌, ◌⊎◌, ℕ, zero, suc, ◌+◌, ◌<◌, ◌≤◌, Bool, true, false, nat_le, List, [], ◌∷◌, ◌++◌, length, filter, take, drop, get_or, slice_get, Some, if◌then◌else◌, ℤ, pos, ◌+ℤ◌, refl, subst, ap, ◌∙◌, arith, inl, inr}
 use Rattle.std.proofs.lemmas.Int.{ints}
 use Rattle.std.proofs.lemmas.Bool.Decides.{nat_tests}
 use Rattle.server_table.specs.declared.event.Event.{Event}

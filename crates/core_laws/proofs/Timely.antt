@@ -16,10 +16,10 @@ use Rattle.server_table.specs.Steps.{Outcome, step, run_answers}
 use Rattle.server_table.specs.Shares.{is_choice_of}
 use Rattle.core_laws.specs.Counts.{is_accepted}
 use Rattle.core_laws.specs.Statements.{table_before}
-use Rattle.core_laws.specs.Shares.{first_of, shift_at, fall, fallen_before, in_terms_of, chosen_before, weight_choices, all_choices, WaitsThrough, GoesFrom, WaitBeside, ArriveInTime}
-use Rattle.lone_export.proofs.Cases.{true_false, if_one}
+use Rattle.core_laws.specs.Shares.{shift_at, fall, fallen_before, in_terms_of, chosen_before, weight_choices, all_choices, WaitsThrough, GoesFrom, WaitBeside, ArriveInTime}
+use Rattle.lone_export.proofs.Cases.{if_one}
 use Rattle.core_laws.proofs.Lanes.{Turn, Lane, lane, turn_of, turn_lowered, lane_lowered, lane_unlowered, lane_pushed, lane_popped, lane_after, IsQuiet, Goes, goes}
-use Rattle.core_laws.proofs.Chains.{IsNext, IsChain, Chained, lane_lowered_chained, IsWaiting, Reached, reached_before}
+use Rattle.core_laws.proofs.Chains.{IsChain, Chained, IsWaiting, Reached, reached_before}
 use Rattle.core_laws.proofs.Onward.{along, counted, Ended, OnwardBy, onward}
 use Rattle.core_laws.proofs.Beside.{waiting_is, bounded}
 

@@ -2,7 +2,6 @@
 use Rattle.std.specs.Prelude.{◌≡◌, ℕ, ◌+◌, ◌*◌, ◌/◌, List, [], ◌∷◌, ◌++◌, replicate, ℤ, pos}
 use Rattle.std.specs.Int.{int_gap}
 use Rattle.nbd_base.specs.Words.{when_some}
-use Rattle.nbd_commands.specs.Terms.{Terms}
 use Rattle.tag_clock.specs.declared.Phase.TheVariants.{Weight}
 use Rattle.server_table.specs.declared.event.Event.{Event}
 use Rattle.server_table.specs.declared.event.Event.TheVariants.{Attach, Dispatch}
