@@ -38,7 +38,7 @@ mem_append x (z ∷ xs) ys (inr m) = go (mem_append x xs ys m)
 abbrev IsFirst : List Row → Row → Type 0
 IsFirst rows x = slice_get (filter (waits_in x.export) rows) 0 ≡ Some x
 
-first_mem : (xs : List Row) (x : Row) → slice_get xs 0 ≡ Some x → Mem x xs
+pub first_mem : (xs : List Row) (x : Row) → slice_get xs 0 ≡ Some x → Mem x xs
 first_mem [] x h = absurd (none-some x h)
 first_mem (y ∷ ys) x h = inl (same_Some y x h)
 
@@ -76,7 +76,7 @@ of_first (suc n) rows x m = go (of_first n rows x) (slice_get (filter (waits_in 
 tied : (a b : ℤ) (e f m n : ℕ) → before a b e f m n ≡ false → before b a f e n m ≡ false → e ≡ f
 tied a b e f m n h k = grind (arith, ints, nat_tests, h, k)
 
-foremost_some : (key : Row → ℤ) (xs : List Row) (x : Row) → Mem x xs → (c : Row) × (foremost key xs ≡ Some c)
+pub foremost_some : (key : Row → ℤ) (xs : List Row) (x : Row) → Mem x xs → (c : Row) × (foremost key xs ≡ Some c)
 foremost_some key [] x m = absurd m
 foremost_some key (y ∷ ys) x m = go (foremost key ys) refl
   where
@@ -130,7 +130,7 @@ pub same_choice : (setup : Setup) (table : Table) → Ordered setup table → ch
 same_choice setup table ordered = rw (← foremost_of_first r_key (is_due_by_reservation table.now) (lowers_r table.now) setup table ordered, ← foremost_of_first p_key (is_due_by_limit table.now) (lowers_p table.now) setup table ordered) refl
 
 module _ {A : Type 0} where
-  tidy_all : (setup : Setup) (terms : Terms) (e : ℕ) → slice_get setup.exports e ≡ Some terms → (events : List (Event A)) (table : Table) (marks : List Bool) → Tidy terms e table → Tidy terms e (table_after setup table events marks)
+  pub tidy_all : (setup : Setup) (terms : Terms) (e : ℕ) → slice_get setup.exports e ≡ Some terms → (events : List (Event A)) (table : Table) (marks : List Bool) → Tidy terms e table → Tidy terms e (table_after setup table events marks)
   tidy_all setup terms e there [] table marks tidy = tidy
   tidy_all setup terms e there (event ∷ events) table marks tidy = tidy_all setup terms e there events (step setup table event (get_or marks 0 true)).table (drop 1 marks) (tidy_step setup terms table e event (get_or marks 0 true) there tidy)
 

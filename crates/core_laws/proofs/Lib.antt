@@ -13,3 +13,9 @@ pub mod Pace
 pub mod Counts
 pub mod Made
 pub mod Places
+pub mod Reserved
+pub mod Lanes
+pub mod Chains
+pub mod Onward
+pub mod Beside
+pub mod Timely

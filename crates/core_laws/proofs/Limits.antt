@@ -1,23 +1,13 @@
 -- Limit tags: what a choice by weight asks.
-use Rattle.std.proofs.Common.{◌≡◌, ◌⊎◌, ℕ, suc, ◌^◌, max, Bool, true, false, not, ◌&&◌, nat_le, ◌==◌, List, [], ◌∷◌, ◌++◌, length, map, filter, find, slice_get, Some, None, ℤ, pos, ◌≤ℤ◌, int_le, refl, sym, ap, ap₂, ◌∙◌, arith, inl, inr}
+use Rattle.std.proofs.Common.{◌≡◌, ℕ, suc, max, Bool, true, not, List, [], ◌∷◌, filter, slice_get, Some, ℤ, pos, ◌≤ℤ◌, int_le, refl, sym, ap, ◌∙◌, arith, inl, inr}
 use Rattle.std.proofs.lemmas.Int.{ints}
 use Rattle.tag_clock.specs.declared.Phase.{Phase}
 use Rattle.tag_clock.specs.declared.Phase.TheVariants.{Reservation, Weight}
 use Rattle.server_table.specs.declared.event.Event.TheVariants.{Dispatch}
 use Rattle.server_table.specs.declared.event.Answer.{Answer}
 use Rattle.server_table.specs.declared.event.Answer.TheVariants as said
-use Rattle.lone_export.specs.declared.step.Step.{Step}
-use Rattle.lone_export.specs.declared.step.Step.TheVariants.{Attach, Arrive, Pick, Perform, Take, Leave, Gone}
-use Rattle.nbd_commands.specs.Terms.{Terms}
-use Rattle.nbd_commands.specs.Verdict.{verdict_of}
-use Rattle.nbd_commands.specs.Meaning.{may_want_memory}
-use Rattle.reply_box.specs.Sessions.{is_here, is_open_at, is_left_at, is_here_at, outbox_at}
-use Rattle.lone_export.specs.Alone.{Alone, Moved, opening, own_step, answers_alone, outstanding, limit_tag}
-use Rattle.lone_export.specs.LimitTags.{tag_of, arrived, given_tags, accepted_moments}
-use Rattle.tag_clock.specs.LimitTags.{unrolled, beginnings, limit_tags}
-use Rattle.tag_clock.proofs.Unrolled.{last_of, later-last_of, last_of-push, begun_on}
 use Rattle.server_table.specs.Table.{Row, Table, Setup, Choice, is_due_by_limit, due_by_limit, p_key, choice}
-use Rattle.server_table.specs.Steps.{Outcome, step, sent, is_by_weight, with_credit}
+use Rattle.server_table.specs.Steps.{Outcome, step, is_by_weight, with_credit}
 use Rattle.core_laws.specs.Statements.{WaitsInItsLimit}
 use Rattle.lone_export.proofs.Cases.{if_one, some_one, some_told}
 use Rattle.core_laws.proofs.Order.{Mem, mem_of_filter, mem_passes, foremost_mem}

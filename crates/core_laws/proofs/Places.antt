@@ -1,5 +1,5 @@
 -- What is so at each place of a run: the answer there is that of a step from the table before.
-use Rattle.std.proofs.Common.{◌≡◌, ◌≢◌, ◌↔◌, ◌<◌, ◌^◌, ℕ, zero, suc, Bool, true, false, not, ◌==◌, nat_le, eqb, List, [], ◌∷◌, length, filter, take, drop, get_or, slice_get, Some, None, ℤ, refl, sym, ap, ◌∙◌, subst, arith}
+use Rattle.std.proofs.Common.{◌≡◌, ◌≢◌, ◌↔◌, ◌<◌, ◌^◌, ℕ, zero, suc, Bool, true, false, not, ◌==◌, nat_le, List, [], ◌∷◌, length, filter, take, drop, get_or, slice_get, Some, ℤ, refl, sym, ap, ◌∙◌, subst, arith}
 use Rattle.std.proofs.lemmas.Bool.Decides.{nat_tests}
 use Rattle.std.proofs.lemmas.Option.{same_Some, none-some}
 use Rattle.nbd_wire.specs.Grammar.{RequestMessage}

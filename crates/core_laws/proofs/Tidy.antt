@@ -130,20 +130,20 @@ chosen_first key due low rows c is sorted =
 -- ---- the row that is sent
 
 -- a row of a greater number isn't sent
-not_sent : (c y : Row) → c.number < y.number → send c y ≡ y
+pub not_sent : (c y : Row) → c.number < y.number → send c y ≡ y
 not_sent c y lt = ap (λ o. record y { out = o }) (stays c y lt)
   where
     stays : (c y : Row) → c.number < y.number → (y.out || (y.export == c.export && y.number == c.number)) ≡ y.out
     stays c y lt = grind (arith, nat_tests)
 
-is_sent : (c x : Row) → x ≡ c → (x.out || (x.export == c.export && x.number == c.number)) ≡ true
+pub is_sent : (c x : Row) → x ≡ c → (x.out || (x.export == c.export && x.number == c.number)) ≡ true
 is_sent c x is = rw is (same c)
   where
     same : (c : Row) → (c.out || (c.export == c.export && c.number == c.number)) ≡ true
     same c = grind (arith, nat_tests)
 
 -- behind the first that waits each row waits, and none is sent
-rest_same : (c x : Row) (xs : List Row) → x ≡ c → AllByRecursion (IsBefore x) xs → map (send c) xs ≡ xs
+pub rest_same : (c x : Row) (xs : List Row) → x ≡ c → AllByRecursion (IsBefore x) xs → map (send c) xs ≡ xs
 rest_same c x xs is a = map_same_on (send c) (IsBefore x) (λ y b. not_sent c y (subst (λ (k : Row). k.number < y.number) is b.number)) xs a
 
 none_out : (x : Row) (xs : List Row) → x.out ≡ false → AllByRecursion (IsBefore x) xs → filter (λ y. y.out) xs ≡ []

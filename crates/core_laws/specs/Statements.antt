@@ -1,5 +1,5 @@
 -- What the laws say, of one run or of one step.
-use Rattle.std.specs.Prelude.{◌≡◌, ◌≢◌, ◌↔◌, ◌<◌, ◌≤◌, ◌+◌, ◌-◌, ◌/◌, ◌^◌, max, ℕ, Bool, true, List, length, filter, take, slice_get, Some, pos, ◌≤ℤ◌, false}
+use Rattle.std.specs.Prelude.{◌≡◌, ◌≢◌, ◌↔◌, ◌<◌, ◌≤◌, ◌+◌, ◌-◌, ◌/◌, ◌^◌, max, ℕ, Bool, true, List, length, filter, take, slice_get, Some, ℤ, pos, ◌≤ℤ◌, false}
 use Rattle.nbd_wire.specs.Grammar.{RequestMessage}
 use Rattle.nbd_commands.specs.Terms.{Terms}
 use Rattle.nbd_commands.specs.Verdict.{verdict_of}
@@ -7,7 +7,6 @@ use Rattle.tag_clock.specs.declared.Phase.{Phase}
 use Rattle.tag_clock.specs.declared.Phase.TheVariants.{Reservation, Weight}
 use Rattle.tag_clock.specs.LimitTags.{limit_tags}
 use Rattle.reply_box.specs.Sessions.{is_open_at}
-use Rattle.lone_export.specs.declared.step.Step.{Step}
 use Rattle.lone_export.specs.Alone.{opening, alone, answers_alone}
 use Rattle.lone_export.specs.LimitTags.{given_tags, accepted_moments}
 use Rattle.server_table.specs.declared.event.Event.{Event}
@@ -40,6 +39,10 @@ HasFullQueue table e terms = length (filter (waits_in e) table.rows) ≡ terms.d
 abbrev pub WaitsInItsLimit : Table → ℕ → ℕ → ℕ → Type 0
 WaitsInItsLimit table t e n = (k : ℕ) × (row : Row) × (slice_get table.rows k ≡ Some row) × (row.export ≡ e) × (row.number ≡ n) × (row.out ≡ false) ×
     (row.l ≤ℤ pos (max table.now t))
+
+-- a request waits whose R tag isn't above that moment
+abbrev pub IsReservationDue : Table → ℕ → Type 0
+IsReservationDue table t = (k : ℕ) × (row : Row) × (r : ℤ) × (slice_get table.rows k ≡ Some row) × (row.out ≡ false) × (row.r ≡ Some r) × (r ≤ℤ pos (max table.now t))
 
 module _ {A : Type 0} where
   -- ---- a run, by its events and the answers that were given to them
@@ -93,6 +96,11 @@ module _ {A : Type 0} where
   abbrev pub WeightsWait : Setup → List (Event A) → List (Answer A) → List Bool → Type 0
   WeightsWait setup events answers marks = (k t e n : ℕ) → StandsAt k events answers (Dispatch t) (Picked e n Weight) →
       WaitsInItsLimit (table_before k setup events marks) t e n
+
+  -- a dispatch that chooses while a reservation is due chooses by reservation
+  abbrev pub ReservationsBeforeWeights : Setup → List (Event A) → List (Answer A) → List Bool → Type 0
+  ReservationsBeforeWeights setup events answers marks = (k t e n : ℕ) (phase : Phase) → StandsAt k events answers (Dispatch t) (Picked e n phase) →
+      IsReservationDue (table_before k setup events marks) t → phase ≡ Reservation
 
   -- ---- two runs
 
@@ -160,3 +168,8 @@ QueueCountsItsOwn A setup table = (e s t : ℕ) (q : RequestMessage) (terms : Te
 abbrev pub WeightWaitsForItsLimit : Type 0 → Setup → Table → ℕ → Bool → Type 0
 WeightWaitsForItsLimit A setup table t memory = (e n : ℕ) →
     (step {A = A} setup table (Dispatch t) memory).answer ≡ Picked e n Weight → WaitsInItsLimit table t e n
+
+-- a dispatch that chooses while a reservation is due chooses by reservation
+abbrev pub ReservationBeforeWeight : Type 0 → Setup → Table → ℕ → Bool → Type 0
+ReservationBeforeWeight A setup table t memory = (e n : ℕ) (phase : Phase) →
+    (step {A = A} setup table (Dispatch t) memory).answer ≡ Picked e n phase → IsReservationDue table t → phase ≡ Reservation

@@ -6,7 +6,8 @@ ghost use Rattle.lone_export.specs.declared.step.Step.{Step};
 ghost use Rattle.server_table.specs.declared.event.Event.{Event};
 ghost use Rattle.server_table.specs.Table.{Table, Setup};
 ghost use Rattle.core_laws.specs.Runs.{Run, answers_in, table_in};
-ghost use Rattle.core_laws.specs.Statements.{IsToldAsAlone, EndsAsAlone, IsToldTheSame, EndsTheSame, LeavesOthers, LeavesUnchosen, LeavesAll, QueueCountsItsOwn, QueuesCountTheirOwn, WeightWaitsForItsLimit, WeightsWait, HasUnrolledTags, HeadsSuffice, ChoosesNoneBefore, ChoosesByLimit, ChoosesByReservation, KeepsOtherAnswers, KeepsLastTable};
+ghost use Rattle.core_laws.specs.Statements.{IsToldAsAlone, EndsAsAlone, IsToldTheSame, EndsTheSame, LeavesOthers, LeavesUnchosen, LeavesAll, QueueCountsItsOwn, QueuesCountTheirOwn, WeightWaitsForItsLimit, WeightsWait, ReservationBeforeWeight, ReservationsBeforeWeights, HasUnrolledTags, HeadsSuffice, ChoosesNoneBefore, ChoosesByLimit, ChoosesByReservation, KeepsOtherAnswers, KeepsLastTable};
+ghost use Rattle.core_laws.specs.Shares.{WeightsTakeTheLeast, SharesByWeight, RisesByItsChoices, SharesByRatio};
 
 use std::alloc::Allocator;
 
@@ -46,6 +47,15 @@ pub fn weight_waits_for_its_limit<A: Allocator>()
     ensures run { (run : Run A) → WeightsWait run.setup run.events (answers_in run) run.marks }
 {}
 
+/// A dispatch that chooses while a request waits whose R tag isn't above the greatest moment of a dispatch, its own
+/// included, chooses by reservation: at any table, and so at each place of a run. So no request is chosen by weight while a
+/// reservation is due.
+pub fn reservations_first<A: Allocator>()
+    ensures step { (setup : Setup) (table : Table) (t : ℕ) (memory : Bool)
+        → ReservationBeforeWeight A setup table t memory }
+    ensures run { (run : Run A) → ReservationsBeforeWeights run.setup run.events (answers_in run) run.marks }
+{}
+
 /// An export's limit tags follow from the moments of its own accepted arrivals: that of the k-th is the greatest, over the
 /// arrivals j up to it, of its moment and k - j intervals. So it is alone, and so it is in every run.
 pub fn limit_tags_unrolled<A: Allocator>()
@@ -65,6 +75,18 @@ pub fn choice_count<A: Allocator>()
     ensures none { (run : Run A) → ChoosesNoneBefore run.setup run.events (answers_in run) }
     ensures limit { (run : Run A) → ChoosesByLimit run.setup run.events (answers_in run) }
     ensures reservation { (run : Run A) → ChoosesByReservation run.setup run.events (answers_in run) }
+{}
+
+/// Where exports e and f wait side by side from one place of a run to a later one, f's first request is within its limit at
+/// each dispatch between, and e's first P tag wasn't below f's at the start, e is chosen by weight once at most, and once
+/// more for each interval of e by which f's first P tag has risen, the shifts between taken off. Where f's requests arrived
+/// in time that is an interval of f for each choice of f, so it follows from the weights alone. Nothing is said of time, of
+/// how long a request takes, or of an export that begins to wait in between.
+pub fn shares<A: Allocator>()
+    ensures least { (run : Run A) → WeightsTakeTheLeast run.setup run.events (answers_in run) run.marks }
+    ensures bound { (run : Run A) → SharesByWeight run.setup run.events (answers_in run) run.marks }
+    ensures tags { (run : Run A) → RisesByItsChoices run.setup run.events (answers_in run) run.marks }
+    ensures ratio { (run : Run A) → SharesByRatio run.setup run.events (answers_in run) run.marks }
 {}
 
 /// Where the events that found no memory are taken out of a run with their marks, every other answer stays, and the last

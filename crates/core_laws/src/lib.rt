@@ -8,9 +8,9 @@ mod worked;
 
 pub use laws::{
     choice_count, heads_suffice, left_out, limit_tags_unrolled, locality, projection,
-    queue_refusal, two_worlds, weight_waits_for_its_limit,
+    queue_refusal, reservations_first, shares, two_worlds, weight_waits_for_its_limit,
 };
-pub use worked::worked_runs;
+pub use worked::{worked_runs, worked_shares};
 
 #[cfg(test)]
 mod tests {
@@ -26,11 +26,14 @@ mod tests {
         locality::<Global>();
         queue_refusal::<Global>();
         weight_waits_for_its_limit::<Global>();
+        reservations_first::<Global>();
         limit_tags_unrolled::<Global>();
         heads_suffice::<Global>();
         choice_count::<Global>();
+        shares::<Global>();
         left_out::<Global>();
         worked_runs::<Global>();
+        worked_shares::<Global>();
         Ok(())
     }
 }

@@ -1,5 +1,6 @@
 //! Runs that were worked out by hand.
 ghost use Rattle.core_laws.specs.Worked.{GreaterWeightGoesSooner, LimitHoldsBack, TagsComeFromTheArrival, MomentsComeInAnyOrder, WeightIsCredited, CreditMovesTheLastTag, CreditMovesTheWaiting, ShiftMovesTheWaiting, ShiftLeavesTheNewcomer, EqualsGoByExport, IdleExportKeepsItsLastP, ReservationGoesFirst, DepthRefuses, DepthCountsItsOwn, InflightHoldsBack, WindowHolds, SixtyFourAreFull, RefusalsComeInOrder, LeftSessionGetsItsReplies, WantOfMemoryIsTold, GoneIsStillServed, StepsAreCounted};
+ghost use Rattle.core_laws.specs.WorkedShares.{TwiceTheWeightIsServed, TwiceTheWeightIsReached, BothTagsAreInTheSameTerms, FMustWait, FMustBeDue, EMustWait, EMustNotBeBehind, FMustArriveInTime};
 
 use std::alloc::Allocator;
 
@@ -27,4 +28,16 @@ pub fn worked_runs<A: Allocator>()
     ensures sessions { SixtyFourAreFull A }
     ensures gone { GoneIsStillServed A }
     ensures steps { StepsAreCounted A }
+{}
+
+/// What the law of shares comes to in runs that were worked out by hand, and what fails without each of its premises.
+pub fn worked_shares<A: Allocator>()
+    ensures served { TwiceTheWeightIsServed A }
+    ensures reached { TwiceTheWeightIsReached A }
+    ensures same_terms { BothTagsAreInTheSameTerms A }
+    ensures f_waits { FMustWait A }
+    ensures f_due { FMustBeDue A }
+    ensures e_waits { EMustWait A }
+    ensures e_not_behind { EMustNotBeBehind A }
+    ensures f_in_time { FMustArriveInTime A }
 {}

@@ -5,7 +5,8 @@ use Rattle.server_table.specs.declared.event.Answer.{Answer}
 use Rattle.server_table.specs.Table.{Setup}
 use Rattle.server_table.specs.Steps.{last_table, run_answers}
 use Rattle.server_table.specs.Shares.{marks_of}
-use Rattle.core_laws.specs.Statements.{IsToldAsAlone, EndsAsAlone, QueuesCountTheirOwn, WeightsWait, ChoosesNoneBefore, ChoosesByLimit, ChoosesByReservation}
+use Rattle.core_laws.specs.Statements.{IsToldAsAlone, EndsAsAlone, QueuesCountTheirOwn, WeightsWait, ReservationsBeforeWeights, ChoosesNoneBefore, ChoosesByLimit, ChoosesByReservation}
+use Rattle.core_laws.specs.Shares.{WeightsTakeTheLeast, SharesByWeight, RisesByItsChoices, SharesByRatio}
 
 module _ {A : Type 0} where
   -- the answers are those of the definition, with memory there for each event as its answer tells
@@ -24,6 +25,16 @@ module _ {A : Type 0} where
   abbrev pub WaitsForLimits : Setup → List (Event A) → List (Answer A) → Type 0
   WaitsForLimits setup events answers = WeightsWait setup events answers (marks_of answers)
 
+  -- no choice is by weight while a reservation is due
+  abbrev pub ReservedFirst : Setup → List (Event A) → List (Answer A) → Type 0
+  ReservedFirst setup events answers = ReservationsBeforeWeights setup events answers (marks_of answers)
+
   -- none before the first accepted arrival; by weight no more than the limit allows, by reservation no more than it gives
   abbrev pub KeepsToRates : Setup → List (Event A) → List (Answer A) → Type 0
   KeepsToRates setup events answers = ChoosesNoneBefore setup events answers × ChoosesByLimit setup events answers × ChoosesByReservation setup events answers
+
+  -- a choice by weight is of the least tag; and of two exports that wait side by side the one is chosen by weight no more
+  -- often than the tag of the other's first request rises, which is by its choices where its requests arrive in time
+  abbrev pub KeepsToWeights : Setup → List (Event A) → List (Answer A) → Type 0
+  KeepsToWeights setup events answers = WeightsTakeTheLeast setup events answers (marks_of answers) × SharesByWeight setup events answers (marks_of answers) ×
+      RisesByItsChoices setup events answers (marks_of answers) × SharesByRatio setup events answers (marks_of answers)

@@ -2,11 +2,12 @@
 ghost use Rattle.std.specs.Prelude.{◌≡◌, IfOk};
 ghost use Rattle.core_laws.specs.Statements.{HasUnrolledTags};
 ghost use Rattle.server_core.specs.Served.{setup_for};
-ghost use Rattle.server_core.specs.Run.{IsAnswered, IsAlone, CountsItsOwn, WaitsForLimits, KeepsToRates};
+ghost use Rattle.server_core.specs.Run.{IsAnswered, IsAlone, CountsItsOwn, WaitsForLimits, ReservedFirst, KeepsToRates, KeepsToWeights};
 
 use crate::server::Server;
 use core_laws::{
-    choice_count, limit_tags_unrolled, projection, queue_refusal, weight_waits_for_its_limit,
+    choice_count, limit_tags_unrolled, projection, queue_refusal, reservations_first, shares,
+    weight_waits_for_its_limit,
 };
 use eligibility::Eligibility;
 use export_store::Image;
@@ -28,16 +29,20 @@ pub fn run<I: Image, E: Eligibility<Alloc = I::Alloc>>(
     ensures alone { IfOk result (λ answers. IsAlone (setup_for config.now) events.items answers.items) }
     ensures queue { IfOk result (λ answers. CountsItsOwn (setup_for config.now) events.items answers.items) }
     ensures weight { IfOk result (λ answers. WaitsForLimits (setup_for config.now) events.items answers.items) }
+    ensures reserved { IfOk result (λ answers. ReservedFirst (setup_for config.now) events.items answers.items) }
     ensures tags { IfOk result (λ answers. HasUnrolledTags (setup_for config.now) events.items answers.items) }
     ensures counts { IfOk result (λ answers. KeepsToRates (setup_for config.now) events.items answers.items) }
+    ensures shares { IfOk result (λ answers. KeepsToWeights (setup_for config.now) events.items answers.items) }
 {
     let answers = answer_each::<I, E>(alloc, config, events)?;
     // What the definition promises of every run, it promises of this one.
     projection::<I::Alloc>();
     queue_refusal::<I::Alloc>();
     weight_waits_for_its_limit::<I::Alloc>();
+    reservations_first::<I::Alloc>();
     limit_tags_unrolled::<I::Alloc>();
     choice_count::<I::Alloc>();
+    shares::<I::Alloc>();
     Ok(answers)
 }
 

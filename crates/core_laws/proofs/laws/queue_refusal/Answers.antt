@@ -1,4 +1,4 @@
-use Rattle.std.proofs.Common.{◌≡◌, ◌≢◌, ◌↔◌, true, false, arith}
+use Rattle.std.proofs.Common.{◌≡◌, ◌≢◌, ◌↔◌, true, arith}
 use Rattle.server_table.specs.Table.{opening_table}
 use Rattle.server_table.specs.declared.event.Event.TheVariants.{Arrive}
 use Rattle.server_table.specs.declared.event.Answer.TheVariants.{Answered, NoMemory}
