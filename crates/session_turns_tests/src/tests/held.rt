@@ -142,8 +142,10 @@ fn replies_are_taken_in_a_row(rt: HostRuntime) {
     let mut one = attached::<Brand>(&heap, Blank::new(1)).expect(&rt, "memory");
     assert!(rt; are_handed_in(&mut one, &mut reader));
     assert!(rt; one.serve() && one.serve());
-    assert!(rt; one.takes(&heap, 1, Stop::Full, &REPLIES[..16]));
-    assert!(rt; one.takes(&heap, 3, Stop::Empty, &REPLIES[16..]));
+    let written = REPLIES.as_slice().get(..16).unwrap_or_default();
+    assert!(rt; one.takes(&heap, 1, Stop::Full, written));
+    let read = REPLIES.as_slice().get(16..).unwrap_or_default();
+    assert!(rt; one.takes(&heap, 3, Stop::Empty, read));
     assert!(rt; one.leave() && one.takes(&heap, 3, Stop::End, b""));
     let refused = Stop::Refused(SessionRefusal::NotOpen);
     assert!(rt; one.close() && one.takes(&heap, 3, refused, b""));
