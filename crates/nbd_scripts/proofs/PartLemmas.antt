@@ -3,7 +3,7 @@ use Rattle.std.proofs.Common.{◌≡◌, ℕ, List, [], ◌++◌, append_assoc, 
 use Rattle.std.proofs.lemmas.List.{append_cancel_left}
 use Rattle.std.specs.Io.KnownBytes.{append_known, Appends}
 use Rattle.nbd_session.specs.Streams.{WritesPart}
-use Rattle.nbd_session.proofs.SessionTurnLemmas.{part_behind}
+use Rattle.nbd_session.proofs.TextPartLemmas.{part_behind}
 use Rattle.nbd_scripts.specs.Told.{CutShort}
 
 -- what the output would hold with all of it

@@ -13,7 +13,7 @@ use Rattle.server_core.proofs.Goings.{Going, one_more}
 use Rattle.nbd_session.specs.Streams.{WritesPart}
 use Rattle.nbd_session.proofs.KnownLemmas.{Appends-then}
 use Rattle.nbd_session.proofs.BufferLemmas.{Appends-none}
-use Rattle.nbd_session.proofs.SessionTurnLemmas.{part_behind}
+use Rattle.nbd_session.proofs.TextPartLemmas.{part_behind}
 use Rattle.nbd_scripts.specs.declared.outcome.Outcome.{Outcome}
 use Rattle.nbd_scripts.specs.declared.outcome.Outcome.TheVariants as outcome
 use Rattle.nbd_scripts.specs.declared.replay_line.ReplayLine.{ReplayLine}

@@ -18,5 +18,4 @@ pub mod KeptLemmas
 pub mod TalkLemmas
 pub mod HaggledLemmas
 pub mod Worked
-pub mod SessionTurnLemmas
-pub mod TakingLemmas
+pub mod TextPartLemmas

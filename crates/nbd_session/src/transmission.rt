@@ -92,7 +92,7 @@ fn end_of(ending: Ending) -> Result<End, TalkFault>
 }
 
 /// Whether a request ends the session. Its other fields are ignored.
-pub(crate) fn is_disc(head: RequestHead) -> bool
+pub fn is_disc(head: RequestHead) -> bool
     ensures { result ≡ (head.kind == 2) }
 {
     head.kind == DISC

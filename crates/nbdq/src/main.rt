@@ -1,32 +1,15 @@
 //! nbdq: a Network Block Device server. See README.md.
 #![tactic(auto)]
 
-mod checking;
-#[cfg(test)]
-mod checks;
-mod command_line;
-#[cfg(test)]
-mod faults;
-#[cfg(test)]
-mod handshakes;
-mod outcome;
-#[cfg(test)]
-mod pieces;
-#[cfg(test)]
-mod replays;
-#[cfg(test)]
-mod rows;
 mod serve;
 mod serving;
-#[cfg(test)]
-mod tests;
 
-use checking::check_text;
 use clap::error::ErrorKind;
-use command_line::{Job, Task, read_command_line};
 use nbd_scripts::{replay_script, talk_script};
 use nbd_session::Counted;
-use outcome::{Ending, Outcome, status_of_end, text_of_end};
+use nbdq_cli::{
+    Ending, Job, Outcome, Task, check_text, read_command_line, status_of_end, text_of_end,
+};
 use serve::serve;
 use std::io;
 use std::io::{BufWriter, Write};

@@ -1,11 +1,10 @@
 //! `nbdq serve`: from the command line and the configuration to the last line.
 
-use crate::checking::read_offer;
-use crate::command_line::ServeTask;
-use crate::outcome::{Ending, Outcome};
-use crate::serving::{ServeFault, serve_on};
+use crate::serving::serve_on;
 use nbd_commands::Config;
+use nbd_service::ServeFault;
 use nbd_session::Counted;
+use nbdq_cli::{Ending, Outcome, ServeTask, read_offer};
 use std::alloc::Global;
 use std::fs::Files;
 use std::io;

@@ -1,116 +1,32 @@
 //! `nbdq serve`: the threads of a server.
 ghost use Rattle.std.specs.Prelude.{◌≡◌, ◌≤◌};
 
-mod ahead;
-mod bells;
-mod connection;
-mod hold_clock;
-mod light;
-mod line;
+mod idle_threads;
 mod listener;
-mod load;
-mod lobby;
-mod passes;
-mod port;
-mod reader;
-mod running_clock;
-mod service;
-mod shift;
-mod stage;
 #[cfg(test)]
 mod tests;
-mod warming;
-mod watch;
-mod writer;
 
-use bells::Bells;
-use connection::serve_clients;
-use eligibility::Heaped;
-use export_store::Paged;
-use light::LightLoad;
+use idle_threads::IdleThreads;
 use listener::{Entrance, Listener, may_pass};
-use nbd_base::NoMemory;
 use nbd_commands::Config;
+use nbd_connection::serve_client;
+use nbd_service::policy::{RETRY_MS, passes_for};
+use nbd_service::{PassPool, ServeFault, Service, WorkerGate};
 use nbd_session::table_of;
 use nbd_workers::work;
-use passes::PassPool;
+use nbdq_cli::Crew;
 use server_core::Server;
-use server_lock::{Pass, Shared, settle};
-use service::{Service, ServiceGate};
-use std::alloc::{AllocError, AllocFailed, Global};
+use server_lock::{Shared, settle};
+use std::alloc::Global;
 use std::marker::Brand;
 use std::net::{TcpListener, TcpStream};
 use std::os::unix::net::UnixListener;
-use std::sync::atomic::{AtomicBool, Ordering};
+use std::sync::Wait;
+use std::sync::atomic::Ordering;
 use std::sync::ledger::{Blank, Ledger};
-use std::sync::{Mutex, Wait};
-use std::thread::{Threads, available_parallelism};
-use std::time::{Duration, Instant};
+use std::thread::Threads;
+use std::time::Duration;
 use std::{thread, time};
-
-/// How many connections may be there at a time: twice as many as all sessions of 64 exports. One more is dropped.
-const CONNECTIONS: u64 = 8_192;
-
-/// How many processors there are at least where a client's bytes are read ahead: it keeps two threads busy here, and its own.
-const PROCESSORS: usize = 4;
-
-/// How many milliseconds a listener waits before it tries again to accept, where the system is short of something.
-const RETRY: u64 = 10;
-
-/// The largest block, in bytes, that the C library is to keep for itself once it was given back. Its own bound on such
-/// blocks is 32 MiB, with what it adds to them (mallopt(3), M_MMAP_THRESHOLD).
-const LARGEST: usize = 33_550_000;
-
-/// Why a server ended before its time.
-#[derive(Clone, Copy, Debug, PartialEq, Eq)]
-pub enum ServeFault {
-    /// Memory was refused before the first connection was accepted, or for what counts the steps.
-    NoMemory,
-    /// A listener failed, or a thread for one couldn't be had.
-    Listen,
-}
-
-impl From<NoMemory> for ServeFault {
-    ghost use Rattle.std.specs.Prelude.{◌≡◌};
-    ghost use Rattle.nbdq.specs.declared.serving.ServeFault.TheVariants as fault;
-
-    ghost from_gives = { λ _ e. e ≡ fault.NoMemory };
-
-    fn from(_e: NoMemory) -> ServeFault {
-        ServeFault::NoMemory
-    }
-}
-
-impl From<AllocError> for ServeFault {
-    ghost use Rattle.std.specs.Prelude.{◌≡◌};
-    ghost use Rattle.nbdq.specs.declared.serving.ServeFault.TheVariants as fault;
-
-    ghost from_gives = { λ _ e. e ≡ fault.NoMemory };
-
-    fn from(_e: AllocError) -> ServeFault {
-        ServeFault::NoMemory
-    }
-}
-
-impl<T: Drop> From<AllocFailed<T>> for ServeFault {
-    ghost use Rattle.std.specs.Prelude.{◌≡◌};
-    ghost use Rattle.nbdq.specs.declared.serving.ServeFault.TheVariants as fault;
-
-    ghost from_gives = { λ _ e. e ≡ fault.NoMemory };
-
-    fn from(_e: AllocFailed<T>) -> ServeFault {
-        ServeFault::NoMemory
-    }
-}
-
-/// How many threads a server has.
-#[derive(Clone, Copy, Debug, PartialEq, Eq)]
-pub struct Crew {
-    /// Threads that perform requests, at least 1.
-    pub workers: u64,
-    /// Connections that each listener accepts before the server ends, at least 1.
-    pub sessions: u64,
-}
 
 /// Serves the exports of a configuration on the listeners that are given, until each has accepted as many connections as it
 /// may and these have ended. Answers how many steps the exports counted.
@@ -130,12 +46,7 @@ pub fn serve_on<R: Wait + Threads + Sync + time::Clock>(
         entrances.push(Entrance::new(alloc, Listener::Unix(unix))?)?;
     }
     let listening = crew.sessions.saturating_mul(entrances.len() as u64);
-    // One for each worker, two for each connection that may be there, and one more.
-    let passes = listening
-        .min(CONNECTIONS)
-        .saturating_mul(2)
-        .saturating_add(crew.workers)
-        .saturating_add(1);
+    let passes = passes_for(listening, crew.workers);
     let blank = Blank::new(passes);
     serve_booked::<Brand, R>(rt, alloc, config, entrances.as_slice(), crew, blank, passes)
 }
@@ -159,7 +70,8 @@ fn serve_booked<L: Ledger + Send + Sync, R: Wait + Threads + Sync + time::Clock>
     let Ok((shared, passes)) = Shared::<L, _, _>::new(alloc, server, blank, passes) else {
         return Err(ServeFault::NoMemory);
     };
-    let service = service_of(rt, alloc, config, shared, passes)?;
+    let table = table_of(alloc, config.exports())?;
+    let service = Service::new(rt, alloc, config, table, shared, PassPool::new(passes))?;
     let listened = run_threads(rt, &service, entrances, crew);
     let Service { shared, passes, .. } = service;
     let booked = shared.end();
@@ -171,31 +83,6 @@ fn serve_booked<L: Ledger + Send + Sync, R: Wait + Threads + Sync + time::Clock>
         return Err(ServeFault::NoMemory);
     }
     Ok(settle(booked, passes))
-}
-
-/// What the threads share.
-fn service_of<L: Ledger, R: Threads + time::Clock>(
-    rt: &R,
-    alloc: Global,
-    config: &Config<Global>,
-    shared: Shared<L, Paged<Global>, Heaped<Global>>,
-    passes: Vec<Pass<L>>,
-) -> Result<Service<L>, ServeFault> {
-    // The C library gives no block of this size back to the system from now on, which would cost more than the copies.
-    drop(Vec::<u8>::with_capacity(alloc, LARGEST)?);
-    Ok(Service {
-        alloc,
-        shared,
-        passes: PassPool::new(passes),
-        bells: Bells::new(alloc, config)?,
-        table: table_of(alloc, config.exports())?,
-        start: Instant::now(rt).ok(),
-        closed: AtomicBool::new(false),
-        taken: AtomicBool::new(false),
-        light: LightLoad::new(),
-        latest_long: Mutex::new(None),
-        is_wide: available_parallelism(rt).map_or(false, |count| count.get() >= PROCESSORS),
-    })
 }
 
 /// All threads: returns once each has ended. False where a listener failed, or its thread couldn't be had.
@@ -218,7 +105,7 @@ fn run_threads<L: Ledger + Send + Sync, R: Wait + Threads + Sync + time::Clock>(
 
 fn run_worker<L: Ledger, R: Wait + time::Clock>(rt: &R, service: &Service<L>) {
     if let Some(pass) = service.passes.borrow(rt) {
-        let gate = ServiceGate::new(rt, service);
+        let gate = WorkerGate::new(rt, service);
         let pass = work(rt, &service.shared, &gate, pass);
         service.passes.give_back(rt, pass);
     }
@@ -271,12 +158,12 @@ fn accept_all<L: Ledger + Send + Sync, R: Wait + Threads + Sync + time::Clock>(
                 accepted = false;
                 break;
             };
-            if let Err(peer) = entrance.lobby.hand_over(rt, peer) {
+            if let Err(peer) = entrance.idle.hand_over(rt, peer) {
                 // Where no thread can be had the connection is dropped.
-                let _ = scope.spawn(move || serve_clients(rt, service, &entrance.lobby, peer));
+                let _ = scope.spawn(move || serve_clients(rt, service, &entrance.idle, peer));
             }
         }
-        entrance.lobby.close();
+        entrance.idle.close();
         accepted
     })
 }
@@ -294,9 +181,27 @@ fn accept_one<L: Ledger, R: Wait + time::Clock>(
         }
         match accepted {
             Ok(peer) => return Some(peer),
-            Err(error) if may_pass(&error) => thread::sleep(rt, Duration::from_millis(RETRY)),
+            Err(error) if may_pass(&error) => thread::sleep(rt, Duration::from_millis(RETRY_MS)),
             Err(_) => return None,
         }
     }
     unreachable!()
+}
+
+/// Serves a client, and then each that comes while this thread waits for one.
+fn serve_clients<L: Ledger + Send + Sync, R: Wait + Threads + Sync + time::Clock>(
+    rt: &R,
+    service: &Service<L>,
+    idle: &IdleThreads,
+    first: TcpStream,
+) {
+    let mut next = Some(first);
+    for _ in rt.forever() {
+        let Some(peer) = next.take() else {
+            return;
+        };
+        serve_client(rt, service, &peer);
+        drop(peer);
+        next = idle.wait(rt);
+    }
 }

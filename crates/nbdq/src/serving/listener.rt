@@ -1,6 +1,6 @@
 //! Listeners of either kind, and the connections that they accept.
 
-use super::lobby::Lobby;
+use super::idle_threads::IdleThreads;
 use nbd_base::NoMemory;
 use std::alloc::Global;
 use std::io;
@@ -24,13 +24,13 @@ pub enum Listener {
 #[derive(Drop)]
 pub struct Entrance {
     pub listener: Listener,
-    pub lobby: Lobby,
+    pub idle: IdleThreads,
 }
 
 impl Entrance {
     pub fn new(alloc: Global, listener: Listener) -> Result<Entrance, NoMemory> {
-        let lobby = Lobby::new(alloc)?;
-        Ok(Entrance { listener, lobby })
+        let idle = IdleThreads::new(alloc)?;
+        Ok(Entrance { listener, idle })
     }
 }
 

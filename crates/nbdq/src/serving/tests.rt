@@ -1,25 +1,15 @@
 //! Whole conversations with a running server, over loopback and over a Unix socket.
 
-use super::ahead::{Ahead, Feed};
-use super::light::LightLoad;
-use super::line::{Line, Outlet};
-use super::load::{Handed, Load};
-use super::lobby::Lobby;
-use super::stage::Stage;
-use super::watch::Watch;
+use super::idle_threads::IdleThreads;
 use super::*;
 use nbd_commands::{ExportList, ExportSettings};
-use nbd_wire::protocol::{READ, TRIM, WRITE};
+use nbd_wire::protocol::{READ, WRITE};
 use nbd_wire::{RequestHead, write_head};
-use nbd_workers::Bell;
-use server_core::SessionId;
 use std::io::{Read, Write};
 use std::net::TcpStream;
-use std::os::fd::OwnedFd;
 use std::os::unix::net::UnixStream;
 use std::test::Fail;
 use std::{fs, io};
-use tag_clock::Moment;
 
 const CREW: Crew = Crew {
     workers: 4,
@@ -281,179 +271,25 @@ fn long_writes_and_a_second_client(rt: HostRuntime) -> Result<(), Fail> {
     Ok(())
 }
 
-/// The byte that is sent at a place.
-fn byte_at(at: usize) -> u8 {
-    (at % 251) as u8
-}
-
-/// Sends so many bytes, and ends.
-fn send_bytes(alloc: Global, stream: &mut TcpStream, count: usize) -> io::Result<()> {
-    let mut bytes = Vec::new(alloc);
-    for at in 0..count {
-        bytes.push(byte_at(at))?;
-    }
-    stream.write_all(bytes.as_slice())
-}
-
-/// How many bytes come while they are read ahead, and whether each is the one that was sent.
-fn fed<R: Wait + Threads + Sync>(
-    rt: &R,
-    alloc: Global,
-    peer: &TcpStream,
-) -> io::Result<(usize, bool)> {
-    let bell = Bell::new();
-    let session = SessionId {
-        export: 0,
-        number: 0,
-    };
-    let patient = AtomicBool::new(false);
-    let light = LightLoad::new();
-    let outlet = Outlet::new(alloc, peer, &patient, &light);
-    let (Ok(outlet), Ok(stage), Ok(ahead)) = (outlet, Stage::new(alloc), Ahead::new(alloc)) else {
-        return Ok((0, false));
-    };
-    let line = &Line::new(session, peer, outlet, stage, ahead, &bell, &light);
-    thread::scope(thread::scope_env(), rt, |scope| {
-        let started = line.ahead.wants_thread()
-            && scope
-                .spawn(move || line.ahead.run(rt, alloc, line.peer))
-                .is_ok();
-        line.ahead.start();
-        let told = match started {
-            true => all_of(rt, line),
-            false => Ok((0, false)),
-        };
-        line.ahead.end();
-        told
-    })
-}
-
-fn all_of<R: Wait>(rt: &R, line: &Line<'_>) -> io::Result<(usize, bool)> {
-    let mut feed = Feed::new(rt, line);
-    let mut buffer = [0u8; 5_000];
-    let mut at = 0usize;
-    let mut well = true;
-    for _ in rt.forever() {
-        let count = feed.read(&mut buffer)?;
-        if count == 0 {
-            break;
-        }
-        for byte in buffer.iter().take(count) {
-            well = well && *byte == byte_at(at);
-            at = at.saturating_add(1);
-        }
-    }
-    Ok((at, well))
-}
-
-#[test]
-fn bytes_that_are_read_ahead(rt: HostRuntime) -> Result<(), Fail> {
-    let rt = &rt;
-    let alloc = rt.alloc();
-    let listener = &TcpListener::bind(rt, "127.0.0.1:0")?;
-    let address = listener.local_addr()?;
-    let (told, sent) = thread::join(
-        rt,
-        move || {
-            let (peer, _) = listener.accept()?;
-            fed(rt, alloc, &peer)
-        },
-        move || send_bytes(alloc, &mut TcpStream::connect(rt, address)?, 3_000_000),
-    );
-    assert!(rt; sent.is_ok());
-    assert_eq!(rt; told?, (3_000_000, true));
-    Ok(())
-}
-
-/// Whether a session is expected before one asked for little at the moment 5, then, and where one asks for much at another.
-fn expected_at(nanoseconds: u64) -> Option<(bool, bool, bool)> {
-    let light = LightLoad::new();
-    let before = light.is_expected();
-    light.note(Load::Light, Moment::new(5)?);
-    let noted = light.is_expected();
-    light.note(Load::Heavy, Moment::new(nanoseconds)?);
-    Some((before, noted, light.is_expected()))
-}
-
-#[test]
-fn a_session_that_asked_for_little(rt: HostRuntime) -> Result<(), Fail> {
-    assert_eq!(rt; expected_at(1_000_000_005), Some((false, true, true)));
-    assert_eq!(rt; expected_at(1_000_000_006), Some((false, true, false)));
-    let light = LightLoad::new();
-    light.begin();
-    assert!(rt; light.is_asking());
-    light.end();
-    assert!(rt; !light.is_asking());
-    Ok(())
-}
-
-/// What a request is that asks for so many bytes, or brings them.
-fn handed(kind: u16, length: u32) -> Handed {
-    Handed::by(RequestHead {
-        flags: 0,
-        kind,
-        cookie: 1,
-        offset: 0,
-        length,
-    })
-}
-
-#[test]
-fn how_much_a_session_asks_for(rt: HostRuntime) -> Result<(), Fail> {
-    assert_eq!(rt; handed(READ, 16_384), Handed::Short);
-    assert_eq!(rt; handed(READ, 16_385), Handed::LongRead);
-    assert_eq!(rt; handed(WRITE, 65_535), Handed::Short);
-    assert_eq!(rt; handed(WRITE, 65_536), Handed::LongWrite);
-    assert_eq!(rt; handed(TRIM, 1_048_576), Handed::Short);
-    assert_eq!(rt; Load::of(Handed::Short, false), Load::Light);
-    assert_eq!(rt; Load::of(Handed::Short, true), Load::Heavy);
-    assert_eq!(rt; Load::of(Handed::LongRead, false), Load::Heavy);
-    assert_eq!(rt; Load::of(Handed::LongWrite, false), Load::Heavy);
-    Ok(())
-}
-
-/// Whether something came when a socket was looked at before a byte was sent, and at how many of twelve looks after it.
-fn watched(rt: &HostRuntime) -> io::Result<(bool, usize)> {
-    let (here, mut there) = UnixStream::pair(rt)?;
-    let peer = &TcpStream::from(OwnedFd::from(here));
-    let mut watch = Watch::new();
-    let before = watch.look(peer);
-    there.write_all(b"x")?;
-    let mut after = 0usize;
-    for _ in 0..12 {
-        if watch.look(peer) {
-            after = after.saturating_add(1);
-        }
-    }
-    Ok((before, after))
-}
-
-#[test]
-fn a_socket_that_is_watched(rt: HostRuntime) -> Result<(), Fail> {
-    // Since nothing came at first, the socket isn't looked at for eight reads.
-    assert_eq!(rt; watched(&rt)?, (false, 4));
-    Ok(())
-}
-
 #[test]
 fn a_client_handed_over(rt: HostRuntime) -> Result<(), Fail> {
     let rt = &rt;
     let listener = TcpListener::bind(rt, "127.0.0.1:0")?;
     let client = TcpStream::connect(rt, listener.local_addr()?)?;
-    let lobby = &Lobby::new(rt.alloc())?;
+    let idle = &IdleThreads::new(rt.alloc())?;
     let (waited, ()) = thread::join(
         rt,
-        move || (lobby.wait(rt).is_some(), lobby.wait(rt).is_some()),
+        move || (idle.wait(rt).is_some(), idle.wait(rt).is_some()),
         move || {
-            let mut handed = lobby.hand_over(rt, client);
+            let mut handed = idle.hand_over(rt, client);
             for _ in rt.forever() {
                 let Err(back) = handed else {
                     break;
                 };
                 thread::sleep(rt, Duration::from_millis(1));
-                handed = lobby.hand_over(rt, back);
+                handed = idle.hand_over(rt, back);
             }
-            lobby.close();
+            idle.close();
         },
     );
     assert_eq!(rt; waited, (true, false));

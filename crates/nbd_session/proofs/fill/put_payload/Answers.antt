@@ -4,7 +4,7 @@ use Rattle.std.proofs.Math.Seq.{take-add}
 use Rattle.std.proofs.lemmas.List.{take-append-drop}
 use Rattle.nbd_session.specs.Streams.{WritesPart}
 use Rattle.nbd_session.proofs.KnownLemmas.{Appends-then}
-use Rattle.nbd_session.proofs.SessionTurnLemmas.{part_before, part_behind}
+use Rattle.nbd_session.proofs.TextPartLemmas.{part_before, part_behind}
 use Rattle.nbd_session.proofs.fill.put_payload.Goals as goal
 
 pub returns-in-Err-clause-err : goal.returns-in-Err-clause-err

@@ -1,0 +1,211 @@
+//! What a reader hands in under one hold of the server.
+
+use crate::feed::Feed;
+use crate::outlet::Outlet;
+use crate::rules::joined_size;
+use crate::session_link::SessionLink;
+use export_cell::Outdated;
+use nbd_base::NoMemory;
+use nbd_service::policy::{OUTDATED_PAGES, performs_itself, size_of};
+use nbd_service::{Asked, Disks, RequestSize, Service, Wakeups, prefetch};
+use nbd_session::{Counted, Frame, FrameReader};
+use nbd_wire::{Request, RequestHead};
+use server_lock::{AnswerTrace, EventTrace, Pass, Trace};
+use session_turns::{Stop, Turn, hand_in, offer_held, read_ready};
+use std::alloc::Global;
+use std::sync::ledger::Ledger;
+use std::sync::{MutexGuard, Wait};
+use tag_clock::Clock;
+
+/// Where a reader has its requests from, and what it keeps for its holds of the server.
+#[derive(Drop)]
+pub struct RequestSource<'a, 'b, R: Wait> {
+    pub frames: FrameReader<Feed<'a, 'b, R>, Global>,
+    pub wakeups: Wakeups,
+    /// Empty but while the server is let go.
+    pub outdated: Outdated<Global>,
+}
+
+/// What is offered first.
+#[derive(Drop)]
+pub enum Offer {
+    Read(Frame<Global>),
+    /// What was held before.
+    Again(Request<Global>),
+}
+
+impl Offer {
+    /// The head of the request. None where the client sends no more.
+    pub fn head(&self) -> Option<RequestHead> {
+        match self {
+            Offer::Read(Frame::Whole(request)) | Offer::Again(request) => Some(request.head()),
+            Offer::Read(Frame::Ended(_)) => None,
+        }
+    }
+}
+
+/// What a reader's hold of the server came to.
+#[derive(Drop)]
+pub struct BatchOutcome {
+    /// The last of its turns.
+    pub turn: Turn<Global>,
+    /// The size of what each of its turns handed in. Nothing where that isn't the same.
+    pub size: RequestSize,
+    /// Why no more replies were taken after it. None where the writer takes them.
+    pub stop: Option<Stop>,
+    /// Whether a READ asks for long data: it is left to the writer.
+    pub reads_long: bool,
+    /// Whether a WRITE carries long data.
+    pub writes_long: bool,
+    /// Whether something waits to be chosen.
+    pub waits: bool,
+    /// How many requests were handed in.
+    pub arrived: u64,
+    /// What prefetching for these requests came to.
+    pub prefetched: u64,
+}
+
+/// What a turn handed in.
+#[derive(Clone, Copy, Debug, PartialEq, Eq, Drop)]
+struct Admission {
+    /// Whether a request was handed in.
+    arrived: bool,
+    size: RequestSize,
+    /// The request's number, where it wasn't answered at once.
+    number: Option<u64>,
+}
+
+impl<'a, 'b, R: Wait> RequestSource<'a, 'b, R> {
+    pub fn new(
+        alloc: Global,
+        reader: Counted<Feed<'a, 'b, R>>,
+        wakeups: Wakeups,
+    ) -> Result<RequestSource<'a, 'b, R>, NoMemory> {
+        Ok(RequestSource {
+            frames: FrameReader::new(alloc, reader),
+            wakeups,
+            outdated: Outdated::with_room(alloc, OUTDATED_PAGES)?,
+        })
+    }
+
+    /// Hands in what is offered and the requests that were read besides, so many at most, until long data and short meet, or another
+    /// session's request was performed.
+    pub fn hand_in_batch<L: Ledger, C: Clock>(
+        &mut self,
+        disks: &mut Disks<L>,
+        service: &Service<L>,
+        link: &SessionLink<'_>,
+        pass: &mut Pass<L>,
+        outlet: &mut Option<MutexGuard<'_, Outlet<'_>>>,
+        offer: Offer,
+        most: usize,
+        clock: &C,
+    ) -> BatchOutcome {
+        let prefetched = prefetch(disks, link.session.export, self.frames.ready(), most);
+        let turn = match offer {
+            Offer::Read(frame) => hand_in(disks, pass, link.session, frame, clock),
+            Offer::Again(request) => offer_held(disks, pass, link.session, request, clock),
+        };
+        let admission = admission_of(&turn, pass.last());
+        self.follow(disks, service, link, pass, outlet, admission, clock);
+        let mut batch = BatchOutcome::first(turn, admission, prefetched);
+        for _ in 1..most {
+            if batch.size == RequestSize::Nothing || self.wakeups.served_others() {
+                break;
+            }
+            let Some(turn) = read_ready(disks, pass, link.session, &mut self.frames, clock) else {
+                break;
+            };
+            let admission = admission_of(&turn, pass.last());
+            self.follow(disks, service, link, pass, outlet, admission, clock);
+            batch.add(turn, admission);
+        }
+        if let Some(outlet) = outlet {
+            batch.stop = Some(outlet.take(disks, pass, link.session));
+        }
+        batch.waits = disks.server().waiting() > 0;
+        disks.sweep(link.session.export, &mut self.outdated);
+        batch
+    }
+
+    /// What follows a turn under the same hold: a request other than a READ of long data is performed, and its reply taken,
+    /// where the outlet is at hand. So the steps of a request stand side by side in its export's log, and those of a READ go into
+    /// the base without its data. Who asked is noted only where the request stays: whoever performs it has to know.
+    fn follow<L: Ledger, C: Clock>(
+        &mut self,
+        disks: &mut Disks<L>,
+        service: &Service<L>,
+        link: &SessionLink<'_>,
+        pass: &mut Pass<L>,
+        outlet: &mut Option<MutexGuard<'_, Outlet<'_>>>,
+        admission: Admission,
+        clock: &C,
+    ) {
+        let Some(number) = admission.number else {
+            return;
+        };
+        let own = Asked {
+            session: link.session,
+            number,
+        };
+        let served = performs_itself(admission.size)
+            && self
+                .wakeups
+                .serve_own(disks, &service.bells, pass, own, clock);
+        if !served {
+            service.bells.note_asker(link.session, number);
+            return;
+        }
+        if let Some(outlet) = outlet {
+            outlet.take_one(disks, pass, link.session);
+        }
+    }
+}
+
+impl BatchOutcome {
+    /// After its first turn.
+    fn first(turn: Turn<Global>, admission: Admission, prefetched: u64) -> BatchOutcome {
+        BatchOutcome {
+            turn,
+            size: admission.size,
+            stop: None,
+            reads_long: admission.size == RequestSize::LongRead,
+            writes_long: admission.size == RequestSize::LongWrite,
+            waits: false,
+            arrived: admission.arrived as u64,
+            prefetched,
+        }
+    }
+
+    /// One more turn was made.
+    fn add(&mut self, turn: Turn<Global>, admission: Admission) {
+        self.turn = turn;
+        self.arrived = self.arrived.saturating_add(admission.arrived as u64);
+        self.writes_long = self.writes_long || admission.size == RequestSize::LongWrite;
+        self.reads_long = self.reads_long || admission.size == RequestSize::LongRead;
+        self.size = joined_size(self.size, admission.size);
+    }
+}
+
+/// What a turn handed in, by what its pass was told last.
+fn admission_of(turn: &Turn<Global>, last: Option<Trace>) -> Admission {
+    let mut admission = Admission {
+        arrived: false,
+        size: RequestSize::Nothing,
+        number: None,
+    };
+    let Turn::Going = turn else {
+        return admission;
+    };
+    admission.arrived = true;
+    let Some(Trace { event, answer }) = last else {
+        return admission;
+    };
+    if let AnswerTrace::Accepted { number, .. } = answer {
+        admission.number = Some(number);
+    }
+    if let EventTrace::Arrive { head, .. } = event {
+        admission.size = size_of(head);
+    }
+    admission
+}

@@ -1,0 +1,101 @@
+//! One client's connection: its handshake, and then a thread that reads requests beside one that writes replies.
+
+use crate::batch::RequestSource;
+use crate::feed::Feed;
+use crate::reader::read_requests;
+use crate::session_link::SessionLink;
+use crate::writer::write_replies;
+use nbd_base::NoMemory;
+use nbd_service::policy::FLUSH_WAIT_MS;
+use nbd_service::{Service, Wakeups};
+use nbd_session::{Counted, Entry, haggle};
+use server_core::SessionId;
+use server_lock::Pass;
+use session_turns::Door;
+use std::net::TcpStream;
+use std::sync::Wait;
+use std::sync::atomic::AtomicBool;
+use std::sync::ledger::Ledger;
+use std::thread::Threads;
+use std::time::Duration;
+use std::{thread, time};
+
+/// Serves one client to its end, whichever way that comes.
+pub fn serve_client<L: Ledger + Send + Sync, R: Wait + Threads + Sync + time::Clock>(
+    rt: &R,
+    service: &Service<L>,
+    peer: &TcpStream,
+) {
+    let Some(pass) = service.passes.borrow(rt) else {
+        return;
+    };
+    let mut reader = Counted::new(peer);
+    let mut writer = Counted::new(peer);
+    let mut door = Door::new(rt, &service.shared, pass);
+    let entry = haggle(
+        service.alloc,
+        &service.table,
+        &mut reader,
+        &mut writer,
+        &mut door,
+    );
+    let session = door.session();
+    let mut pass = door.into_pass();
+    if let Some(session) = session {
+        match entry {
+            Ok(Entry::In(_)) => serve_session(rt, service, peer, session, &mut pass),
+            _ => service.give_up(rt, session, &mut pass),
+        }
+    }
+    service.passes.give_back(rt, pass);
+}
+
+fn serve_session<L: Ledger + Send + Sync, R: Wait + Threads + Sync + time::Clock>(
+    rt: &R,
+    service: &Service<L>,
+    peer: &TcpStream,
+    session: SessionId,
+    pass: &mut Pass<L>,
+) {
+    // Where it can't be set, a reader waits for a client that doesn't read.
+    let _ = peer.set_write_timeout(Some(Duration::from_millis(FLUSH_WAIT_MS)));
+    let patient = AtomicBool::new(false);
+    let wakeups = Wakeups::new(service.alloc);
+    if let (Ok(link), Ok(wakeups)) = (link_of(service, peer, &patient, session), wakeups) {
+        let feed = Counted::new(Feed::new(rt, &link));
+        if let Ok(source) = RequestSource::new(service.alloc, feed, wakeups) {
+            read_and_write(rt, service, &link, source, pass);
+        }
+    }
+    // The writer has dropped the session, where there was one.
+    service.give_up(rt, session, pass);
+}
+
+/// What the threads of the session share.
+fn link_of<'a, L: Ledger>(
+    service: &'a Service<L>,
+    peer: &'a TcpStream,
+    patient: &'a AtomicBool,
+    session: SessionId,
+) -> Result<SessionLink<'a>, NoMemory> {
+    let replies = service.bells.replies(session);
+    let interactive = &service.interactive;
+    SessionLink::new(service.alloc, session, peer, patient, replies, interactive)
+}
+
+/// The writer has a thread of its own, the reader this one.
+fn read_and_write<L: Ledger + Send + Sync, R: Wait + Threads + Sync + time::Clock>(
+    rt: &R,
+    service: &Service<L>,
+    link: &SessionLink<'_>,
+    source: RequestSource<'_, '_, R>,
+    pass: &mut Pass<L>,
+) {
+    thread::scope(thread::scope_env(), rt, |scope| {
+        let started = scope.spawn(move || write_replies(rt, service, link));
+        if started.is_ok() {
+            read_requests(rt, scope, service, link, source, pass);
+        }
+        link.ahead.end();
+    });
+}

@@ -1,0 +1,108 @@
+//! Where the bytes of a connection come from: its socket, or what was read ahead.
+ghost use Rattle.std.specs.Prelude.{◌≤◌, length};
+
+use crate::read_ahead::Piece;
+use crate::session_link::SessionLink;
+use nbd_service::SpinPoll;
+use nbd_service::policy::MUCH_READ_BYTES;
+use std::io;
+use std::io::Read;
+use std::sync::Wait;
+
+/// Where the requests of a connection come from: what was read ahead, and else the socket.
+#[derive(Drop)]
+pub struct Feed<'a, 'b, R: Wait> {
+    rt: &'a R,
+    link: &'a SessionLink<'b>,
+    // The piece that is read from, and how many of its bytes were.
+    piece: Option<Piece>,
+    used: usize,
+    poll: SpinPoll,
+}
+
+impl<'a, 'b, R: Wait> Feed<'a, 'b, R> {
+    pub fn new(rt: &'a R, link: &'a SessionLink<'b>) -> Feed<'a, 'b, R> {
+        Feed {
+            rt,
+            link,
+            piece: None,
+            used: 0,
+            poll: SpinPoll::new(),
+        }
+    }
+
+    // The next bytes of the piece that is read from, as many as there is room for.
+    fn copy(&mut self, buf: &mut [u8]) -> usize
+        ensures { result ≤ length buf.new }
+    {
+        let Some(piece) = &self.piece else {
+            return 0;
+        };
+        let bytes = piece.bytes.as_slice();
+        let rest = bytes.get(self.used..piece.count).unwrap_or_default();
+        let count = rest.len().min(buf.len());
+        buf[..count].copy_from_slice(&rest[..count]);
+        self.used = self.used.saturating_add(count);
+        count
+    }
+
+    // Whether the piece that is read from has more bytes.
+    fn has_rest(&self) -> bool {
+        match &self.piece {
+            Some(piece) => self.used < piece.count,
+            None => false,
+        }
+    }
+
+    // Waits for a piece that has bytes, where the socket isn't the reader's.
+    fn make_ready(&mut self) {
+        for _ in self.rt.forever() {
+            if self.has_rest() {
+                return;
+            }
+            if let Some(piece) = self.piece.take() {
+                self.link.ahead.give_back(self.rt, piece);
+            }
+            self.used = 0;
+            self.piece = self.next();
+            if self.piece.is_none() {
+                return;
+            }
+        }
+    }
+
+    // The next piece. None where the socket is the reader's. What was written is sent before it waits.
+    fn next(&self) -> Option<Piece> {
+        let ahead = &self.link.ahead;
+        for _ in self.rt.forever() {
+            let heard = ahead.pieces.heard();
+            let (piece, mine) = ahead.next(self.rt);
+            if piece.is_some() {
+                return piece;
+            }
+            self.link.send_kept();
+            if mine {
+                return None;
+            }
+            ahead.pieces.wait(self.rt, heard, None);
+        }
+        unreachable!()
+    }
+}
+
+impl<R: Wait> Read for Feed<'_, '_, R> {
+    fn read(&mut self, buf: &mut [u8]) -> io::Result<usize> {
+        self.make_ready();
+        let count = self.copy(buf);
+        if count > 0 {
+            return Ok(count);
+        }
+        let mut peer = self.link.peer;
+        if !self.link.is_bulk() {
+            self.poll.poll(peer);
+        }
+        let came = peer.read(buf);
+        self.link.interactive.rest_behind(&came, MUCH_READ_BYTES);
+        came
+    }
+}

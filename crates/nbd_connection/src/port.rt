@@ -1,0 +1,56 @@
+//! A client's socket, as replies go out to it.
+
+use nbd_service::InteractiveLoad;
+use nbd_service::policy::MUCH_WRITTEN_BYTES;
+use std::io;
+use std::io::{ErrorKind, Write};
+use std::net::TcpStream;
+use std::sync::atomic::{AtomicBool, Ordering};
+
+/// A client's socket, whose write timeout says how long a write waits for a client that doesn't read.
+#[derive(Drop)]
+pub struct Port<'a> {
+    peer: &'a TcpStream,
+    // Whether a write that waited so long goes on.
+    patient: &'a AtomicBool,
+    interactive: &'a InteractiveLoad,
+}
+
+impl<'a> Port<'a> {
+    pub fn new(
+        peer: &'a TcpStream,
+        patient: &'a AtomicBool,
+        interactive: &'a InteractiveLoad,
+    ) -> Port<'a> {
+        Port {
+            peer,
+            patient,
+            interactive,
+        }
+    }
+}
+
+impl Write for Port<'_> {
+    fn write(&mut self, buf: &[u8]) -> io::Result<usize> {
+        let mut peer = self.peer;
+        for _ in 0..u64::MAX {
+            match peer.write(buf) {
+                Err(error) if self.patient.load(Ordering::SeqCst) && is_late(&error) => {}
+                written => {
+                    self.interactive.rest_behind(&written, MUCH_WRITTEN_BYTES);
+                    return written;
+                }
+            }
+        }
+        Ok(0)
+    }
+
+    fn flush(&mut self) -> io::Result<()> {
+        Ok(())
+    }
+}
+
+/// Whether a write failed since the client didn't read in time.
+pub fn is_late(error: &io::Error) -> bool {
+    error.kind() == ErrorKind::WouldBlock
+}

@@ -1,0 +1,188 @@
+//! The thread of a connection that reads requests.
+
+use crate::batch::{BatchOutcome, Offer, RequestSource};
+use crate::outlet::{FlushOutcome, Outlet};
+use crate::preparing::make_ready;
+use crate::rules::{wakes_worker, wakes_writer};
+use crate::session_link::SessionLink;
+use nbd_service::policy::{PATIENCE_S, batch_after, load_of, size_of};
+use nbd_service::{HoldClock, Service};
+use nbd_wire::Request;
+use nbd_workers::until;
+use server_lock::Pass;
+use session_turns::{Stop, Turn};
+use std::alloc::Global;
+use std::sync::ledger::Ledger;
+use std::sync::{MutexGuard, Wait};
+use std::thread::Scope;
+use std::time;
+use std::time::Duration;
+use tag_clock::{Clock, Moment};
+
+/// Reads requests until there are no more. Each goes in under one hold of the server, with others that are at hand, and is
+/// performed under it. Replies that are there by then and short it writes itself; others it leaves to the writer, as it
+/// does READs of long data.
+pub fn read_requests<'s, E, L: Ledger, R: Wait + Sync + time::Clock>(
+    rt: &'s R,
+    scope: &Scope<'s, E>,
+    service: &Service<L>,
+    link: &'s SessionLink<'_>,
+    mut source: RequestSource<'_, '_, R>,
+    pass: &mut Pass<L>,
+) {
+    let mut held: Option<Request<Global>> = None;
+    for _ in rt.forever() {
+        let heard = link.room.heard();
+        let offer = match held.take() {
+            Some(request) => Offer::Again(request),
+            None => Offer::Read(source.frames.next()),
+        };
+        let (turn, ahead) = read_on(rt, service, link, &mut source, pass, offer);
+        set_reading_ahead(rt, scope, service.alloc, link, ahead);
+        match turn {
+            Turn::Going => {}
+            Turn::Held(request) => {
+                held = Some(request);
+                link.replies.ring();
+                link.room
+                    .wait(rt, heard, Some(Duration::from_secs(PATIENCE_S)));
+            }
+            Turn::Idle | Turn::Ended => break,
+        }
+    }
+    link.replies.ring();
+}
+
+/// Has the client's bytes read ahead from now on, or no longer.
+fn set_reading_ahead<'s, E, R: Wait + Sync>(
+    rt: &'s R,
+    scope: &Scope<'s, E>,
+    alloc: Global,
+    link: &'s SessionLink<'_>,
+    ahead: bool,
+) {
+    if !ahead {
+        link.ahead.stop();
+        return;
+    }
+    if link.ahead.wants_thread() {
+        let started = scope.spawn(move || link.ahead.run(rt, alloc, link.peer));
+        if started.is_err() {
+            link.ahead.has_no_thread();
+            return;
+        }
+    }
+    link.ahead.start();
+}
+
+/// One hold of the server, and what follows from it. Tells its last turn, and whether the client's bytes are to be read ahead: it
+/// sends long WRITEs, and no other does.
+fn read_on<L: Ledger, R: Wait + time::Clock>(
+    rt: &R,
+    service: &Service<L>,
+    link: &SessionLink<'_>,
+    source: &mut RequestSource<'_, '_, R>,
+    pass: &mut Pass<L>,
+    offer: Offer,
+) -> (Turn<Global>, bool) {
+    let mut outlet = link.outlet.try_lock();
+    let before = match &outlet {
+        Some(outlet) => outlet.unwritten(),
+        None => 0,
+    };
+    let batch = hold_once(rt, service, link, source, pass, &mut outlet, offer);
+    let busy = outlet.is_none();
+    let written = match outlet {
+        Some(mut outlet) => {
+            link.note_taken(outlet.unwritten().saturating_sub(before));
+            let last = !is_going(&batch.turn) || !link.keeps_replies(rt, &*outlet);
+            is_written(rt, service, link, &mut *outlet, pass, last)
+                && batch.stop == Some(Stop::Empty)
+        }
+        None => false,
+    };
+    if wakes_writer(batch.reads_long, written) {
+        link.replies.ring();
+    }
+    if busy && batch.reads_long {
+        make_ready(rt, service, link, &mut source.wakeups, pass);
+    }
+    if wakes_worker(batch.waits, batch.reads_long) {
+        service.bells.work.ring_one();
+    }
+    let ahead = batch.writes_long
+        && service.is_wide
+        && service.note_long_write(rt, link.session, service.clock(rt).now());
+    (batch.turn, ahead)
+}
+
+/// Hands in what is offered, and requests that were read besides, under one hold of the server.
+fn hold_once<L: Ledger, R: Wait + time::Clock>(
+    rt: &R,
+    service: &Service<L>,
+    link: &SessionLink<'_>,
+    source: &mut RequestSource<'_, '_, R>,
+    pass: &mut Pass<L>,
+    outlet: &mut Option<MutexGuard<'_, Outlet<'_>>>,
+    offer: Offer,
+) -> BatchOutcome {
+    let clock = service.clock(rt);
+    let asked = clock.now();
+    note_load(service, link, &offer, source.frames.is_ready(), asked);
+    let mut disks = service.hold(rt, link.is_bulk());
+    let held = HoldClock::at(clock.now());
+    let most = batch_after(until(asked, held.now()));
+    let batch = source.hand_in_batch(&mut *disks, service, link, pass, outlet, offer, most, &held);
+    service.let_go(disks);
+    link.note_arrived(batch.arrived);
+    source.outdated.let_go();
+    link.note_prefetched(batch.prefetched);
+    source.wakeups.wake(&service.bells);
+    batch
+}
+
+/// Notes how much the session asks for at this moment.
+fn note_load<L: Ledger>(
+    service: &Service<L>,
+    link: &SessionLink<'_>,
+    offer: &Offer,
+    more: bool,
+    now: Moment,
+) {
+    let Some(head) = offer.head() else {
+        return;
+    };
+    let load = load_of(size_of(head), more);
+    link.note_load(load);
+    service.interactive.note(load, now);
+}
+
+fn is_going(turn: &Turn<Global>) -> bool {
+    match turn {
+        Turn::Going => true,
+        _ => false,
+    }
+}
+
+/// Writes the replies that were taken, where they are short, and sends them where the reader may sleep next. False where the writer
+/// has something to do.
+fn is_written<L: Ledger, R: Wait>(
+    rt: &R,
+    service: &Service<L>,
+    link: &SessionLink<'_>,
+    outlet: &mut Outlet<'_>,
+    pass: &mut Pass<L>,
+    last: bool,
+) -> bool {
+    if !outlet.is_brief() {
+        return false;
+    }
+    match outlet.write_briefly(last) {
+        FlushOutcome::All => true,
+        FlushOutcome::Part => false,
+        FlushOutcome::Failed => {
+            service.give_up(rt, link.session, pass);
+            false
+        }
+    }
+}

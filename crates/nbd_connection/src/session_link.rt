@@ -1,0 +1,143 @@
+//! What the threads of a session share: the session, its bells, and where its replies go out.
+
+use crate::outlet::{FlushOutcome, Outlet};
+use crate::read_ahead::ReadAhead;
+use crate::ready_replies::ReadyReplies;
+use nbd_base::NoMemory;
+use nbd_service::policy::patience;
+use nbd_service::{InteractiveLoad, Load};
+use nbd_workers::Bell;
+use server_core::SessionId;
+use std::alloc::Global;
+use std::net::TcpStream;
+use std::sync::atomic::{AtomicBool, AtomicU64, Ordering};
+use std::sync::{Mutex, Wait};
+use std::time::Duration;
+
+/// A session, and what its threads share.
+#[derive(Drop)]
+pub struct SessionLink<'a> {
+    pub(crate) session: SessionId,
+    pub peer: &'a TcpStream,
+    /// Whoever holds the server as well has locked this first, and nobody waits for it while it holds the server.
+    pub(crate) outlet: Mutex<Outlet<'a>>,
+    /// Nobody waits for it while it holds the server.
+    pub(crate) ready: ReadyReplies,
+    /// Nobody waits for it while it holds the server.
+    pub ahead: ReadAhead,
+    /// Rung where the session has a reply, or has left.
+    pub(crate) replies: &'a Bell,
+    /// The sessions that ask for little.
+    pub(crate) interactive: &'a InteractiveLoad,
+    /// Rung where a reply was taken.
+    pub(crate) room: Bell,
+    /// How many requests were handed in.
+    arrived: AtomicU64,
+    /// How many replies were taken.
+    taken: AtomicU64,
+    /// Whether its holds of the server are long.
+    bulk: AtomicBool,
+    /// Whether the reader wrote replies and didn't send them.
+    kept: AtomicBool,
+    prefetched: AtomicU64,
+}
+
+impl<'a> SessionLink<'a> {
+    /// What the threads of a session share that has nothing to do yet. Its reader's writes are those that aren't `patient`.
+    pub fn new(
+        alloc: Global,
+        session: SessionId,
+        peer: &'a TcpStream,
+        patient: &'a AtomicBool,
+        replies: &'a Bell,
+        interactive: &'a InteractiveLoad,
+    ) -> Result<SessionLink<'a>, NoMemory> {
+        let outlet = Outlet::new(alloc, peer, patient, interactive)?;
+        let ready = ReadyReplies::new(alloc)?;
+        let ahead = ReadAhead::new(alloc)?;
+        Ok(SessionLink {
+            session,
+            peer,
+            outlet: Mutex::new(outlet),
+            ready,
+            ahead,
+            replies,
+            interactive,
+            room: Bell::new(),
+            arrived: AtomicU64::new(0),
+            taken: AtomicU64::new(0),
+            bulk: AtomicBool::new(false),
+            kept: AtomicBool::new(false),
+            prefetched: AtomicU64::new(0),
+        })
+    }
+
+    /// What prefetching came to. Nobody reads it: were it not kept, a compiler might leave the prefetching out.
+    pub fn note_prefetched(&self, prefetched: u64) {
+        if prefetched > 0 {
+            self.prefetched.store(prefetched, Ordering::SeqCst);
+        }
+    }
+
+    /// So many requests were handed in.
+    pub fn note_arrived(&self, count: u64) {
+        if count > 0 {
+            self.arrived.fetch_add(count, Ordering::SeqCst);
+        }
+    }
+
+    /// The session asks for so much.
+    pub fn note_load(&self, load: Load) {
+        let bulk = load == Load::Bulk;
+        if self.is_bulk() != bulk {
+            self.bulk.store(bulk, Ordering::SeqCst);
+        }
+    }
+
+    /// Whether the reader keeps what it wrote: its next bytes are there already.
+    pub(crate) fn keeps_replies<R: Wait>(&self, rt: &R, outlet: &Outlet<'_>) -> bool {
+        let keeps = outlet.may_keep() && self.ahead.has_more(rt);
+        if keeps {
+            self.kept.store(true, Ordering::SeqCst);
+        }
+        keeps
+    }
+
+    /// Sends the replies that the reader kept, where the writer isn't about to.
+    pub fn send_kept(&self) {
+        if self.kept.load(Ordering::SeqCst) {
+            self.kept.store(false, Ordering::SeqCst);
+            let Some(mut outlet) = self.outlet.try_lock() else {
+                return;
+            };
+            // Where it failed the connection is over, and the socket tells the reader so.
+            if outlet.send_briefly() == FlushOutcome::Part {
+                self.replies.ring();
+            }
+        }
+    }
+
+    /// Whether it asked for much when that was noted last.
+    pub fn is_bulk(&self) -> bool {
+        self.bulk.load(Ordering::SeqCst)
+    }
+
+    /// So many replies were taken.
+    pub fn note_taken(&self, count: usize) {
+        if count > 0 {
+            self.taken.fetch_add(count as u64, Ordering::SeqCst);
+            self.room.ring();
+        }
+    }
+
+    /// How long the writer sleeps without a ring: without end where nothing is under way.
+    pub fn patience(&self) -> Option<Duration> {
+        patience(self.under_way())
+    }
+
+    /// How many requests were handed in whose replies weren't taken.
+    fn under_way(&self) -> u64 {
+        let taken = self.taken.load(Ordering::SeqCst);
+        self.arrived.load(Ordering::SeqCst).wrapping_sub(taken)
+    }
+}

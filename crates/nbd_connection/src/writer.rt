@@ -1,0 +1,182 @@
+//! The thread of a connection that writes replies.
+
+use crate::outlet::Outlet;
+use crate::ready_replies::Ready;
+use crate::rules::writer_goes_on;
+use crate::session_link::SessionLink;
+use nbd_service::{Service, Wakeups};
+use server_lock::Pass;
+use session_turns::Stop;
+use std::net::Shutdown;
+use std::sync::Wait;
+use std::sync::ledger::Ledger;
+use std::time;
+
+/// What a round of a writer came to.
+#[derive(Clone, Copy, Debug, PartialEq, Eq)]
+enum Round {
+    /// There may be more to do.
+    Going,
+    /// All is written and sent.
+    Idle,
+    /// The session is over.
+    Over,
+}
+
+/// What a writer's hold of the server came to.
+#[derive(Clone, Copy, Debug, PartialEq, Eq, Drop)]
+struct DrainOutcome {
+    /// Why no more replies were taken.
+    stop: Stop,
+    /// Whether something waits to be chosen.
+    waits: bool,
+    /// Whether a request was performed.
+    performed: bool,
+}
+
+/// Writes replies until the session is over, and ends the connection. In between it serves what waits, so that a long reply
+/// is written by who has just made it.
+pub fn write_replies<L: Ledger, R: Wait + time::Clock>(
+    rt: &R,
+    service: &Service<L>,
+    link: &SessionLink<'_>,
+) {
+    if let Some(mut pass) = service.passes.borrow(rt) {
+        if let Ok(mut wakeups) = Wakeups::new(service.alloc) {
+            write_all(rt, service, link, &mut pass, &mut wakeups);
+        }
+        service.passes.give_back(rt, pass);
+    }
+    link.room.ring();
+    // Wakes a reader that waits for the client.
+    let _ = link.peer.shutdown(Shutdown::Both);
+}
+
+fn write_all<L: Ledger, R: Wait + time::Clock>(
+    rt: &R,
+    service: &Service<L>,
+    link: &SessionLink<'_>,
+    pass: &mut Pass<L>,
+    wakeups: &mut Wakeups,
+) {
+    for _ in rt.forever() {
+        let heard = link.replies.heard();
+        match write_on(rt, service, link, pass, wakeups) {
+            Round::Going => {}
+            Round::Idle => link.replies.wait(rt, heard, link.patience()),
+            Round::Over => return,
+        }
+    }
+}
+
+/// Takes the replies that are there, under one hold of the server, and writes them.
+fn write_on<L: Ledger, R: Wait + time::Clock>(
+    rt: &R,
+    service: &Service<L>,
+    link: &SessionLink<'_>,
+    pass: &mut Pass<L>,
+    wakeups: &mut Wakeups,
+) -> Round {
+    let mut guard = link.outlet.lock(rt);
+    let outlet = &mut *guard;
+    if let Some(ready) = link.ready.take(rt) {
+        return send_ready(rt, service, link, outlet, pass, ready);
+    }
+    let DrainOutcome {
+        stop,
+        waits,
+        performed,
+    } = take_on(rt, service, link, outlet, pass, wakeups);
+    let wrote = outlet.unwritten() > 0;
+    if !outlet.write() {
+        service.give_up(rt, link.session, pass);
+        return Round::Over;
+    }
+    let goes_on = writer_goes_on(waits, wrote, performed);
+    match stop {
+        Stop::Full => Round::Going,
+        Stop::Empty => {
+            if wrote && goes_on {
+                return Round::Going;
+            }
+            send(rt, service, link, outlet, pass, goes_on, waits)
+        }
+        Stop::End if !link.ready.is_empty(rt) => Round::Going,
+        Stop::End | Stop::Refused(_) => {
+            let _ = outlet.send();
+            service.give_up(rt, link.session, pass);
+            Round::Over
+        }
+    }
+}
+
+/// Takes the replies that are there. Where none is there it performs a request first, whoever asked for it.
+fn take_on<L: Ledger, R: Wait + time::Clock>(
+    rt: &R,
+    service: &Service<L>,
+    link: &SessionLink<'_>,
+    outlet: &mut Outlet<'_>,
+    pass: &mut Pass<L>,
+    wakeups: &mut Wakeups,
+) -> DrainOutcome {
+    let clock = service.clock(rt);
+    let before = outlet.unwritten();
+    let mut disks = service.hold(rt, link.is_bulk());
+    let mut stop = outlet.take(&mut *disks, pass, link.session);
+    if stop == Stop::Empty && outlet.unwritten() == 0 {
+        wakeups.serve_one(&mut *disks, &service.bells, pass, link.session, &clock);
+        stop = outlet.take(&mut *disks, pass, link.session);
+    }
+    let waits = disks.server().waiting() > 0;
+    service.let_go(disks);
+    link.note_taken(outlet.unwritten().saturating_sub(before));
+    let performed = wakeups.wake(&service.bells);
+    DrainOutcome {
+        stop,
+        waits,
+        performed,
+    }
+}
+
+/// Sends what the reader made ready.
+fn send_ready<L: Ledger, R: Wait>(
+    rt: &R,
+    service: &Service<L>,
+    link: &SessionLink<'_>,
+    outlet: &mut Outlet<'_>,
+    pass: &mut Pass<L>,
+    ready: Ready,
+) -> Round {
+    if !outlet.send_ready(&ready) {
+        service.give_up(rt, link.session, pass);
+        return Round::Over;
+    }
+    link.ready.give_back(rt, ready);
+    Round::Going
+}
+
+/// Sends what was written. Where nothing more is to be done here, what waits is left to the workers.
+fn send<L: Ledger, R: Wait>(
+    rt: &R,
+    service: &Service<L>,
+    link: &SessionLink<'_>,
+    outlet: &mut Outlet<'_>,
+    pass: &mut Pass<L>,
+    goes_on: bool,
+    waits: bool,
+) -> Round {
+    if !outlet.send() {
+        service.give_up(rt, link.session, pass);
+        return Round::Over;
+    }
+    if goes_on {
+        return Round::Going;
+    }
+    if waits {
+        service.bells.work.ring_one();
+    }
+    if link.patience().is_none() {
+        link.ready.rest(rt);
+    }
+    Round::Idle
+}

@@ -1,0 +1,96 @@
+use nbd_connection::{Feed, SessionLink};
+use nbd_service::InteractiveLoad;
+use nbd_workers::Bell;
+use server_core::SessionId;
+use std::alloc::Global;
+use std::io::{Read, Write};
+use std::net::{TcpListener, TcpStream};
+use std::sync::Wait;
+use std::sync::atomic::AtomicBool;
+use std::test::Fail;
+use std::thread::Threads;
+use std::{io, thread};
+
+/// The byte that is sent at a place.
+fn byte_at(at: usize) -> u8 {
+    (at % 251) as u8
+}
+
+/// Sends so many bytes, and ends.
+fn send_bytes(alloc: Global, stream: &mut TcpStream, count: usize) -> io::Result<()> {
+    let mut bytes = Vec::new(alloc);
+    for at in 0..count {
+        bytes.push(byte_at(at))?;
+    }
+    stream.write_all(bytes.as_slice())
+}
+
+/// How many bytes come while they are read ahead, and whether each is the one that was sent.
+fn fed<R: Wait + Threads + Sync>(
+    rt: &R,
+    alloc: Global,
+    peer: &TcpStream,
+) -> io::Result<(usize, bool)> {
+    let bell = Bell::new();
+    let session = SessionId {
+        export: 0,
+        number: 0,
+    };
+    let patient = AtomicBool::new(false);
+    let interactive = InteractiveLoad::new();
+    let made = SessionLink::new(alloc, session, peer, &patient, &bell, &interactive);
+    let Ok(made) = made else {
+        return Ok((0, false));
+    };
+    let link = &made;
+    thread::scope(thread::scope_env(), rt, |scope| {
+        let started = link.ahead.wants_thread()
+            && scope
+                .spawn(move || link.ahead.run(rt, alloc, link.peer))
+                .is_ok();
+        link.ahead.start();
+        let told = match started {
+            true => all_of(rt, link),
+            false => Ok((0, false)),
+        };
+        link.ahead.end();
+        told
+    })
+}
+
+fn all_of<R: Wait>(rt: &R, link: &SessionLink<'_>) -> io::Result<(usize, bool)> {
+    let mut feed = Feed::new(rt, link);
+    let mut buffer = [0u8; 5_000];
+    let mut at = 0usize;
+    let mut well = true;
+    for _ in rt.forever() {
+        let count = feed.read(&mut buffer)?;
+        if count == 0 {
+            break;
+        }
+        for byte in buffer.iter().take(count) {
+            well = well && *byte == byte_at(at);
+            at = at.saturating_add(1);
+        }
+    }
+    Ok((at, well))
+}
+
+#[test]
+fn bytes_that_are_read_ahead(rt: HostRuntime) -> Result<(), Fail> {
+    let rt = &rt;
+    let alloc = rt.alloc();
+    let listener = &TcpListener::bind(rt, "127.0.0.1:0")?;
+    let address = listener.local_addr()?;
+    let (told, sent) = thread::join(
+        rt,
+        move || {
+            let (peer, _) = listener.accept()?;
+            fed(rt, alloc, &peer)
+        },
+        move || send_bytes(alloc, &mut TcpStream::connect(rt, address)?, 3_000_000),
+    );
+    assert!(rt; sent.is_ok());
+    assert_eq!(rt; told?, (3_000_000, true));
+    Ok(())
+}

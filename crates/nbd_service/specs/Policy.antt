@@ -1,0 +1,83 @@
+-- The rules over values that the threads of a server follow. Data are counted in bytes, times in nanoseconds.
+use Rattle.std.specs.Prelude.{ℕ, ◌+◌, ◌-◌, ◌*◌, ◌%◌, min, Bool, true, false, ◌&&◌, ◌==◌, nat_lt, nat_le, if◌then◌else◌, Option, Some, None}
+use Rattle.nbd_service.specs.declared.request_size.RequestSize.{RequestSize}
+use Rattle.nbd_service.specs.declared.request_size.RequestSize.TheVariants as sizes
+use Rattle.nbd_service.specs.declared.request_size.Load.{Load}
+use Rattle.nbd_service.specs.declared.request_size.Load.TheVariants as loads
+
+-- ---- requests
+
+-- a READ of more than 16 KiB, a WRITE of 64 KiB or more, or neither
+abbrev pub size_by : ℕ → ℕ → RequestSize
+size_by kind length =
+    if (kind == 0) && nat_lt 16384 length then sizes.LongRead
+    else (if (kind == 1) && nat_lt 65535 length then sizes.LongWrite else sizes.Short)
+
+abbrev pub is_long : RequestSize → Bool
+is_long sizes.Nothing = false
+is_long sizes.Short = false
+is_long sizes.LongRead = true
+is_long sizes.LongWrite = true
+
+-- long data, or several requests at a time
+abbrev pub load_by : RequestSize → Bool → Load
+load_by next more = if more then loads.Bulk else (if is_long next then loads.Bulk else loads.Interactive)
+
+-- a reader performs all but READs of long data
+abbrev pub performs_by : RequestSize → Bool
+performs_by sizes.Nothing = false
+performs_by sizes.Short = true
+performs_by sizes.LongRead = false
+performs_by sizes.LongWrite = true
+
+-- 8 requests under one hold, 16 behind a wait of more than a millisecond
+abbrev pub batch_by : ℕ → ℕ
+batch_by wait = if nat_lt 1000000 wait then 16 else 8
+
+-- ---- who goes first
+
+-- twice as many reads, 8 at least and 64 at most
+abbrev pub next_skip_by : ℕ → ℕ
+next_skip_by skipped = if nat_lt skipped 4 then 8 else (if nat_lt 32 skipped then 64 else skipped * 2)
+
+-- the last of so many looks in a row
+abbrev pub yields_behind_look_by : ℕ → ℕ → Bool
+yields_behind_look_by look in_a_row = nat_lt 0 in_a_row && ((look % in_a_row) == (in_a_row - 1))
+
+abbrev pub yields_by : ℕ → ℕ → Bool
+yields_by bytes many = nat_le many bytes
+
+-- more than a second ago
+abbrev pub is_forgotten_by : ℕ → ℕ → Bool
+is_forgotten_by latest moment = nat_lt 1000000000 (moment - latest)
+
+-- ---- reading ahead
+
+abbrev pub reads_ahead_by : ℕ → Bool
+reads_ahead_by processors = nat_le 4 processors
+
+-- no other, or more than 20 milliseconds ago
+abbrev pub is_alone_by : Option ℕ → ℕ → Bool
+is_alone_by None moment = true
+is_alone_by (Some latest) moment = nat_lt 20000000 (moment - latest)
+
+-- two end the reading ahead
+abbrev pub short_pieces_by : ℕ → ℕ → ℕ
+short_pieces_by before bytes =
+    if bytes == 0 then 2 else (if nat_lt bytes 16384 then min (before + 1) 18446744073709551615 else 0)
+
+-- ---- replies
+
+abbrev pub keeps_by : ℕ → Bool
+keeps_by unsent = nat_lt unsent 4
+
+-- 128 KiB, and within the 256 KiB of the outlet together with what isn't sent
+abbrev pub suits_reader_by : ℕ → ℕ → Bool
+suits_reader_by bytes unsent = nat_le bytes 131072 && nat_lt unsent (262144 - bytes)
+
+-- a second, and without end where nothing is under way
+abbrev pub patience_by : ℕ → Option ℕ
+patience_by under_way = if under_way == 0 then None else Some 1000000000
+
+abbrev pub bell_by : ℕ → ℕ
+bell_by session = session % 64

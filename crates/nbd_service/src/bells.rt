@@ -1,0 +1,117 @@
+//! Where the threads of a server sleep, and who is woken by what.
+
+use crate::policy::{SESSION_BELLS, bell_of};
+use nbd_base::NoMemory;
+use nbd_commands::{Config, ExportConfig};
+use nbd_workers::Bell;
+use server_core::{SessionId, Ticket};
+use std::alloc::Global;
+use std::sync::atomic::{AtomicBool, AtomicU64, Ordering};
+
+/// The bells of a server.
+#[derive(Drop)]
+pub struct Bells {
+    /// Rung where something waits that no thread is about to choose.
+    pub work: Bell,
+    // Whether something waits until fewer are in service.
+    crowded: AtomicBool,
+    desks: Vec<Desk>,
+}
+
+/// One export's bells, and which of its sessions asked for which request.
+#[derive(Drop)]
+struct Desk {
+    // A session's bell is found by its number. Two sessions that share one wake each other for nothing.
+    replies: Vec<Bell>,
+    // The number of the session that asked for a request, found by the request's number. There are as many as requests may
+    // wait or be in service.
+    askers: Vec<AtomicU64>,
+}
+
+impl Bells {
+    pub fn new(alloc: Global, config: &Config<Global>) -> Result<Bells, NoMemory> {
+        let mut desks = Vec::new(alloc);
+        for export in config.exports() {
+            desks.push(Desk::new(alloc, export, config.inflight())?)?;
+        }
+        Ok(Bells {
+            work: Bell::new(),
+            crowded: AtomicBool::new(false),
+            desks,
+        })
+    }
+
+    /// A worker found as many in service as may be, while something waits. It looks once more after this, before it sleeps.
+    pub fn note_crowd(&self) {
+        self.crowded.store(true, Ordering::SeqCst);
+    }
+
+    /// A request was performed: wakes a worker, where something waits for that.
+    pub fn make_way(&self) {
+        if self.crowded.load(Ordering::SeqCst) {
+            self.crowded.store(false, Ordering::SeqCst);
+            self.work.ring_one();
+        }
+    }
+
+    /// The bell that is rung where a session has a reply, or has left.
+    pub fn replies(&self, session: SessionId) -> &Bell {
+        match self.desks.get(session.export as usize) {
+            Some(desk) => desk.replies(session.number).unwrap_or(&self.work),
+            None => &self.work,
+        }
+    }
+
+    /// A session asked for a request. It is told in time only where the session looks for replies afterwards.
+    pub fn note_asker(&self, session: SessionId, request: u64) {
+        if let Some(desk) = self.desks.get(session.export as usize) {
+            if let Some(asker) = desk.asker(request) {
+                asker.store(session.number, Ordering::SeqCst);
+            }
+        }
+    }
+
+    /// The session that asked for a request in service.
+    pub fn asker(&self, ticket: &Ticket) -> Option<SessionId> {
+        let desk = self.desks.get(ticket.export() as usize)?;
+        let asker = desk.asker(ticket.number())?;
+        Some(SessionId {
+            export: ticket.export(),
+            number: asker.load(Ordering::SeqCst),
+        })
+    }
+
+    /// Wakes who waits for the reply to a request that was performed.
+    pub fn ring_asker(&self, ticket: &Ticket) {
+        if let Some(session) = self.asker(ticket) {
+            self.replies(session).ring();
+        }
+    }
+}
+
+impl Desk {
+    fn new(
+        alloc: Global,
+        export: &ExportConfig<Global>,
+        inflight: usize,
+    ) -> Result<Desk, NoMemory> {
+        let mut replies = Vec::new(alloc);
+        for _ in 0..SESSION_BELLS {
+            replies.push(Bell::new())?;
+        }
+        let mut askers = Vec::new(alloc);
+        for _ in 0..export.depth().saturating_add(inflight) {
+            askers.push(AtomicU64::new(0))?;
+        }
+        Ok(Desk { replies, askers })
+    }
+
+    fn replies(&self, session: u64) -> Option<&Bell> {
+        self.replies.get(bell_of(session))
+    }
+
+    fn asker(&self, request: u64) -> Option<&AtomicU64> {
+        let at = request.checked_rem(self.askers.len() as u64)?;
+        self.askers.get(at as usize)
+    }
+}

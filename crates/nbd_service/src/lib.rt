@@ -1,0 +1,35 @@
+//! What the threads of a server share, and what they decide by values: `policy` has every number of the serving code and each
+//! rule over values. The rules, the clock and the faults have contracts. The rest has none and is tested instead, since it
+//! takes locks, wakes threads, looks at sockets and reads flags that others write: `Service` (the lock of the server and who
+//! goes first), the bells, the passes, the wake-ups, and the spin ladder with the poll of a socket by it; and prefetching, which
+//! changes nothing.
+#![tactic(auto)]
+
+mod bells;
+mod fault;
+mod hold_clock;
+mod interactive;
+mod passes;
+pub mod policy;
+mod prefetching;
+mod request_size;
+mod running_clock;
+mod service;
+mod spin;
+mod spin_poll;
+mod wakeups;
+mod worker_gate;
+
+pub use bells::Bells;
+pub use fault::ServeFault;
+pub use hold_clock::HoldClock;
+pub use interactive::InteractiveLoad;
+pub use passes::PassPool;
+pub use prefetching::prefetch;
+pub use request_size::{Load, RequestSize};
+pub use running_clock::RunningClock;
+pub use service::{Disks, LongWrite, Service};
+pub use spin::SpinLadder;
+pub use spin_poll::SpinPoll;
+pub use wakeups::{Asked, Wakeups};
+pub use worker_gate::WorkerGate;

@@ -1,0 +1,311 @@
+//! Every number of the serving code, and the rules over values that its threads follow. `specs/Policy.antt` says each rule.
+ghost use Rattle.std.specs.Prelude.{◌≡◌, ◌+◌, ◌*◌, ◌<◌, ◌≤◌, ◌^◌, min, option_map};
+ghost use Rattle.std.specs.Duration.{as_nanos};
+ghost use Rattle.nbd_service.specs.Policy.{batch_by, bell_by, is_alone_by, is_forgotten_by, keeps_by, load_by, next_skip_by, patience_by, performs_by, reads_ahead_by, short_pieces_by, size_by, suits_reader_by, yields_by, yields_behind_look_by};
+
+use crate::request_size::{Load, RequestSize};
+use nbd_wire::RequestHead;
+use nbd_wire::protocol::{READ, WRITE};
+use std::time::Duration;
+use tag_clock::Moment;
+
+// ---- Connections, and the threads that serve them
+
+/// How many connections may be there at a time: twice as many as all sessions of 64 exports. One more is dropped.
+pub const CONNECTIONS: u64 = 8_192;
+
+/// How many threads of one listener wait for a client at most. One more ends.
+pub const IDLE_THREADS: usize = 64;
+
+/// How many milliseconds a listener waits before it tries again to accept, where the system is short of something.
+pub const RETRY_MS: u64 = 10;
+
+/// The largest block, in bytes, that the C library is to keep for itself once it was given back. Its own bound on such
+/// blocks is 32 MiB, with what it adds to them (mallopt(3), M_MMAP_THRESHOLD).
+pub const KEPT_BLOCK_BYTES: usize = 33_550_000;
+
+/// How many bells the sessions of one export have: as many as may be open at a time.
+pub const SESSION_BELLS: u64 = 64;
+
+/// How many sessions are noted under one hold, to be woken behind it; those that are more are woken at once.
+pub const NOTED_SESSIONS: usize = 16;
+
+/// The last moment that there is, in nanoseconds: some 146 years.
+pub const LAST_MOMENT_NS: u64 = (1 << 62) - 1;
+
+// ---- Requests
+
+/// The longest data, in bytes, of a READ that a reader performs itself.
+pub const SHORT_READ_BYTES: u32 = 16_384;
+
+/// The longest data, in bytes, of a WRITE that isn't long.
+pub const SHORT_WRITE_BYTES: u32 = 65_535;
+
+/// How many requests a reader mostly hands in under one hold of the server: what a hold costs is shared by them, and whoever
+/// waits for it waits for no more than these.
+pub const BATCH: usize = 8;
+
+/// How many it hands in where it waited long for the server: then each hold is dear.
+pub const BATCH_AFTER_WAIT: usize = 16;
+
+/// How many nanoseconds are a long wait for the server.
+pub const LONG_WAIT_NS: u128 = 1_000_000;
+
+/// How many requests are performed at most under the hold in which one was handed in, for that one to be served.
+pub const PERFORMED_FOR_ONE: usize = 2;
+
+/// How many steps a request has in its export's log.
+pub const STEPS_OF_A_REQUEST: usize = 4;
+
+/// How many pages that writes put others in place of are let go once the server isn't held any more, in the export and in its base.
+pub const OUTDATED_PAGES: usize = 256;
+
+// ---- Who goes first
+
+/// For how many nanoseconds a session that asked for little is expected to ask again.
+pub const EXPECTED_NS: u64 = 1_000_000_000;
+
+/// So many bytes of one read of a socket are many: behind it the thread lets others run.
+pub const MUCH_READ_BYTES: usize = 65_536;
+
+/// So many bytes of one write to a socket are many: behind it the thread lets others run.
+pub const MUCH_WRITTEN_BYTES: usize = 196_608;
+
+/// How often a thread looks for the server before it waits like all others, and how often in a row before other threads run.
+/// `Shared::hold`, which is left then, tries the lock itself at each look.
+pub const LOCK_LOOKS: usize = 16_384;
+
+pub const LOCK_LOOKS_IN_A_ROW: usize = 32;
+
+/// How often a socket is looked at before its reader sleeps: some 20 microseconds, and a short request and its reply take 16 to 21.
+/// Were other threads let run between the looks, a client that asks for little would wait longer beside those that move much.
+pub const SOCKET_LOOKS: usize = 50;
+
+/// In how many reads a socket isn't looked at, at least, once nothing came at a look.
+pub const LEAST_SKIPPED_READS: u32 = 8;
+
+/// In how many reads in a row it isn't, at most.
+pub const MOST_SKIPPED_READS: u32 = 64;
+
+// ---- Replies
+
+/// How many bytes of replies are kept before they are sent. A reply's data come to it page by page, so that it is to hold a long one.
+pub const OUTLET_BYTES: usize = 262_144;
+
+/// How many bytes come before the data of a reply.
+pub const REPLY_HEAD_BYTES: usize = 16;
+
+/// How many replies are taken in a row: twice as many as a reader hands in requests, so that it mostly takes all.
+pub const TAKEN_REPLIES: usize = 32;
+
+/// How many replies a reader keeps at most before it sends them, where it won't sleep before the next.
+pub const KEPT_REPLIES: usize = 4;
+
+/// How many bytes of data the replies may have together that a reader writes: what a socket mostly holds, so that a client that
+/// doesn't read yet is still read.
+pub const BRIEF_BYTES: usize = 131_072;
+
+/// How many milliseconds a reader waits for a client that doesn't read its replies, before it leaves them to the writer.
+pub const FLUSH_WAIT_MS: u64 = 100;
+
+/// How many seconds a writer sleeps whose session has requests under way, and a reader whose request is held. Each reply rings their
+/// bells, so this is for a request that was so long in service that who asked for it was forgotten.
+pub const PATIENCE_S: u64 = 1;
+
+/// How many replies are ready at most, which a reader made ready for its writer.
+pub const READY_REPLIES: usize = 2;
+
+/// How many texts of replies have memory at most: one more is being made, and one sent.
+pub const READY_TEXTS: usize = READY_REPLIES + 2;
+
+/// How many bytes of data a reply has at most whose text is made.
+pub const READY_BYTES: usize = 1_048_576;
+
+// ---- Reading ahead
+
+/// How many processors there are at least where a client's bytes are read ahead: it keeps two threads busy here, and its own.
+pub const WIDE_PROCESSORS: usize = 4;
+
+/// How many nanoseconds after another session's long WRITE a session doesn't count as alone with its own.
+pub const LATELY_NS: u64 = 20_000_000;
+
+/// How many pieces are read ahead at most.
+pub const PIECES: usize = 8;
+
+/// The thread that reads ahead goes on once so many pieces are blank.
+pub const ENOUGH_BLANK_PIECES: usize = 4;
+
+/// The most bytes of a piece.
+pub const PIECE_BYTES: usize = 131_072;
+
+/// A piece of fewer bytes is short, and so many of them in a row end the reading ahead: then one thread is enough.
+pub const SHORT_PIECE_BYTES: usize = 16_384;
+
+pub const FEW_SHORT_PIECES: usize = 2;
+
+// ---- The rules
+
+/// How much data a request has, by its head.
+pub fn size_of(head: RequestHead) -> RequestSize
+    ensures { result ≡ size_by head.kind head.length }
+{
+    if head.kind == READ && head.length > SHORT_READ_BYTES {
+        RequestSize::LongRead
+    } else if head.kind == WRITE && head.length > SHORT_WRITE_BYTES {
+        RequestSize::LongWrite
+    } else {
+        RequestSize::Short
+    }
+}
+
+/// How much a session asks for whose next request is this long, with others ready behind it or none.
+pub fn load_of(next: RequestSize, more: bool) -> Load
+    ensures { result ≡ load_by next more }
+{
+    if more {
+        return Load::Bulk;
+    }
+    match next {
+        RequestSize::LongRead | RequestSize::LongWrite => Load::Bulk,
+        RequestSize::Nothing | RequestSize::Short => Load::Interactive,
+    }
+}
+
+/// Whether a reader performs a request itself that it has handed in: its writer does so with READs of long data.
+pub fn performs_itself(size: RequestSize) -> bool
+    ensures { result ≡ performs_by size }
+{
+    match size {
+        RequestSize::Short | RequestSize::LongWrite => true,
+        RequestSize::LongRead | RequestSize::Nothing => false,
+    }
+}
+
+/// How many requests a reader hands in under a hold for which it waited so long.
+pub fn batch_after(wait: Duration) -> usize
+    ensures { result ≡ batch_by (as_nanos wait) }
+{
+    if wait.as_nanos() > LONG_WAIT_NS {
+        BATCH_AFTER_WAIT
+    } else {
+        BATCH
+    }
+}
+
+/// In how many reads a socket isn't looked at, once nothing came at a look: twice as many as before it, within bounds.
+pub fn next_skip(skipped: u32) -> u32
+    ensures { result ≡ next_skip_by skipped }
+{
+    if skipped < LEAST_SKIPPED_READS / 2 {
+        LEAST_SKIPPED_READS
+    } else if skipped > MOST_SKIPPED_READS / 2 {
+        MOST_SKIPPED_READS
+    } else {
+        skipped * 2
+    }
+}
+
+/// Whether other threads run behind the look of this number, where they do so behind so many in a row. With 0 they never do.
+pub fn yields_behind_look(look: usize, in_a_row: usize) -> bool
+    ensures { result ≡ yields_behind_look_by look in_a_row }
+{
+    in_a_row > 0 && look % in_a_row == in_a_row - 1
+}
+
+/// Whether a read or a write of so many bytes is long enough to let others run behind it, where so many are many.
+pub fn yields_behind(bytes: usize, many: usize) -> bool
+    ensures { result ≡ yields_by bytes many }
+{
+    bytes >= many
+}
+
+/// Whether a session that asked for little then, in nanoseconds, isn't expected any more.
+pub fn is_forgotten(latest: u64, now: Moment) -> bool
+    ensures { result ≡ is_forgotten_by latest now }
+{
+    now.nanoseconds().saturating_sub(latest) > EXPECTED_NS
+}
+
+/// Whether a client's bytes may be read ahead, with so many processors.
+pub fn may_read_ahead(processors: usize) -> bool
+    ensures { result ≡ reads_ahead_by processors }
+{
+    processors >= WIDE_PROCESSORS
+}
+
+/// Whether a session that sends a long WRITE now is alone with it, where another sent its latest then.
+pub fn is_alone(other: &Option<Moment>, now: Moment) -> bool
+    ensures { result ≡ is_alone_by other.now now }
+{
+    match other {
+        Some(at) => now.nanoseconds().saturating_sub(at.nanoseconds()) > LATELY_NS,
+        None => true,
+    }
+}
+
+/// How many short pieces were read ahead in a row, behind one of so many bytes. One without any is the last.
+pub fn short_pieces(before: usize, bytes: usize) -> usize
+    ensures { result ≡ short_pieces_by before bytes }
+{
+    if bytes == 0 {
+        FEW_SHORT_PIECES
+    } else if bytes < SHORT_PIECE_BYTES {
+        before.saturating_add(1)
+    } else {
+        0
+    }
+}
+
+/// Whether a reader that won't sleep may keep replies, of which so many aren't sent.
+pub fn may_keep(unsent: usize) -> bool
+    ensures { result ≡ keeps_by unsent }
+{
+    unsent < KEPT_REPLIES
+}
+
+/// Whether a reader may write replies of so many bytes itself: they are short, and there is room for them beside those that
+/// weren't sent, so that nothing is sent before.
+pub fn suits_reader(bytes: usize, unsent_bytes: usize) -> bool
+    ensures { result ≡ suits_reader_by bytes unsent_bytes }
+{
+    bytes <= BRIEF_BYTES && unsent_bytes < OUTLET_BYTES - bytes
+}
+
+/// How long a writer sleeps without a ring, where so many requests are under way: without end where there is none.
+pub fn patience(under_way: u64) -> Option<Duration>
+    ensures { option_map as_nanos result ≡ patience_by under_way }
+{
+    if under_way == 0 {
+        None
+    } else {
+        Some(Duration::from_secs(PATIENCE_S))
+    }
+}
+
+/// The bell of a session, by its number. Two sessions that share one wake each other for nothing.
+pub fn bell_of(session: u64) -> usize
+    ensures { result ≡ bell_by session }
+{
+    (session % SESSION_BELLS) as usize
+}
+
+/// How many passes a server has where its listeners accept so many connections in all: one for each worker, two for each
+/// connection that may be there, and one more.
+pub fn passes_for(connections: u64, workers: u64) -> u64
+    ensures number { workers < 2 ^ 32 → result ≡ min connections 8_192 * 2 + workers + 1 }
+    ensures some { 1 ≤ result }
+{
+    connections
+        .min(CONNECTIONS)
+        .saturating_mul(2)
+        .saturating_add(workers)
+        .saturating_add(1)
+}
+
+/// The moment that lies so far behind the first. It stays at the last one.
+pub fn moment_after(passed: Duration) -> Moment
+    ensures { result ≡ min (as_nanos passed) 4_611_686_018_427_387_903 }
+{
+    let nanoseconds = passed.as_nanos().min(u128::from(LAST_MOMENT_NS)) as u64;
+    Moment::new(nanoseconds).unwrap_or(Moment::zero())
+}

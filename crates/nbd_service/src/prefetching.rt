@@ -1,0 +1,59 @@
+//! What the next requests of a session change is touched before they are handed in. It mostly is in no cache, and a processor waits for
+//! several such places at once, but for one after another where each is met in a request's own work.
+
+use crate::policy::STEPS_OF_A_REQUEST;
+use crate::service::Disks;
+use export_cell::ExportCell;
+use export_store::Paged;
+use lone_export::Step;
+use nbd_wire::protocol::WRITE;
+use nbd_wire::{Request, RequestHead};
+use payload::PAGE;
+use std::alloc::Global;
+use std::sync::ledger::Ledger;
+
+/// Touches the places of the next WRITEs' pages, so many at most, and what the oldest steps of the log are to change in the base.
+/// Tells how many of the pages are held, more or less: what is told matters only in that it stands on all that was touched.
+/// Where a READ comes next it touches nothing: what that changes is in no such place.
+pub fn prefetch<L: Ledger>(
+    disks: &Disks<L>,
+    export: u32,
+    ready: &[Request<Global>],
+    most: usize,
+) -> u64 {
+    match (ready.last(), disks.server().journal(export)) {
+        (Some(next), Some(cell)) if next.head().kind == WRITE => {
+            let image = cell.live().image();
+            let mut touched = 0u64;
+            for request in ready.iter().rev().take(most) {
+                touched = touched.wrapping_add(touch(image, request));
+            }
+            touched.wrapping_add(touch_base(cell, most))
+        }
+        _ => 0,
+    }
+}
+
+fn touch_base(cell: &ExportCell<Paged<Global>>, most: usize) -> u64 {
+    let base = cell.base().image();
+    let mut touched = 0u64;
+    for step in cell
+        .entries()
+        .iter()
+        .take(STEPS_OF_A_REQUEST.saturating_mul(most))
+    {
+        if let Step::Arrive { request, .. } = step {
+            touched = touched.wrapping_add(touch(base, request));
+        }
+    }
+    touched
+}
+
+/// Whether the first page of a WRITE is held.
+fn touch(image: &Paged<Global>, request: &Request<Global>) -> u64 {
+    let RequestHead { kind, offset, .. } = request.head();
+    match kind {
+        WRITE => image.holds(offset as usize / PAGE) as u64,
+        _ => 0,
+    }
+}

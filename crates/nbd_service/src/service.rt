@@ -1,0 +1,171 @@
+//! What the threads of a server share.
+
+use crate::bells::Bells;
+use crate::interactive::InteractiveLoad;
+use crate::passes::PassPool;
+use crate::policy::{KEPT_BLOCK_BYTES, is_alone, may_read_ahead};
+use crate::running_clock::RunningClock;
+use crate::spin::SpinLadder;
+use eligibility::Heaped;
+use export_store::Paged;
+use nbd_base::NoMemory;
+use nbd_commands::Config;
+use nbd_options::ExportTable;
+use server_core::SessionId;
+use server_lock::{Booked, Pass, Shared};
+use std::alloc::Global;
+use std::sync::atomic::{AtomicBool, Ordering};
+use std::sync::ledger::Ledger;
+use std::sync::{Mutex, MutexGuard, Wait};
+use std::thread::{Threads, available_parallelism};
+use std::time;
+use std::time::Instant;
+use tag_clock::Moment;
+
+/// A server of disks in pages, while it is held.
+pub type Disks<L> = Booked<L, Paged<Global>, Heaped<Global>>;
+
+/// The latest long WRITE.
+#[derive(Clone, Copy, Debug, PartialEq, Eq, Drop)]
+pub struct LongWrite {
+    session: SessionId,
+    at: Moment,
+    // When another session sent its latest before it.
+    other: Option<Moment>,
+}
+
+impl LongWrite {
+    /// When another session sent its latest.
+    fn by_another_than(&self, session: SessionId) -> Option<Moment> {
+        if self.session == session {
+            self.other
+        } else {
+            Some(self.at)
+        }
+    }
+}
+
+/// A server of disks in pages, and all that its threads share besides.
+#[derive(Drop)]
+pub struct Service<L: Ledger> {
+    pub alloc: Global,
+    pub shared: Shared<L, Paged<Global>, Heaped<Global>>,
+    pub passes: PassPool<L>,
+    pub bells: Bells,
+    /// What clients are told of the exports.
+    pub table: ExportTable<Global>,
+    /// None where the system's clock couldn't be read.
+    pub start: Option<Instant>,
+    /// Whether no more connections are accepted.
+    pub closed: AtomicBool,
+    /// Whether the server is held, more or less. Who looks for it reads this, which disturbs nobody; each try to hold it takes a part of
+    /// the server out of the cache of the processor that holds it.
+    pub taken: AtomicBool,
+    /// The sessions that ask for little.
+    pub interactive: InteractiveLoad,
+    pub latest_long: Mutex<Option<LongWrite>>,
+    /// Whether there are processors enough to read a client's bytes ahead.
+    pub is_wide: bool,
+}
+
+impl<L: Ledger> Service<L> {
+    /// What the threads of this server share. Its time begins now. The table is what clients are told of the exports.
+    pub fn new<R: Threads + time::Clock>(
+        rt: &R,
+        alloc: Global,
+        config: &Config<Global>,
+        table: ExportTable<Global>,
+        shared: Shared<L, Paged<Global>, Heaped<Global>>,
+        passes: PassPool<L>,
+    ) -> Result<Service<L>, NoMemory> {
+        // The C library gives no block of this size back to the system from now on, which would cost more than the copies.
+        drop(Vec::<u8>::with_capacity(alloc, KEPT_BLOCK_BYTES)?);
+        Ok(Service {
+            alloc,
+            shared,
+            passes,
+            bells: Bells::new(alloc, config)?,
+            table,
+            start: Instant::now(rt).ok(),
+            closed: AtomicBool::new(false),
+            taken: AtomicBool::new(false),
+            interactive: InteractiveLoad::new(),
+            latest_long: Mutex::new(None),
+            is_wide: available_parallelism(rt).map_or(false, |count| may_read_ahead(count.get())),
+        })
+    }
+
+    pub fn clock<'a, R: time::Clock>(&self, rt: &'a R) -> RunningClock<'a, R> {
+        RunningClock::since(rt, self.start)
+    }
+
+    /// Holds the server, until `let_go`. Who has much to do there lets interactive sessions go first, for a while.
+    pub fn hold<R: Wait>(&self, rt: &R, is_bulk: bool) -> MutexGuard<'_, Disks<L>> {
+        if is_bulk {
+            return self.look_or_wait(rt, true);
+        }
+        self.interactive.begin();
+        let held = self.look_or_wait(rt, false);
+        self.interactive.end();
+        held
+    }
+
+    /// Lets others hold the server.
+    pub fn let_go(&self, held: MutexGuard<'_, Disks<L>>) {
+        self.taken.store(false, Ordering::SeqCst);
+        drop(held);
+    }
+
+    /// Holds the server, however long it takes.
+    fn look_or_wait<R: Wait>(&self, rt: &R, is_bulk: bool) -> MutexGuard<'_, Disks<L>> {
+        let held = match self.look_long(is_bulk) {
+            Some(held) => held,
+            None => self.shared.hold(rt),
+        };
+        self.taken.store(true, Ordering::SeqCst);
+        held
+    }
+
+    /// The server, where it is free at one of many looks.
+    fn look_long(&self, is_bulk: bool) -> Option<MutexGuard<'_, Disks<L>>> {
+        let ladder = SpinLadder::LOCK;
+        for look in 0..ladder.looks {
+            let held = self.look(is_bulk);
+            if held.is_some() {
+                return held;
+            }
+            ladder.rest_behind(look);
+        }
+        None
+    }
+
+    /// The server, where it is free now, and, where that is asked for, no interactive session asks for it.
+    fn look(&self, is_bulk: bool) -> Option<MutexGuard<'_, Disks<L>>> {
+        let yields = is_bulk && self.interactive.is_asking();
+        if yields || self.taken.load(Ordering::SeqCst) {
+            return None;
+        }
+        self.shared.try_hold()
+    }
+
+    /// A session sends a long WRITE. Tells whether no other did so lately.
+    pub fn note_long_write<R: Wait>(&self, rt: &R, session: SessionId, now: Moment) -> bool {
+        let mut latest = self.latest_long.lock(rt);
+        let other = match &*latest {
+            Some(last) => last.by_another_than(session),
+            None => None,
+        };
+        let alone = is_alone(&other, now);
+        *latest = Some(LongWrite {
+            session,
+            at: now,
+            other,
+        });
+        alone
+    }
+
+    /// The session is dropped. Where it is gone already, all stays.
+    pub fn give_up<R: Wait>(&self, rt: &R, session: SessionId, pass: &mut Pass<L>) {
+        let _ = self.shared.turn_gone(rt, pass, session);
+    }
+}

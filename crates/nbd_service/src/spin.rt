@@ -1,0 +1,41 @@
+//! The spin ladder: how a thread looks for what it waits for before it sleeps, and where it lets others run.
+
+use crate::policy::{LOCK_LOOKS, LOCK_LOOKS_IN_A_ROW, SOCKET_LOOKS, yields_behind_look};
+use std::hint::spin_loop;
+use std::thread::yield_now;
+
+/// How often a thread looks for what it waits for before it sleeps.
+#[derive(Clone, Copy, Debug, PartialEq, Eq, Drop)]
+pub struct SpinLadder {
+    /// How many looks there are.
+    pub looks: usize,
+    /// Behind how many looks in a row other threads run. 0: they never do.
+    pub in_a_row: usize,
+}
+
+impl SpinLadder {
+    /// The looks for the server.
+    pub const LOCK: SpinLadder = SpinLadder {
+        looks: LOCK_LOOKS,
+        in_a_row: LOCK_LOOKS_IN_A_ROW,
+    };
+
+    /// The looks at a socket.
+    pub const SOCKET: SpinLadder = SpinLadder {
+        looks: SOCKET_LOOKS,
+        in_a_row: 0,
+    };
+
+    /// What comes behind the look of this number, which found nothing.
+    pub fn rest_behind(self, look: usize) {
+        spin_loop();
+        if yields_behind_look(look, self.in_a_row) {
+            let_others_run();
+        }
+    }
+}
+
+/// Other threads run, where there are any.
+pub fn let_others_run() {
+    yield_now();
+}

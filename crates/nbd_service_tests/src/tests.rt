@@ -1,0 +1,120 @@
+use nbd_service::policy::{
+    batch_after, bell_of, is_alone, load_of, may_keep, may_read_ahead, moment_after, next_skip,
+    passes_for, patience, performs_itself, short_pieces, size_of, suits_reader, yields_behind,
+    yields_behind_look,
+};
+use nbd_service::{InteractiveLoad, Load, RequestSize, SpinPoll};
+use nbd_wire::RequestHead;
+use nbd_wire::protocol::{READ, TRIM, WRITE};
+use std::io;
+use std::io::Write;
+use std::net::TcpStream;
+use std::os::fd::OwnedFd;
+use std::os::unix::net::UnixStream;
+use std::test::Fail;
+use std::time::Duration;
+use tag_clock::Moment;
+
+/// Whether a session is expected before one asked for little at the moment 5, then, and where one asks for much at another.
+fn expected_at(nanoseconds: u64) -> Option<(bool, bool, bool)> {
+    let interactive = InteractiveLoad::new();
+    let before = interactive.is_expected();
+    interactive.note(Load::Interactive, Moment::new(5)?);
+    let noted = interactive.is_expected();
+    interactive.note(Load::Bulk, Moment::new(nanoseconds)?);
+    Some((before, noted, interactive.is_expected()))
+}
+
+#[test]
+fn a_session_that_asked_for_little(rt: HostRuntime) {
+    assert!(rt; expected_at(1_000_000_005) == Some((false, true, true)));
+    assert!(rt; expected_at(1_000_000_006) == Some((false, true, false)));
+    let interactive = InteractiveLoad::new();
+    interactive.begin();
+    assert!(rt; interactive.is_asking());
+    interactive.end();
+    assert!(rt; !interactive.is_asking());
+}
+
+/// How much data a request has that asks for so many bytes, or brings them.
+fn size(kind: u16, length: u32) -> RequestSize {
+    size_of(RequestHead {
+        flags: 0,
+        kind,
+        cookie: 1,
+        offset: 0,
+        length,
+    })
+}
+
+#[test]
+fn how_much_a_session_asks_for(rt: HostRuntime) {
+    assert!(rt; size(READ, 16_384) == RequestSize::Short);
+    assert!(rt; size(READ, 16_385) == RequestSize::LongRead);
+    assert!(rt; size(WRITE, 65_535) == RequestSize::Short);
+    assert!(rt; size(WRITE, 65_536) == RequestSize::LongWrite);
+    assert!(rt; size(TRIM, 1_048_576) == RequestSize::Short);
+    assert!(rt; load_of(RequestSize::Short, false) == Load::Interactive);
+    assert!(rt; load_of(RequestSize::Short, true) == Load::Bulk);
+    assert!(rt; load_of(RequestSize::LongRead, false) == Load::Bulk);
+    assert!(rt; load_of(RequestSize::LongWrite, false) == Load::Bulk);
+}
+
+#[test]
+fn who_performs_and_how_many(rt: HostRuntime) {
+    assert!(rt; performs_itself(RequestSize::LongWrite));
+    assert!(rt; !performs_itself(RequestSize::LongRead));
+    assert!(rt; batch_after(Duration::from_millis(1)) == 8);
+    assert!(rt; batch_after(Duration::from_micros(1_001)) == 16);
+    assert!(rt; passes_for(100_000, 4) == 16_389);
+    assert!(rt; bell_of(130) == 2);
+    assert!(rt;
+        moment_after(Duration::from_secs(3)) == Moment::new(3_000_000_000).unwrap_or(Moment::zero())
+    );
+}
+
+#[test]
+fn who_lets_others_run(rt: HostRuntime) {
+    assert!(rt; next_skip(0) == 8 && next_skip(8) == 16 && next_skip(64) == 64);
+    assert!(rt; yields_behind_look(31, 32) && !yields_behind_look(32, 32));
+    assert!(rt; !yields_behind_look(49, 0));
+    assert!(rt; yields_behind(196_608, 196_608) && !yields_behind(196_607, 196_608));
+}
+
+#[test]
+fn what_is_read_ahead_and_kept(rt: HostRuntime) -> Result<(), Fail> {
+    let now = Moment::new(30_000_000).ok_or("a moment")?;
+    let lately = Moment::new(10_000_000).ok_or("a moment")?;
+    assert!(rt; is_alone(&None, now) && !is_alone(&Some(lately), now));
+    assert!(rt; is_alone(&Some(Moment::zero()), now));
+    assert!(rt; may_read_ahead(4) && !may_read_ahead(3));
+    assert!(rt; short_pieces(1, 16_383) == 2 && short_pieces(1, 16_384) == 0);
+    assert!(rt; may_keep(3) && !may_keep(4));
+    assert!(rt; suits_reader(131_072, 131_071) && !suits_reader(131_072, 131_072));
+    assert!(rt; patience(0) == None);
+    assert!(rt; patience(1) == Some(Duration::from_secs(1)));
+    Ok(())
+}
+
+/// Whether something came when a socket was looked at before a byte was sent, and at how many of twelve looks after it.
+fn watched(rt: &HostRuntime) -> io::Result<(bool, usize)> {
+    let (here, mut there) = UnixStream::pair(rt)?;
+    let peer = &TcpStream::from(OwnedFd::from(here));
+    let mut socket = SpinPoll::new();
+    let before = socket.poll(peer);
+    there.write_all(b"x")?;
+    let mut after = 0usize;
+    for _ in 0..12 {
+        if socket.poll(peer) {
+            after = after.saturating_add(1);
+        }
+    }
+    Ok((before, after))
+}
+
+#[test]
+fn a_socket_that_is_watched(rt: HostRuntime) -> Result<(), Fail> {
+    // Since nothing came at first, the socket isn't looked at for eight reads.
+    assert_eq!(rt; watched(&rt)?, (false, 4));
+    Ok(())
+}

@@ -1,0 +1,5 @@
+//! Tests of nbd_session.
+#![tactic(auto)]
+
+#[cfg(test)]
+mod tests;

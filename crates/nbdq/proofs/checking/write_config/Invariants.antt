@@ -1,7 +1,0 @@
-use Rattle.std.proofs.Common.{Some}
-use Rattle.nbdq.proofs.ReportLemmas.{Written}
-use Rattle.nbdq.proofs.checking.write_config.Given as goal
-
--- the lines of the exports up to here are written
-abbrev pub invariant-loop-at : goal.invariant-loop-at
-invariant-loop-at g l = Written l.config l.at (Some l.fn.text.items) (Some l.text.items)

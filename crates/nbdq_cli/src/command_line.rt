@@ -1,0 +1,192 @@
+//! The words that the program is called with.
+
+ghost use Rattle.std.specs.Prelude.{◌≡◌, false, map, option_map, string_bytes, IfOk};
+ghost use Rattle.clap.specs.declared.builder.command.Command.TheViews.{out-Command as fields_of};
+ghost use Rattle.clap.specs.Words.{app_of, found_of, new_app, rows_of, rule_of, subcommand_name_of, subcommand_rows_of, with_subcommand, FailsBy};
+ghost use Rattle.nbdq_cli.specs.Asked.{faults_in, AsksFor, IsJob, IsServe};
+ghost use Rattle.nbdq_cli.specs.Commands.{number_rule, numbers_up_to, option_rule, program, serve_command};
+
+use crate::crew::Crew;
+use clap::builder::ValueParser;
+use clap::error::ErrorKind;
+use clap::{Arg, ArgMatches, Command, Error, value_parser};
+use std::alloc::{AllocError, Global};
+use std::convert::AsStr;
+use std::env::Env;
+use std::io;
+
+/// How many workers serve, and how many connections each listener accepts, where the words don't say.
+const CREW: Crew = Crew {
+    workers: 4,
+    sessions: 100_000,
+};
+
+// What help says of the program, of its commands, and of the options of `serve`.
+const PROGRAM: &str = "A Network Block Device server for disks held in memory";
+
+const CHECK: &str = "Say what the configuration on standard input sets up";
+
+const TALK: &str = "Hold the conversation of the script on standard input";
+
+const REPLAY: &str = "Make the events of the script on standard input";
+
+const SERVE: &str = "Serve the disks of the configuration on standard input";
+
+const TCP: &str = "Listen on an IP address and a port, as 127.0.0.1:10809";
+
+const UNIX: &str = "Listen on a Unix socket, whose file is made";
+
+const WORKERS: &str = "Threads that perform requests, 1 to 64 [default: 4]";
+
+const SESSIONS: &str = "Connections that each listener accepts, 1 to 1000000 [default: 100000]";
+
+/// What the program is asked to do.
+#[derive(Debug, Drop)]
+pub enum Job {
+    Task(Task),
+    /// Serve the disks of a configuration file.
+    Serve(ServeTask),
+}
+
+/// A command that reads all of standard input, and then writes.
+#[derive(Clone, Copy, Debug, PartialEq, Eq)]
+pub enum Task {
+    /// Read a configuration file, and tell what it configures.
+    Check,
+    /// Hold the conversation of a script.
+    Talk,
+    /// Make the events of a script on a server.
+    Replay,
+}
+
+/// Where `serve` listens, and with how many threads.
+#[derive(Debug, Drop)]
+pub struct ServeTask {
+    /// An IP address and a port, as they were written.
+    pub tcp: Option<String>,
+    /// The path of a Unix socket.
+    pub unix: Option<String>,
+    pub crew: Crew,
+}
+
+/// Reads the words that the program was called with. They must ask for one of its commands.
+pub fn read_command_line(rt: &(impl Env + AllocGlobal)) -> Result<Job, Error> {
+    let alloc = rt.alloc();
+    match std::env::args(rt) {
+        Ok(words) => {
+            let words: Vec<String> = words.collect(alloc)?;
+            asked_job(alloc, words.as_slice())
+        }
+        Err(error) if error.kind() == io::ErrorKind::OutOfMemory => Err(Error::from(AllocError)),
+        Err(_) => Err(command(alloc)?.error(
+            ErrorKind::UnknownArgument,
+            "invalid UTF-8 was detected in one or more arguments",
+        )?),
+    }
+}
+
+/// What the words ask for, of which the first is the program's name.
+pub fn asked_job<S: AsStr>(alloc: Global, words: &[S]) -> Result<Job, Error>
+    ensures asked { IfOk result (AsksFor (map S.text words.now)) }
+    ensures refused { FailsBy (faults_in (map S.text words.now)) result }
+{
+    let matches = command(alloc)?.try_get_matches_from(words)?;
+    Ok(job_of(alloc, &matches)?)
+}
+
+/// What a command and its options ask for.
+fn job_of(alloc: Global, matches: &ArgMatches<'_>) -> Result<Job, AllocError>
+    ensures { IfOk result (IsJob (subcommand_name_of matches.now) (option_map (λ said. said.1) (subcommand_rows_of matches.now))) }
+{
+    match matches.subcommand() {
+        Some(("check", _)) => Ok(Job::Task(Task::Check)),
+        Some(("replay", _)) => Ok(Job::Task(Task::Replay)),
+        Some(("serve", given)) => Ok(Job::Serve(serve_task(alloc, given)?)),
+        _ => Ok(Job::Task(Task::Talk)),
+    }
+}
+
+/// What follows the word `serve`.
+fn serve_task(alloc: Global, given: &ArgMatches<'_>) -> Result<ServeTask, AllocError>
+    ensures { IfOk result (IsServe (rows_of (found_of given.now))) }
+{
+    Ok(ServeTask {
+        tcp: kept(alloc, given.get_str("tcp"))?,
+        unix: kept(alloc, given.get_str("unix"))?,
+        crew: Crew {
+            workers: given.get_one::<u64>("workers").unwrap_or(CREW.workers),
+            sessions: given.get_one::<u64>("sessions").unwrap_or(CREW.sessions),
+        },
+    })
+}
+
+fn kept(alloc: Global, word: Option<&str>) -> Result<Option<String>, AllocError>
+    ensures { IfOk result (λ kept. option_map string_bytes kept ≡ option_map (λ text. text.now) word.entry) }
+{
+    match word {
+        Some(word) => Ok(Some(String::from_str(alloc, word)?)),
+        None => Ok(None),
+    }
+}
+
+fn command<'a>(alloc: Global) -> Result<Command<'a>, AllocError>
+    ensures { IfOk result (λ command. app_of command ≡ program) }
+{
+    let program = new_command(alloc, "nbdq", PROGRAM)
+        .subcommand_required(true)
+        .subcommand(new_command(alloc, "check", CHECK))?
+        .subcommand(new_command(alloc, "talk", TALK))?
+        .subcommand(new_command(alloc, "replay", REPLAY))?;
+    with_serve(alloc, program)
+}
+
+/// The program with its command `serve`.
+fn with_serve<'a>(alloc: Global, program: Command<'a>) -> Result<Command<'a>, AllocError>
+    ensures { IfOk result (λ command. app_of command ≡ with_subcommand (app_of program.entry) serve_command.top) }
+{
+    let serve = new_command(alloc, "serve", SERVE)
+        .arg(option(alloc, "tcp", "ADDR", TCP))?
+        .arg(option(alloc, "unix", "PATH", UNIX))?
+        .arg(number(alloc, "workers", WORKERS, workers()))?
+        .arg(number(alloc, "sessions", SESSIONS, sessions()))?;
+    program.subcommand(serve)
+}
+
+/// A command, and what help says of it.
+fn new_command<'a>(alloc: Global, name: &'a str, about: &'a str) -> Command<'a>
+    ensures app { app_of result ≡ new_app name.entry.now }
+    ensures local { (fields_of result).has_globals ≡ false }
+{
+    Command::new(alloc, name).about(about)
+}
+
+/// `--NAME VALUE`, and what help says of it.
+fn option<'a>(alloc: Global, name: &'a str, value: &'a str, help: &'a str) -> Arg<'a>
+    ensures rule { rule_of result ≡ option_rule name.entry.now }
+    ensures local { result.global ≡ false }
+{
+    Arg::new(alloc, name)
+        .long(name)
+        .value_name(value)
+        .help(help)
+}
+
+/// `--NAME N`, of a number that this parser takes.
+fn number<'a>(alloc: Global, name: &'a str, help: &'a str, parser: ValueParser<'a>) -> Arg<'a>
+    ensures rule { rule_of result ≡ number_rule name.entry.now parser.entry }
+    ensures local { result.global ≡ false }
+{
+    option(alloc, name, "N", help).value_parser(parser)
+}
+
+fn workers<'a>() -> ValueParser<'a>
+    ensures { result ≡ numbers_up_to 64 }
+{
+    value_parser!(u64).range(1..=64)
+}
+
+fn sessions<'a>() -> ValueParser<'a>
+    ensures { result ≡ numbers_up_to 1000000 }
+{
+    value_parser!(u64).range(1..=1_000_000)
+}

@@ -1,0 +1,13 @@
+//! The commands of nbdq without their threads: the words that it is called with, the check of a configuration, and what the
+//! shell is told. `read_command_line` has no contract, since the words come from the system; what it makes of them is `asked_job`.
+#![tactic(auto)]
+
+mod checking;
+mod command_line;
+mod crew;
+mod outcome;
+
+pub use checking::{check_text, read_offer};
+pub use command_line::{Job, ServeTask, Task, asked_job, read_command_line};
+pub use crew::Crew;
+pub use outcome::{Ending, Outcome, status, status_of_end, text, text_of_end};

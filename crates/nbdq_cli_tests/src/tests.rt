@@ -1,0 +1,2 @@
+mod checks;
+mod command_lines;

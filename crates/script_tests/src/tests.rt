@@ -1,0 +1,6 @@
+mod attaching;
+mod faults;
+mod pieces;
+mod replays;
+mod scripts;
+mod talks;

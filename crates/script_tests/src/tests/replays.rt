@@ -1,0 +1,245 @@
+//! Whole scripts of `replay`, and the whole output of each. The expected tags and choices were worked out from the rules of
+//! the scheduler, apart from this program.
+
+use super::scripts::{replayed, replays};
+use nbd_scripts::Outcome;
+use std::alloc::Global;
+use std::io::Write;
+use std::test::Fail;
+
+/// What it shows, the script, and all that is written.
+type Row = (&'static str, &'static str, &'static str);
+
+const SHARES: [Row; 7] = [
+    (
+        "twice the weight is served twice as often, and equal tags go to the lower export",
+        "export a size=4096 w=1\nexport b size=4096 w=2\n---\nattach 0\nattach 1\narrive 0 0 0 1 0 0 0 4\narrive 0 0 0 2 0 0 0 4\narrive 1 0 0 1 0 0 0 4\narrive 1 0 0 2 0 0 0 4\ndispatch 0\ndispatch 0\ndispatch 0\ndispatch 0\n",
+        "session 0\nsession 0\naccepted 0 0\naccepted 1 0\naccepted 0 0\naccepted 1 0\nexport 0 request 0 weight\nexport 1 request 0 weight\nexport 1 request 1 weight\nexport 0 request 1 weight\nsteps 10\n",
+    ),
+    (
+        "a limit holds back, and the server's time doesn't fall",
+        "export a size=4096 l=10\n---\nattach 0\narrive 0 0 0 1 0 0 0 4\narrive 0 0 0 2 0 0 0 4\narrive 0 0 0 3 0 0 0 4\ndispatch 0\nperform 0 0\ndispatch 99999999\ndispatch 100000000\ndispatch 5\ndispatch 200000000\n",
+        "session 0\naccepted 0 0\naccepted 1 100000000\naccepted 2 200000000\nexport 0 request 0 weight\nperformed\nnone\nexport 0 request 1 weight\nnone\nexport 0 request 2 weight\nsteps 8\n",
+    ),
+    (
+        "limit tags follow the arrivals, not the server's time, which a dispatch that chooses nothing keeps",
+        "export a size=4096 l=10\n---\nattach 0\ndispatch 100000000\narrive 0 0 0 1 0 0 0 4\narrive 0 0 0 2 0 0 0 4\ndispatch 0\ndispatch 0\n",
+        "session 0\nnone\naccepted 0 0\naccepted 1 100000000\nexport 0 request 0 weight\nexport 0 request 1 weight\nsteps 5\n",
+    ),
+    (
+        "moments of arrivals may fall",
+        "export a size=4096 l=10\n---\nattach 0\narrive 0 0 10 1 0 0 0 4\narrive 0 0 0 2 0 0 0 4\n",
+        "session 0\naccepted 0 10\naccepted 1 100000010\nsteps 3\n",
+    ),
+    (
+        "a choice by weight is credited, so that the third reservation is due at 250 ms, where two intervals would be 500",
+        "export a size=4096 r=4 w=1\n---\nattach 0\narrive 0 0 0 1 0 0 0 4\narrive 0 0 0 2 0 0 0 4\ndispatch 0\ndispatch 0\narrive 0 0 0 3 0 0 0 4\ndispatch 250000000\n",
+        "session 0\naccepted 0 0\naccepted 1 0\nexport 0 request 0 reservation\nexport 0 request 1 weight\naccepted 2 0\nexport 0 request 2 reservation\nsteps 7\n",
+    ),
+    (
+        "a nanosecond earlier it isn't due",
+        "export a size=4096 r=4 w=1\n---\nattach 0\narrive 0 0 0 1 0 0 0 4\narrive 0 0 0 2 0 0 0 4\ndispatch 0\ndispatch 0\narrive 0 0 0 3 0 0 0 4\ndispatch 249999999\n",
+        "session 0\naccepted 0 0\naccepted 1 0\nexport 0 request 0 reservation\nexport 0 request 1 weight\naccepted 2 0\nexport 0 request 2 weight\nsteps 7\n",
+    ),
+    (
+        "a due reservation goes before a greater weight",
+        "export a size=4096 w=1000000\nexport b size=4096 r=1 w=1\n---\nattach 0\nattach 1\narrive 0 0 0 1 0 0 0 4\narrive 1 0 0 1 0 0 0 4\ndispatch 0\ndispatch 0\n",
+        "session 0\nsession 0\naccepted 0 0\naccepted 0 0\nexport 1 request 0 reservation\nexport 0 request 0 weight\nsteps 6\n",
+    ),
+];
+
+const SHIFTS: [Row; 7] = [
+    (
+        "a shift leaves limit tags",
+        "export a size=4096 l=10\nexport b size=4096\n---\nattach 0\nattach 1\narrive 0 0 0 1 0 0 0 4\narrive 0 0 0 2 0 0 0 4\ndispatch 0\narrive 1 0 5 1 0 0 0 4\ndispatch 5\ndispatch 99999999\ndispatch 100000000\n",
+        "session 0\nsession 0\naccepted 0 0\naccepted 1 100000000\nexport 0 request 0 weight\naccepted 0 5\nexport 1 request 0 weight\nnone\nexport 0 request 1 weight\nsteps 8\n",
+    ),
+    (
+        "a shift leaves reservation tags",
+        "export a size=4096 r=1\nexport b size=4096\n---\nattach 0\nattach 1\narrive 0 0 0 1 0 0 0 4\narrive 0 0 0 2 0 0 0 4\ndispatch 0\narrive 1 0 5 1 0 0 0 4\ndispatch 5\n",
+        "session 0\nsession 0\naccepted 0 0\naccepted 1 0\nexport 0 request 0 reservation\naccepted 0 5\nexport 0 request 1 weight\nsteps 7\n",
+    ),
+    (
+        "a shift takes the last P tag of an active export down too",
+        "export a size=4096\nexport b size=4096\n---\nattach 0\nattach 1\narrive 0 0 0 1 0 0 0 4\narrive 0 0 0 2 0 0 0 4\ndispatch 0\narrive 1 0 5 1 0 0 0 4\narrive 0 0 5 3 0 0 0 4\narrive 1 0 5 2 0 0 0 4\ndispatch 5\ndispatch 5\ndispatch 5\ndispatch 5\n",
+        "session 0\nsession 0\naccepted 0 0\naccepted 1 0\nexport 0 request 0 weight\naccepted 0 5\naccepted 2 5\naccepted 1 5\nexport 0 request 1 weight\nexport 1 request 0 weight\nexport 0 request 2 weight\nexport 1 request 1 weight\nsteps 12\n",
+    ),
+    (
+        "a shift leaves the last P tag of an idle export",
+        "export a size=4096\nexport b size=4096 w=2\nexport c size=4096\n---\nattach 0\nattach 1\nattach 2\narrive 2 0 0 1 0 0 0 4\narrive 2 0 0 2 0 0 0 4\ndispatch 0\ndispatch 0\narrive 0 0 0 1 0 0 0 4\narrive 0 0 0 2 0 0 0 4\ndispatch 0\narrive 1 0 5 1 0 0 0 4\narrive 1 0 5 2 0 0 0 4\narrive 1 0 5 3 0 0 0 4\narrive 1 0 5 4 0 0 0 4\narrive 2 0 5 3 0 0 0 4\ndispatch 5\ndispatch 5\ndispatch 5\ndispatch 5\ndispatch 5\ndispatch 5\n",
+        "session 0\nsession 0\nsession 0\naccepted 0 0\naccepted 1 0\nexport 2 request 0 weight\nexport 2 request 1 weight\naccepted 0 0\naccepted 1 0\nexport 0 request 0 weight\naccepted 0 5\naccepted 1 5\naccepted 2 5\naccepted 3 5\naccepted 2 5\nexport 0 request 1 weight\nexport 1 request 0 weight\nexport 1 request 1 weight\nexport 1 request 2 weight\nexport 1 request 3 weight\nexport 2 request 2 weight\nsteps 21\n",
+    ),
+    (
+        "an arrival above the least P tag takes the others' up",
+        "export a size=4096\nexport b size=4096\n---\nattach 0\nattach 1\narrive 0 0 0 1 0 0 0 4\narrive 0 0 0 2 0 0 0 4\narrive 1 0 2000000000 1 0 0 0 4\ndispatch 2000000000\ndispatch 2000000000\ndispatch 2000000000\n",
+        "session 0\nsession 0\naccepted 0 0\naccepted 1 0\naccepted 0 2000000000\nexport 0 request 0 weight\nexport 1 request 0 weight\nexport 0 request 1 weight\nsteps 8\n",
+    ),
+    (
+        "an arrival to an idle export takes the others' P tags down to its moment",
+        "export a size=4096 w=1\nexport b size=4096 w=1\n---\nattach 0\nattach 1\narrive 0 0 0 1 0 0 0 4\narrive 0 0 0 2 0 0 0 4\narrive 0 0 0 3 0 0 0 4\ndispatch 0\ndispatch 0\narrive 1 0 5 1 0 0 0 4\ndispatch 5\n",
+        "session 0\nsession 0\naccepted 0 0\naccepted 1 0\naccepted 2 0\nexport 0 request 0 weight\nexport 0 request 1 weight\naccepted 0 5\nexport 0 request 2 weight\nsteps 9\n",
+    ),
+    (
+        "the choice by weight is credited to what waits, which is due by its reservation a second earlier",
+        "export a size=4096 r=1 w=1\n---\nattach 0\narrive 0 0 9 1 0 0 0 4\narrive 0 0 9 2 0 0 0 4\narrive 0 0 9 3 0 0 0 4\ndispatch 8\ndispatch 9\ndispatch 9\ndispatch 1000000009\n",
+        "session 0\naccepted 0 9\naccepted 1 9\naccepted 2 9\nnone\nexport 0 request 0 reservation\nexport 0 request 1 weight\nexport 0 request 2 reservation\nsteps 7\n",
+    ),
+];
+
+const QUEUES: [Row; 5] = [
+    (
+        "as many as the depth wait",
+        "export a size=4096 depth=2\n---\nattach 0\narrive 0 0 0 1 0 0 0 4\narrive 0 0 0 2 0 0 0 4\narrive 0 0 0 3 0 0 0 4\ndispatch 0\narrive 0 0 0 4 0 0 0 4\ntake 0 0\n",
+        "session 0\naccepted 0 0\naccepted 1 0\nanswered 5\nexport 0 request 0 weight\naccepted 2 0\nreply 3 5 -\nsteps 7\n",
+    ),
+    (
+        "one in service at once",
+        "export a size=4096\ninflight 1\n---\nattach 0\narrive 0 0 0 1 0 0 0 4\narrive 0 0 0 2 0 0 0 4\ndispatch 0\ndispatch 0\nperform 0 0\ndispatch 0\n",
+        "session 0\naccepted 0 0\naccepted 1 0\nexport 0 request 0 weight\nnone\nperformed\nexport 0 request 1 weight\nsteps 6\n",
+    ),
+    (
+        "one in service at once, of all exports together",
+        "export a size=4096\nexport b size=4096\ninflight 1\n---\nattach 0\nattach 1\narrive 0 0 0 1 0 0 0 4\narrive 1 0 0 1 0 0 0 4\ndispatch 0\ndispatch 0\nperform 0 0\ndispatch 0\n",
+        "session 0\nsession 0\naccepted 0 0\naccepted 0 0\nexport 0 request 0 weight\nnone\nperformed\nexport 1 request 0 weight\nsteps 7\n",
+    ),
+    (
+        "a window of one, until the reply is taken",
+        "export a size=4096 window=1\n---\nattach 0\narrive 0 0 0 1 0 0 0 1\narrive 0 0 0 2 0 0 0 1\ndispatch 0\nperform 0 0\narrive 0 0 0 2 0 0 0 1\ntake 0 0\narrive 0 0 0 2 0 0 0 1\nattach 9\n",
+        "session 0\naccepted 0 0\nhold\nexport 0 request 0 weight\nperformed\nhold\nreply 1 0 00\naccepted 1 0\nno export\nsteps 6\n",
+    ),
+    (
+        "refused requests are told, and one past the end changes no byte",
+        "export a size=4\nexport b size=4 ro\n---\nattach 0\nattach 1\narrive 0 0 0 1 1 0 1 4 01020304\narrive 0 0 0 2 0 0 0 4\ndispatch 0\nperform 0 0\ntake 0 0\ntake 0 0\narrive 1 0 0 18446744073709551615 1 0 0 0\ntake 1 0\narrive 0 0 0 7 5 0 0 0\n",
+        "session 0\nsession 0\nanswered 28\naccepted 0 0\nexport 0 request 0 weight\nperformed\nreply 1 28 -\nreply 2 0 00000000\nanswered 1\nreply 18446744073709551615 1 -\nanswered 22\nsteps 11\n",
+    ),
+];
+
+const SESSIONS: [Row; 3] = [
+    (
+        "the write of a session that is gone is still done, and another session reads it",
+        "export a size=4096\n---\nattach 0\nattach 0\narrive 0 0 0 1 1 0 0 4 deadbeef\ndispatch 0\ngone 0 0\nperform 0 0\nperform 0 0\narrive 0 1 0 2 0 0 0 4\ndispatch 0\nperform 0 1\ntake 0 1\ntake 0 1\ntake 0 0\nleave 0 1\ntake 0 1\ngone 0 1\n",
+        "session 0\nsession 1\naccepted 0 0\nexport 0 request 0 weight\ngone\nperformed\nnot out\naccepted 1 0\nexport 0 request 1 weight\nperformed\nreply 2 0 deadbeef\nempty\nnot open\nleft\nend\ngone\nsteps 12\n",
+    ),
+    (
+        "exports, sessions and requests that aren't there",
+        "export a size=4096\n---\nattach 1\narrive 1 0 0 1 0 0 0 4\narrive 0 0 0 1 0 0 0 4\nperform 1 0\nperform 0 0\ntake 1 0\ntake 0 0\nleave 1 0\nleave 0 0\ngone 1 0\ngone 0 0\ndispatch 0\n",
+        "no export\nno export\nnot open\nnot out\nnot out\nno export\nnot open\nno export\nnot open\nno export\nnot open\nnone\nsteps 0\n",
+    ),
+    (
+        "comments, empty lines, several spaces, hex of either case, and no line feed at the end",
+        "# two lines\n\nexport a size=4096\n---\n# a line\n\n  \n attach   0\narrive 0 0 4611686018427387903 1 1 1 0 2  aBCd\ndispatch 4611686018427387903\nperform 0 0\ntake 0 0",
+        "session 0\naccepted 0 4611686018427387903\nexport 0 request 0 weight\nperformed\nreply 1 0 -\nsteps 5\n",
+    ),
+];
+
+const TAGS: [Row; 3] = [
+    (
+        "the tags of what waits, behind a choice by reservation and one by weight, which is credited",
+        "export a size=4096 r=4 w=1\n---\nattach 0\narrive 0 0 0 1 0 0 0 4\narrive 0 0 0 2 0 0 0 4\ndispatch 0\ndispatch 0\narrive 0 0 0 3 0 0 0 4\ntags 0\n",
+        "session 0\naccepted 0 0\naccepted 1 0\nexport 0 request 0 reservation\nexport 0 request 1 weight\naccepted 2 0\nwaiting 1\ntag 2 250000000 0 2000000000\nsteps 6\n",
+    ),
+    (
+        "a shift moves the P tag of what waits, and without a reservation there is no R tag",
+        "export a size=4096 w=1\nexport b size=4096 w=1\n---\nattach 0\nattach 1\narrive 0 0 0 1 0 0 0 4\narrive 0 0 0 2 0 0 0 4\narrive 0 0 0 3 0 0 0 4\ndispatch 0\ndispatch 0\narrive 1 0 5 1 0 0 0 4\ntags 0\ntags 1\ndispatch 5\n",
+        "session 0\nsession 0\naccepted 0 0\naccepted 1 0\naccepted 2 0\nexport 0 request 0 weight\nexport 0 request 1 weight\naccepted 0 5\nwaiting 1\ntag 2 - 0 5\nwaiting 1\ntag 0 - 5 5\nexport 0 request 2 weight\nsteps 9\n",
+    ),
+    (
+        "nothing waits, two requests wait, and there is no such export",
+        "export a size=4096 l=10 w=2\n---\ntags 0\nattach 0\narrive 0 0 7 1 0 0 0 4\narrive 0 0 7 2 0 0 0 4\ntags 0\ntags 1\n",
+        "waiting 0\nsession 0\naccepted 0 7\naccepted 1 100000007\nwaiting 2\ntag 0 - 7 7\ntag 1 - 100000007 500000007\nno export\nsteps 3\n",
+    ),
+];
+
+#[test]
+fn shares(rt: HostRuntime) {
+    for row in &SHARES {
+        let well = replays(rt.alloc(), row.1.as_bytes(), row.2.as_bytes());
+        assert!(rt; well, "{}", row.0);
+    }
+}
+
+#[test]
+fn shifts(rt: HostRuntime) {
+    for row in &SHIFTS {
+        let well = replays(rt.alloc(), row.1.as_bytes(), row.2.as_bytes());
+        assert!(rt; well, "{}", row.0);
+    }
+}
+
+#[test]
+fn tags(rt: HostRuntime) {
+    for row in &TAGS {
+        let well = replays(rt.alloc(), row.1.as_bytes(), row.2.as_bytes());
+        assert!(rt; well, "{}", row.0);
+    }
+}
+
+#[test]
+fn queues(rt: HostRuntime) {
+    for row in &QUEUES {
+        let well = replays(rt.alloc(), row.1.as_bytes(), row.2.as_bytes());
+        assert!(rt; well, "{}", row.0);
+    }
+}
+
+#[test]
+fn sessions(rt: HostRuntime) {
+    for row in &SESSIONS {
+        let well = replays(rt.alloc(), row.1.as_bytes(), row.2.as_bytes());
+        assert!(rt; well, "{}", row.0);
+    }
+}
+
+#[test]
+fn sessions_of_an_export_are_full(rt: HostRuntime) -> Result<(), Fail> {
+    let mut script = Vec::from_slice(rt.alloc(), b"export a size=4096\n---\n")?;
+    let mut written = Vec::new(rt.alloc());
+    for number in 0..64u64 {
+        script.extend_from_slice(b"attach 0\n")?;
+        writeln!(written, "session {number}")?;
+    }
+    script.extend_from_slice(b"attach 0\ngone 0 7\nattach 0\n")?;
+    written.extend_from_slice(b"full\ngone\nsession 64\nsteps 66\n")?;
+    let (outcome, output) = replayed(rt.alloc(), &script);
+    assert_eq!(rt; outcome, Outcome::Done);
+    assert!(rt; output.as_slice() == written.as_slice());
+    Ok(())
+}
+
+/// The first export's lines: a queue of two, and three requests, among them other lines.
+fn crowded(alloc: Global, others: u64) -> Result<Vec<u8>, Fail> {
+    let mut script = Vec::from_slice(
+        alloc,
+        b"export a size=4096 depth=2\nexport b size=4096 depth=1024 window=1024\n---\nattach 1\nattach 0\narrive 0 0 0 1 0 0 0 4\narrive 0 0 0 2 0 0 0 4\n",
+    )?;
+    for _ in 0..others {
+        script.extend_from_slice(b"arrive 1 0 0 9 0 0 0 4\n")?;
+    }
+    script.extend_from_slice(
+        b"arrive 0 0 0 3 0 0 0 4\ndispatch 0\narrive 0 0 0 4 0 0 0 4\ntake 0 0\n",
+    )?;
+    Ok(script)
+}
+
+#[test]
+fn a_crowd_at_another_export_changes_no_answer(rt: HostRuntime) -> Result<(), Fail> {
+    for others in [0u64, 1000] {
+        let (outcome, output) = replayed(rt.alloc(), &crowded(rt.alloc(), others)?);
+        assert_eq!(rt; outcome, Outcome::Done);
+        let mut written = Vec::from_slice(
+            rt.alloc(),
+            b"session 0\nsession 0\naccepted 0 0\naccepted 1 0\n",
+        )?;
+        for number in 0..others {
+            writeln!(written, "accepted {number} 0")?;
+        }
+        written.extend_from_slice(
+            b"answered 5\nexport 0 request 0 weight\naccepted 2 0\nreply 3 5 -\n",
+        )?;
+        let steps = others + 8;
+        writeln!(written, "steps {steps}")?;
+        let well = output.as_slice() == written.as_slice();
+        assert!(rt; well, "{others} others");
+    }
+    Ok(())
+}

@@ -1,0 +1,3 @@
+pub mod SessionTurns
+pub mod Taking
+pub mod Doors

@@ -1,0 +1,98 @@
+//! The turns of a session's two threads, each with a hold of the server of its own: one reads requests and hands them in,
+//! the other takes replies and writes them.
+ghost use Rattle.std.specs.Prelude.{◌≡◌};
+ghost use Rattle.session_turns.specs.SessionTurns.{IsOffered, IsReadTurn, IsWriteTurn, Drops};
+
+use crate::held_turns::{hand_in, offer_held};
+use eligibility::Eligibility;
+use export_store::Image;
+use nbd_session::{Counted, FrameReader, put_reply};
+use nbd_wire::Request;
+use reply_box::Taken;
+use server_core::SessionId;
+use server_lock::{Pass, Shared};
+use std::alloc::Allocator;
+use std::io::{Read, Write};
+use std::sync::Wait;
+use std::sync::ledger::Ledger;
+use tag_clock::Clock;
+
+/// What a session's turn came to.
+#[derive(Drop)]
+pub enum Turn<A: Allocator> {
+    /// A request was handed in, or a reply was written.
+    Going,
+    /// As many requests of the session as its window are under way, or replies not yet taken. The request is handed back,
+    /// to be offered again once a reply was taken.
+    Held(Request<A>),
+    /// No reply is there yet.
+    Idle,
+    /// The session is over for this side.
+    Ended,
+}
+
+/// Reads the client's next request, and offers it. Where the client sent DISC, its input ended or was refused, or memory
+/// was, the session leaves. It holds the server only once the request was read.
+pub fn read_turn<L: Ledger, I: Image, E: Eligibility<Alloc = I::Alloc>, R: Read, C: Clock, W: Wait>(
+    rt: &W,
+    shared: &Shared<L, I, E>,
+    pass: &mut Pass<L>,
+    session: SessionId,
+    reader: &mut FrameReader<R, I::Alloc>,
+    clock: &C,
+) -> Turn<I::Alloc>
+    ensures { IsReadTurn reader.old reader.new pass.old session result pass.new }
+{
+    let frame = reader.next();
+    hand_in(&mut *shared.hold(rt), pass, session, frame, clock)
+}
+
+/// Hands a request in at the clock's moment. Where the export is worn, or no memory is there for it, the session leaves.
+pub fn offer<L: Ledger, I: Image, E: Eligibility<Alloc = I::Alloc>, C: Clock, W: Wait>(
+    rt: &W,
+    shared: &Shared<L, I, E>,
+    pass: &mut Pass<L>,
+    session: SessionId,
+    request: Request<I::Alloc>,
+    clock: &C,
+) -> Turn<I::Alloc>
+    ensures { IsOffered pass.old session request result pass.new }
+{
+    offer_held(&mut *shared.hold(rt), pass, session, request, clock)
+}
+
+/// Takes the session's oldest reply, and writes it. Where the session has left and got all its replies, or the write
+/// failed, the session is dropped.
+pub fn write_turn<L: Ledger, I: Image, E: Eligibility<Alloc = I::Alloc>, O: Write, W: Wait>(
+    rt: &W,
+    shared: &Shared<L, I, E>,
+    pass: &mut Pass<L>,
+    session: SessionId,
+    writer: &mut Counted<O>,
+) -> Turn<I::Alloc>
+    ensures { IsWriteTurn pass.old session (O.contents writer.old.inner) (O.contents writer.new.inner) writer.old.failures writer.new.failures result pass.new }
+{
+    match shared.turn_take(rt, pass, session) {
+        Ok(Taken::Reply(reply)) => match put_reply(&reply, writer) {
+            Ok(()) => Turn::Going,
+            Err(_) => drop_session(rt, shared, pass, session),
+        },
+        Ok(Taken::Empty) => Turn::Idle,
+        Ok(Taken::End) => drop_session(rt, shared, pass, session),
+        Err(_) => Turn::Ended,
+    }
+}
+
+/// The session is dropped.
+fn drop_session<L: Ledger, I: Image, E: Eligibility<Alloc = I::Alloc>, W: Wait>(
+    rt: &W,
+    shared: &Shared<L, I, E>,
+    pass: &mut Pass<L>,
+    session: SessionId,
+) -> Turn<I::Alloc>
+    ensures ended { result ≡ Turn.Ended }
+    ensures drops { Drops pass.old session pass.new }
+{
+    let _ = shared.turn_gone(rt, pass, session);
+    Turn::Ended
+}

@@ -1,0 +1,5 @@
+//! Tests of session_turns.
+#![tactic(auto)]
+
+#[cfg(test)]
+mod tests;

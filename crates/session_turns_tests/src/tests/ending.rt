@@ -1,0 +1,135 @@
+//! How sessions end.
+ghost use Rattle.std.specs.Prelude.{◌≡◌};
+
+use super::*;
+
+/// Takes so many bytes, and then fails.
+#[derive(Drop)]
+struct Sink<'a> {
+    taken: Vec<u8, Heap<'a>>,
+    room: usize,
+}
+
+impl Write for Sink<'_> {
+    fn write(&mut self, buf: &[u8]) -> io::Result<usize> {
+        let count = buf.len().min(self.room);
+        if count == 0 {
+            return Err(io::Error::from(io::ErrorKind::BrokenPipe));
+        }
+        self.taken.extend_from_slice(&buf[..count])?;
+        self.room -= count;
+        Ok(count)
+    }
+
+    fn flush(&mut self) -> io::Result<()> {
+        Ok(())
+    }
+}
+
+/// How a session goes whose client sent these bytes: a turn of its reader, and another, and a turn of its writer.
+fn sent<'a, L: Ledger, R: Wait>(
+    rt: &R,
+    heap: Heap<'a>,
+    one: &mut Seated<'a, L>,
+    source: Source<'_>,
+) -> [Seen; 3] {
+    let mut reader = FrameReader::new(heap, Counted::new(source));
+    let mut writer = Counted::new(Vec::new(heap));
+    let turn = one.read(rt, &mut reader);
+    let again = one.read(rt, &mut reader);
+    let end = one.write(rt, &mut writer);
+    [turn, again, end]
+}
+
+/// Whether the session left at the first turn, and its writer dropped it.
+fn is_left(seen: [Seen; 3]) -> bool {
+    seen[0] == (Came::Ended, leave(AnswerTrace::Left))
+        && seen[1] == (Came::Ended, leave(AnswerTrace::NotOpen))
+        && seen[2] == (Came::Ended, gone(AnswerTrace::Dropped))
+}
+
+#[test]
+fn what_is_no_request_leaves(rt: HostRuntime) {
+    let heap = Refusing::new(rt.alloc(), 0);
+    for (bytes, fails, what) in [
+        (b"".as_slice(), false, "over"),
+        (&READ[..27], false, "cut"),
+        (&WRITE[..31], false, "cut payload"),
+        ([0; 28].as_slice(), false, "bad magic"),
+        (TOO_LONG.as_slice(), false, "too long"),
+        (DISC.as_slice(), false, "disc"),
+        (b"", true, "failed read"),
+        (&WRITE[..31], true, "failed read in a payload"),
+    ] {
+        let source = Source { bytes, fails };
+        let mut one = opened::<Brand, _>(&rt, &heap, Blank::new(1)).expect(&rt, "memory");
+        assert!(rt; is_left(sent(&rt, &heap, &mut one, source)), "{what}");
+    }
+}
+
+#[test]
+fn refused_memory_leaves(rt: HostRuntime) {
+    let mut refused = 0u64;
+    for nth in 1..100u64 {
+        let heap = Refusing::new(rt.alloc(), 0);
+        let source = Source {
+            bytes: WRITE.as_slice(),
+            fails: false,
+        };
+        let mut one = opened::<Brand, _>(&rt, &heap, Blank::new(1)).expect(&rt, "memory");
+        heap.arm(nth);
+        let seen = sent(&rt, &heap, &mut one, source);
+        if heap.is_armed() {
+            assert!(rt; seen[0] == (Came::Going, arrival(1, accepted(0))));
+            break;
+        }
+        assert!(rt; is_left(seen), "at {nth}");
+        refused = nth;
+    }
+    assert!(rt; refused > 0);
+}
+
+/// The client's READ is taken in and served.
+fn is_served<'a, L: Ledger, R: Wait>(
+    rt: &R,
+    one: &mut Seated<'a, L>,
+    reader: &mut FrameReader<&[u8], Heap<'a>>,
+) -> bool {
+    one.read(rt, reader) == (Came::Going, arrival(0, accepted(0))) && one.serve(rt)
+}
+
+/// The writer fails, and the session is dropped for both sides.
+fn is_dropped<'a, L: Ledger, R: Wait>(
+    rt: &R,
+    one: &mut Seated<'a, L>,
+    reader: &mut FrameReader<&[u8], Heap<'a>>,
+    writer: &mut Counted<Sink<'a>>,
+) -> bool {
+    one.write(rt, writer) == (Came::Ended, gone(AnswerTrace::Dropped))
+        && one.write(rt, writer) == (Came::Ended, take(AnswerTrace::NotOpen))
+        && one.read(rt, reader) == (Came::Ended, leave(AnswerTrace::NotOpen))
+}
+
+/// One write failed, and the writer has so many bytes of the READ's reply.
+fn has_written(writer: Counted<Sink<'_>>, room: usize) -> bool {
+    let failures = writer.failures();
+    let Sink { taken, .. } = writer.into_inner();
+    failures == 1 && Some(taken.as_slice()) == ZEROS_READ.as_slice().get(..room)
+}
+
+#[test]
+fn each_write_fails(rt: HostRuntime) {
+    let heap = Refusing::new(rt.alloc(), 0);
+    for room in 0..20usize {
+        let mut reader = FrameReader::new(&heap, Counted::new(READ.as_slice()));
+        let taken = Vec::new(&heap);
+        let mut writer = Counted::new(Sink { taken, room });
+        let mut one = opened::<Brand, _>(&rt, &heap, Blank::new(1)).expect(&rt, "memory");
+        assert!(rt; is_served(&rt, &mut one, &mut reader));
+        assert!(rt;
+            is_dropped(&rt, &mut one, &mut reader, &mut writer),
+            "at {room}"
+        );
+        assert!(rt; has_written(writer, room), "at {room}");
+    }
+}

@@ -1,0 +1,110 @@
+//! Requests and replies that go on.
+ghost use Rattle.std.specs.Prelude.{◌≡◌};
+
+use super::*;
+
+type Wire<'a, 'b> = FrameReader<&'b [u8], Heap<'a>>;
+
+type Text<'a> = Counted<Vec<u8, Heap<'a>>>;
+
+/// The WRITE and the READ in one piece.
+fn both(heap: Heap<'_>) -> Option<Vec<u8, Heap<'_>>> {
+    let mut sent = Vec::new(heap);
+    let whole = sent.extend_from_slice(WRITE.as_slice()).is_ok()
+        && sent.extend_from_slice(READ.as_slice()).is_ok();
+    if whole { Some(sent) } else { None }
+}
+
+/// The WRITE is taken in, and the READ handed back.
+fn one_goes_in<'a, L: Ledger, R: Wait>(
+    rt: &R,
+    one: &mut Seated<'a, L>,
+    reader: &mut Wire<'a, '_>,
+) -> bool {
+    one.read(rt, reader) == (Came::Going, arrival(1, accepted(0)))
+        && one.read(rt, reader) == (Came::Held(2), arrival(0, AnswerTrace::Hold))
+}
+
+/// No reply is there before the WRITE is served, and the READ isn't taken in before its reply is taken.
+fn none_goes_in<'a, L: Ledger, R: Wait>(
+    rt: &R,
+    one: &mut Seated<'a, L>,
+    writer: &mut Text<'a>,
+) -> bool {
+    one.write(rt, writer) == (Came::Idle, take(AnswerTrace::Empty))
+        && one.serve(rt)
+        && one.offer(rt) == Some((Came::Held(2), arrival(0, AnswerTrace::Hold)))
+}
+
+/// The WRITE's reply is written, and then the READ is taken in.
+fn the_other_goes_in<'a, L: Ledger, R: Wait>(
+    rt: &R,
+    one: &mut Seated<'a, L>,
+    writer: &mut Text<'a>,
+) -> bool {
+    one.write(rt, writer) == (Came::Going, take(reply(1)))
+        && one.offer(rt) == Some((Came::Going, arrival(0, accepted(1))))
+}
+
+/// The READ is served, and its reply is written.
+fn it_is_answered<'a, L: Ledger, R: Wait>(
+    rt: &R,
+    one: &mut Seated<'a, L>,
+    writer: &mut Text<'a>,
+) -> bool {
+    one.serve(rt) && one.write(rt, writer) == (Came::Going, take(reply(2)))
+}
+
+/// The input is over, and the session ends for both sides.
+fn it_ends<'a, L: Ledger, R: Wait>(
+    rt: &R,
+    one: &mut Seated<'a, L>,
+    reader: &mut Wire<'a, '_>,
+    writer: &mut Text<'a>,
+) -> bool {
+    one.read(rt, reader) == (Came::Ended, leave(AnswerTrace::Left))
+        && one.write(rt, writer) == (Came::Ended, gone(AnswerTrace::Dropped))
+}
+
+/// Further turns find no session.
+fn it_stays_ended<'a, L: Ledger, R: Wait>(
+    rt: &R,
+    one: &mut Seated<'a, L>,
+    reader: &mut Wire<'a, '_>,
+    writer: &mut Text<'a>,
+) -> bool {
+    one.write(rt, writer) == (Came::Ended, take(AnswerTrace::NotOpen))
+        && one.read(rt, reader) == (Came::Ended, leave(AnswerTrace::NotOpen))
+}
+
+/// How many steps were counted.
+fn steps_of<'a, L: Ledger>(heap: Heap<'a>, shared: Tried<'a, L>, pass: Pass<L>) -> Option<u128> {
+    let mut passes = Vec::new(heap);
+    if passes.push(pass).is_err() {
+        return None;
+    }
+    let booked = shared.end();
+    if passes.len() as u64 != booked.passes() {
+        return None;
+    }
+    Some(settle(booked, passes))
+}
+
+#[test]
+fn held_until_a_reply_is_taken(rt: HostRuntime) {
+    let heap = Refusing::new(rt.alloc(), 0);
+    let sent = both(&heap).expect(&rt, "memory");
+    let mut reader = FrameReader::new(&heap, Counted::new(sent.as_slice()));
+    let mut writer = Counted::new(Vec::new(&heap));
+    let mut one = opened::<Brand, _>(&rt, &heap, Blank::new(1)).expect(&rt, "memory");
+    assert!(rt; one_goes_in(&rt, &mut one, &mut reader));
+    assert!(rt; none_goes_in(&rt, &mut one, &mut writer));
+    assert!(rt; the_other_goes_in(&rt, &mut one, &mut writer));
+    assert!(rt; it_is_answered(&rt, &mut one, &mut writer));
+    assert!(rt; it_ends(&rt, &mut one, &mut reader, &mut writer));
+    assert!(rt; it_stays_ended(&rt, &mut one, &mut reader, &mut writer));
+    assert!(rt; writer.into_inner().as_slice() == REPLIES.as_slice());
+    let Seated { shared, pass, .. } = one;
+    assert!(rt; pass.turns() == 17);
+    assert!(rt; steps_of(&heap, shared, pass) == Some(11));
+}
