@@ -13,7 +13,7 @@ use nbd_base::NoMemory;
 use nbd_session::{Counted, Frame, FrameReader};
 use nbd_wire::{Request, RequestHead};
 use nbd_workers::until;
-use server_lock::{AnswerTrace, EventTrace, Pass, Trace};
+use server_lock::Pass;
 use session_turns::{Stop, Turn, hand_in, offer_held, read_ready};
 use std::alloc::Global;
 use std::sync::ledger::Ledger;
@@ -94,6 +94,23 @@ struct Noted {
     number: Option<u64>,
 }
 
+impl Noted {
+    fn of(turn: &Turn<Global>) -> Noted {
+        match turn {
+            Turn::Going(arrival) => Noted {
+                arrived: true,
+                handed: Handed::by(arrival.head),
+                number: arrival.number(),
+            },
+            Turn::Held(_) | Turn::Ended => Noted {
+                arrived: false,
+                handed: Handed::Nothing,
+                number: None,
+            },
+        }
+    }
+}
+
 impl<'a, 'b, R: Wait> Intake<'a, 'b, R> {
     pub fn new(
         alloc: Global,
@@ -125,7 +142,7 @@ impl<'a, 'b, R: Wait> Intake<'a, 'b, R> {
             Offer::Read(frame) => hand_in(disks, pass, line.session, frame, clock),
             Offer::Again(request) => offer_held(disks, pass, line.session, request, clock),
         };
-        let noted = noted_of(&turn, pass.last());
+        let noted = Noted::of(&turn);
         self.follow(disks, service, line, pass, outlet, noted, clock);
         let mut came = Came::first(turn, noted, touched);
         for _ in 1..most {
@@ -135,7 +152,7 @@ impl<'a, 'b, R: Wait> Intake<'a, 'b, R> {
             let Some(turn) = read_ready(disks, pass, line.session, &mut self.frames, clock) else {
                 break;
             };
-            let noted = noted_of(&turn, pass.last());
+            let noted = Noted::of(&turn);
             self.follow(disks, service, line, pass, outlet, noted, clock);
             came.add(turn, noted);
         }
@@ -208,29 +225,6 @@ impl Came {
     }
 }
 
-/// What a turn came to, by what its pass was told last.
-fn noted_of(turn: &Turn<Global>, last: Option<Trace>) -> Noted {
-    let mut noted = Noted {
-        arrived: false,
-        handed: Handed::Nothing,
-        number: None,
-    };
-    let Turn::Going = turn else {
-        return noted;
-    };
-    noted.arrived = true;
-    let Some(Trace { event, answer }) = last else {
-        return noted;
-    };
-    if let AnswerTrace::Accepted { number, .. } = answer {
-        noted.number = Some(number);
-    }
-    if let EventTrace::Arrive { head, .. } = event {
-        noted.handed = Handed::by(head);
-    }
-    noted
-}
-
 /// Reads requests until there are no more. Each goes in under one hold of the server, with others that are at hand, and is
 /// performed under it. Replies that are there by then and short it writes itself; others it leaves to the writer, as it
 /// does READs of long data.
@@ -252,14 +246,14 @@ pub fn read_requests<'s, E, L: Ledger, R: Wait + Sync + time::Clock>(
         let (turn, ahead) = read_on(rt, service, line, &mut intake, pass, offer);
         read_ahead(rt, scope, service.alloc, line, ahead);
         match turn {
-            Turn::Going => {}
+            Turn::Going(_) => {}
             Turn::Held(request) => {
                 held = Some(request);
                 line.replies.ring();
                 line.room
                     .wait(rt, heard, Some(Duration::from_secs(PATIENCE)));
             }
-            Turn::Idle | Turn::Ended => break,
+            Turn::Ended => break,
         }
     }
     line.replies.ring();
@@ -375,7 +369,7 @@ fn note_load<L: Ledger>(
 
 fn is_going(turn: &Turn<Global>) -> bool {
     match turn {
-        Turn::Going => true,
+        Turn::Going(_) => true,
         _ => false,
     }
 }
