@@ -1,1 +1,2 @@
 pub mod TakingLemmas
+pub mod OfferingLemmas

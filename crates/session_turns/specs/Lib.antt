@@ -1,3 +1,4 @@
 pub mod SessionTurns
+pub mod Offering
 pub mod Taking
 pub mod Doors

@@ -3,6 +3,8 @@ use Rattle.std.specs.Prelude.{◌≡◌, ◌≢◌, ℕ, ◌+◌, ◌<◌, ◌�
 use Rattle.std.specs.Io.KnownBytes.{Appends}
 use Rattle.nbd_wire.specs.declared.requests.RequestHead.{RequestHead}
 use Rattle.nbd_wire.specs.Grammar.{RequestMessage, ReplyMessage, reply_text}
+use Rattle.lone_export.specs.declared.refusal.Arrived.{Arrived}
+use Rattle.lone_export.specs.declared.refusal.Arrived.TheVariants as arrival
 use Rattle.server_core.specs.declared.session.SessionId.{SessionId}
 use Rattle.server_lock.specs.declared.trace.Trace.{Trace}
 use Rattle.server_lock.specs.declared.trace.EventTrace.{EventTrace}
@@ -16,7 +18,9 @@ use Rattle.nbd_session.specs.declared.ending.Frame.{Frame}
 use Rattle.nbd_session.specs.declared.ending.Frame.TheVariants as frames
 use Rattle.nbd_session.specs.Frames.{Stream, Nexts, IsWhole}
 use Rattle.session_turns.specs.declared.turns.Turn.{Turn}
-use Rattle.session_turns.specs.declared.turns.Turn.TheVariants.{Going, Held, Idle, Ended}
+use Rattle.session_turns.specs.declared.turns.Turn.TheVariants.{Going, Held, Ended}
+use Rattle.session_turns.specs.declared.turns.WriteTurn.{WriteTurn}
+use Rattle.session_turns.specs.declared.turns.WriteTurn.TheVariants as writes
 
 -- ---- one turn
 
@@ -47,11 +51,14 @@ IsLeave s e = e ≡ event.Leave s.export s.number
 abbrev pub IsGone : SessionId → EventTrace → Type 0
 IsGone s e = e ≡ event.Gone s.export s.number
 
--- the request waits, or its session is told an error
-abbrev pub IsTakenIn : AnswerTrace → Type 0
-IsTakenIn (answer.Accepted n tag) = ⊤
-IsTakenIn (answer.Answered error) = ⊤
-IsTakenIn a = ⊥
+abbrev pub number_of : Arrived → Option ℕ
+number_of (arrival.Accepted n tag) = Some n
+number_of (arrival.Answered error) = None
+
+-- the request waits, with this number and this limit tag, or its session is told this error
+abbrev pub IsTakenIn : Arrived → AnswerTrace → Type 0
+IsTakenIn (arrival.Accepted n tag) a = a ≡ answer.Accepted n tag
+IsTakenIn (arrival.Answered error) a = a ≡ answer.Answered error
 
 -- the session isn't there, or not open any more
 abbrev pub IsRefused : AnswerTrace → Type 0
@@ -94,9 +101,8 @@ OfferEnds p s h q = Turns p (IsArrival s h) IsRefused 0 q
 
 module _ {A : Type 0} where
   abbrev pub IsOffered : Score → SessionId → RequestMessage → Turn A → Score → Type 0
-  IsOffered p s m Going q = Turns p (IsArrival s m.head) IsTakenIn 1 q
+  IsOffered p s m (Going a) q = (a.head ≡ m.head) × Turns p (IsArrival s m.head) (IsTakenIn a.answer) 1 q
   IsOffered p s m (Held back) q = Turns p (IsArrival s m.head) (λ a. a ≡ answer.Hold) 0 q × (back ≡ m)
-  IsOffered p s m Idle q = ⊥
   IsOffered p s m Ended q = OfferEnds p s m.head q
 
   -- ---- what was read is handed in
@@ -115,11 +121,10 @@ module _ {A : Type 0} where
   abbrev pub IsReadTurn : Stream → Stream → Score → SessionId → Turn A → Score → Type 0
   IsReadTurn old new p s turn q = (frame : Frame A) × Reads old new frame × IsHandedIn p s frame turn q
 
-  -- ---- a reply is taken and written
+-- ---- a reply is taken and written
 
-  -- from the writer's known bytes and failures before to those after
-  abbrev pub IsWriteTurn : Score → SessionId → Option (List ℕ) → Option (List ℕ) → ℕ → ℕ → Turn A → Score → Type 0
-  IsWriteTurn p s old new before now Going q = (m : ReplyMessage) × Turns p (IsTake s) (IsGiven m) 1 q × Appends old new (reply_text m) × (now ≡ before)
-  IsWriteTurn p s old new before now (Held m) q = ⊥
-  IsWriteTurn p s old new before now Idle q = Turns p (IsTake s) (λ a. a ≡ answer.Empty) 0 q × WritesNothing old new before now
-  IsWriteTurn p s old new before now Ended q = WriteEnds p s old new before now q
+-- from the writer's known bytes and failures before to those after
+abbrev pub IsWriteTurn : Score → SessionId → Option (List ℕ) → Option (List ℕ) → ℕ → ℕ → WriteTurn → Score → Type 0
+IsWriteTurn p s old new before now writes.Written q = (m : ReplyMessage) × Turns p (IsTake s) (IsGiven m) 1 q × Appends old new (reply_text m) × (now ≡ before)
+IsWriteTurn p s old new before now writes.Idle q = Turns p (IsTake s) (λ a. a ≡ answer.Empty) 0 q × WritesNothing old new before now
+IsWriteTurn p s old new before now writes.Ended q = WriteEnds p s old new before now q

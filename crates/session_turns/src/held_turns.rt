@@ -3,9 +3,10 @@
 ghost use Rattle.std.specs.Prelude.{◌≡◌, ◌<◌, IfSome, IfNone};
 ghost use Rattle.std.specs.Vec.{vec_capacity};
 ghost use Rattle.session_turns.specs.SessionTurns.{IsOffered, IsHandedIn, IsReadTurn, Leaves};
+ghost use Rattle.session_turns.specs.Offering.{MakesLeave, Offers, HandsIn, HandsInNext};
 ghost use Rattle.session_turns.specs.Taking.{Takes};
 
-use crate::turns::Turn;
+use crate::turns::{Arrival, Turn};
 use eligibility::Eligibility;
 use export_store::Image;
 use nbd_session::{Frame, FrameReader, is_disc};
@@ -39,7 +40,8 @@ pub fn hand_in<L: Ledger, I: Image, E: Eligibility<Alloc = I::Alloc>, C: Clock>(
     frame: Frame<I::Alloc>,
     clock: &C,
 ) -> Turn<I::Alloc>
-    ensures { IsHandedIn pass.old session frame result pass.new }
+    ensures turn { IsHandedIn pass.old session frame result pass.new }
+    ensures server { HandsIn I.Alloc booked.old pass.old session frame result booked.new pass.new }
 {
     match frame {
         Frame::Whole(request) => {
@@ -60,10 +62,12 @@ pub fn offer_held<L: Ledger, I: Image, E: Eligibility<Alloc = I::Alloc>, C: Cloc
     request: Request<I::Alloc>,
     clock: &C,
 ) -> Turn<I::Alloc>
-    ensures { IsOffered pass.old session request result pass.new }
+    ensures turn { IsOffered pass.old session request result pass.new }
+    ensures server { Offers I.Alloc booked.old pass.old session request result booked.new pass.new }
 {
+    let head = request.head();
     match turn_arrive(booked, pass, session, clock.now(), request) {
-        Ok(_) => Turn::Going,
+        Ok(answer) => Turn::Going(Arrival { head, answer }),
         Err(refused) => match refused.refusal {
             ArriveRefusal::Hold => Turn::Held(refused.request),
             ArriveRefusal::Worn => leave(booked, pass, session),
@@ -83,6 +87,7 @@ pub fn read_ready<L: Ledger, I: Image, E: Eligibility<Alloc = I::Alloc>, R: Read
 ) -> Option<Turn<I::Alloc>>
     ensures ready { IfSome result (λ turn. 0 < reader.old.reading.ready) }
     ensures turn { IfSome result (λ turn. IsReadTurn reader.old reader.new pass.old session turn pass.new) }
+    ensures server { IfSome result (λ turn. HandsInNext I.Alloc reader.old reader.new booked.old pass.old session turn booked.new pass.new) }
     ensures unread { reader.new.left ≡ reader.old.left }
     ensures none { IfNone result ((reader.old.reading.ready ≡ 0) × (reader.new ≡ reader.old) × (pass.new ≡ pass.old) × (booked.new ≡ booked.old)) }
 {
@@ -122,6 +127,7 @@ fn leave<L: Ledger, I: Image, E: Eligibility<Alloc = I::Alloc>>(
 ) -> Turn<I::Alloc>
     ensures ended { result ≡ Turn.Ended }
     ensures leaves { Leaves pass.old session pass.new }
+    ensures server { MakesLeave I.Alloc booked.old pass.old session booked.new pass.new }
 {
     let _ = turn_leave(booked, pass, session);
     Turn::Ended

@@ -8,4 +8,4 @@ mod turns;
 
 pub use door::Door;
 pub use held_turns::{Stop, hand_in, offer_held, read_ready, take_replies};
-pub use turns::{Turn, offer, read_turn, write_turn};
+pub use turns::{Arrival, Turn, WriteTurn, offer, read_turn, write_turn};

@@ -1,13 +1,14 @@
 //! The turns of a session's two threads, each with a hold of the server of its own: one reads requests and hands them in,
 //! the other takes replies and writes them.
 ghost use Rattle.std.specs.Prelude.{◌≡◌};
-ghost use Rattle.session_turns.specs.SessionTurns.{IsOffered, IsReadTurn, IsWriteTurn, Drops};
+ghost use Rattle.session_turns.specs.SessionTurns.{number_of, IsOffered, IsReadTurn, IsWriteTurn, Drops};
 
 use crate::held_turns::{hand_in, offer_held};
 use eligibility::Eligibility;
 use export_store::Image;
+use lone_export::Arrived;
 use nbd_session::{Counted, FrameReader, put_reply};
-use nbd_wire::Request;
+use nbd_wire::{Request, RequestHead};
 use reply_box::Taken;
 use server_core::SessionId;
 use server_lock::{Pass, Shared};
@@ -17,14 +18,45 @@ use std::sync::Wait;
 use std::sync::ledger::Ledger;
 use tag_clock::Clock;
 
-/// What a session's turn came to.
+/// What a turn that hands a request in came to.
 #[derive(Drop)]
 pub enum Turn<A: Allocator> {
-    /// A request was handed in, or a reply was written.
-    Going,
+    /// The request was handed in.
+    Going(Arrival),
     /// As many requests of the session as its window are under way, or replies not yet taken. The request is handed back,
     /// to be offered again once a reply was taken.
     Held(Request<A>),
+    /// The session is over for this side.
+    Ended,
+}
+
+/// A request that was handed in, and what it was answered.
+#[derive(Clone, Copy, Debug, PartialEq, Eq, Drop)]
+pub struct Arrival {
+    pub head: RequestHead,
+    pub answer: Arrived,
+}
+
+impl Arrival {
+    /// The number that the request waits with. None where it was answered with an error.
+    pub fn number(&self) -> Option<u64>
+        ensures { result ≡ number_of self.now.answer }
+    {
+        match self.answer {
+            Arrived::Accepted {
+                number,
+                limit_tag: _,
+            } => Some(number),
+            Arrived::Answered(_) => None,
+        }
+    }
+}
+
+/// What a turn that writes a reply came to.
+#[derive(Clone, Copy, Debug, PartialEq, Eq, Drop)]
+pub enum WriteTurn {
+    /// A reply was written.
+    Written,
     /// No reply is there yet.
     Idle,
     /// The session is over for this side.
@@ -69,17 +101,17 @@ pub fn write_turn<L: Ledger, I: Image, E: Eligibility<Alloc = I::Alloc>, O: Writ
     pass: &mut Pass<L>,
     session: SessionId,
     writer: &mut Counted<O>,
-) -> Turn<I::Alloc>
+) -> WriteTurn
     ensures { IsWriteTurn pass.old session (O.contents writer.old.inner) (O.contents writer.new.inner) writer.old.failures writer.new.failures result pass.new }
 {
     match shared.turn_take(rt, pass, session) {
         Ok(Taken::Reply(reply)) => match put_reply(&reply, writer) {
-            Ok(()) => Turn::Going,
+            Ok(()) => WriteTurn::Written,
             Err(_) => drop_session(rt, shared, pass, session),
         },
-        Ok(Taken::Empty) => Turn::Idle,
+        Ok(Taken::Empty) => WriteTurn::Idle,
         Ok(Taken::End) => drop_session(rt, shared, pass, session),
-        Err(_) => Turn::Ended,
+        Err(_) => WriteTurn::Ended,
     }
 }
 
@@ -89,10 +121,10 @@ fn drop_session<L: Ledger, I: Image, E: Eligibility<Alloc = I::Alloc>, W: Wait>(
     shared: &Shared<L, I, E>,
     pass: &mut Pass<L>,
     session: SessionId,
-) -> Turn<I::Alloc>
-    ensures ended { result ≡ Turn.Ended }
+) -> WriteTurn
+    ensures ended { result ≡ WriteTurn.Ended }
     ensures drops { Drops pass.old session pass.new }
 {
     let _ = shared.turn_gone(rt, pass, session);
-    Turn::Ended
+    WriteTurn::Ended
 }

@@ -3,6 +3,7 @@ ghost use Rattle.std.specs.Prelude.{◌≡◌};
 
 use eligibility::Listed;
 use export_store::Flat;
+use lone_export::Arrived;
 use nbd_commands::{Config, ExportList, ExportSettings};
 use nbd_session::{Counted, Entry, FrameReader, haggle, put_reply, table_of};
 use nbd_wire::{Request, RequestHead};
@@ -79,16 +80,18 @@ impl Read for Source<'_> {
     }
 }
 
-/// What a turn came to, a request that is handed back told by its cookie; and the pass's latest turn of the server.
+/// What a turn came to that hands a request in; one that is handed back is told by its cookie.
 #[derive(Clone, Copy, Debug, PartialEq, Eq)]
 enum Came {
-    Going,
+    Going(Arrival),
     Held(u64),
-    Idle,
     Ended,
 }
 
+/// What a turn came to, and the pass's latest turn of the server.
 type Seen = (Came, Option<Trace>);
+
+type Put = (WriteTurn, Option<Trace>);
 
 /// A session of an export of 4,096 bytes whose window is 1, and the pass that makes its turns.
 #[derive(Drop)]
@@ -163,13 +166,12 @@ fn opened<'a, L: Ledger, R: Wait>(rt: &R, heap: Heap<'a>, blank: Blank) -> Optio
 impl<'a, L: Ledger> Seated<'a, L> {
     fn seen(&mut self, turn: Turn<Heap<'a>>) -> Seen {
         let came = match turn {
-            Turn::Going => Came::Going,
+            Turn::Going(arrival) => Came::Going(arrival),
             Turn::Held(request) => {
                 let cookie = request.head().cookie;
                 self.held = Some(request);
                 Came::Held(cookie)
             }
-            Turn::Idle => Came::Idle,
             Turn::Ended => Came::Ended,
         };
         (came, self.pass.last())
@@ -187,9 +189,9 @@ impl<'a, L: Ledger> Seated<'a, L> {
         self.seen(turn)
     }
 
-    fn write<R: Wait, O: Write>(&mut self, rt: &R, writer: &mut Counted<O>) -> Seen {
+    fn write<R: Wait, O: Write>(&mut self, rt: &R, writer: &mut Counted<O>) -> Put {
         let turn = write_turn(rt, &self.shared, &mut self.pass, self.session, writer);
-        self.seen(turn)
+        (turn, self.pass.last())
     }
 
     /// Offers the request again that was handed back. None where none was.
@@ -221,28 +223,24 @@ fn traced(event: EventTrace, answer: AnswerTrace) -> Option<Trace> {
     Some(Trace { event, answer })
 }
 
-/// A request waits, with this number, and its limit tag is the clock's moment.
-fn accepted(number: u64) -> AnswerTrace {
-    AnswerTrace::Accepted {
-        number,
-        limit_tag: 5,
-    }
-}
-
 /// A reply without an error.
 fn reply(cookie: u64) -> AnswerTrace {
     AnswerTrace::Reply { error: 0, cookie }
 }
 
-/// The session arrives with a request at four bytes from 4,092, at the clock's moment.
-fn arrival(kind: u16, answer: AnswerTrace) -> Option<Trace> {
-    let head = RequestHead {
+/// A request of this kind at four bytes from 4,092.
+fn head_of(kind: u16) -> RequestHead {
+    RequestHead {
         flags: 0,
         kind,
         cookie: if kind == 1 { 1 } else { 2 },
         offset: 4092,
         length: 4,
-    };
+    }
+}
+
+/// The session arrives with this request at the clock's moment.
+fn arrival(head: RequestHead, answer: AnswerTrace) -> Option<Trace> {
     let event = EventTrace::Arrive {
         export: 0,
         session: 0,
@@ -250,6 +248,19 @@ fn arrival(kind: u16, answer: AnswerTrace) -> Option<Trace> {
         head,
     };
     traced(event, answer)
+}
+
+/// This request was handed in, and waits with this number.
+fn waits(head: RequestHead, number: u64) -> Seen {
+    let answer = Arrived::Accepted {
+        number,
+        limit_tag: 5,
+    };
+    let told = AnswerTrace::Accepted {
+        number,
+        limit_tag: 5,
+    };
+    (Came::Going(Arrival { head, answer }), arrival(head, told))
 }
 
 fn take(answer: AnswerTrace) -> Option<Trace> {

@@ -32,20 +32,21 @@ fn sent<'a, L: Ledger, R: Wait>(
     heap: Heap<'a>,
     one: &mut Seated<'a, L>,
     source: Source<'_>,
-) -> [Seen; 3] {
+) -> (Seen, Seen, Put) {
     let mut reader = FrameReader::new(heap, Counted::new(source));
     let mut writer = Counted::new(Vec::new(heap));
     let turn = one.read(rt, &mut reader);
     let again = one.read(rt, &mut reader);
     let end = one.write(rt, &mut writer);
-    [turn, again, end]
+    (turn, again, end)
 }
 
 /// Whether the session left at the first turn, and its writer dropped it.
-fn is_left(seen: [Seen; 3]) -> bool {
-    seen[0] == (Came::Ended, leave(AnswerTrace::Left))
-        && seen[1] == (Came::Ended, leave(AnswerTrace::NotOpen))
-        && seen[2] == (Came::Ended, gone(AnswerTrace::Dropped))
+fn is_left(seen: (Seen, Seen, Put)) -> bool {
+    let (turn, again, end) = seen;
+    turn == (Came::Ended, leave(AnswerTrace::Left))
+        && again == (Came::Ended, leave(AnswerTrace::NotOpen))
+        && end == (WriteTurn::Ended, gone(AnswerTrace::Dropped))
 }
 
 #[test]
@@ -80,7 +81,7 @@ fn refused_memory_leaves(rt: HostRuntime) {
         heap.arm(nth);
         let seen = sent(&rt, &heap, &mut one, source);
         if heap.is_armed() {
-            assert!(rt; seen[0] == (Came::Going, arrival(1, accepted(0))));
+            assert!(rt; seen.0 == waits(head_of(1), 0));
             break;
         }
         assert!(rt; is_left(seen), "at {nth}");
@@ -95,7 +96,7 @@ fn is_served<'a, L: Ledger, R: Wait>(
     one: &mut Seated<'a, L>,
     reader: &mut FrameReader<&[u8], Heap<'a>>,
 ) -> bool {
-    one.read(rt, reader) == (Came::Going, arrival(0, accepted(0))) && one.serve(rt)
+    one.read(rt, reader) == waits(head_of(0), 0) && one.serve(rt)
 }
 
 /// The writer fails, and the session is dropped for both sides.
@@ -105,8 +106,8 @@ fn is_dropped<'a, L: Ledger, R: Wait>(
     reader: &mut FrameReader<&[u8], Heap<'a>>,
     writer: &mut Counted<Sink<'a>>,
 ) -> bool {
-    one.write(rt, writer) == (Came::Ended, gone(AnswerTrace::Dropped))
-        && one.write(rt, writer) == (Came::Ended, take(AnswerTrace::NotOpen))
+    one.write(rt, writer) == (WriteTurn::Ended, gone(AnswerTrace::Dropped))
+        && one.write(rt, writer) == (WriteTurn::Ended, take(AnswerTrace::NotOpen))
         && one.read(rt, reader) == (Came::Ended, leave(AnswerTrace::NotOpen))
 }
 

@@ -21,8 +21,8 @@ fn one_goes_in<'a, L: Ledger, R: Wait>(
     one: &mut Seated<'a, L>,
     reader: &mut Wire<'a, '_>,
 ) -> bool {
-    one.read(rt, reader) == (Came::Going, arrival(1, accepted(0)))
-        && one.read(rt, reader) == (Came::Held(2), arrival(0, AnswerTrace::Hold))
+    one.read(rt, reader) == waits(head_of(1), 0)
+        && one.read(rt, reader) == (Came::Held(2), arrival(head_of(0), AnswerTrace::Hold))
 }
 
 /// No reply is there before the WRITE is served, and the READ isn't taken in before its reply is taken.
@@ -31,9 +31,9 @@ fn none_goes_in<'a, L: Ledger, R: Wait>(
     one: &mut Seated<'a, L>,
     writer: &mut Text<'a>,
 ) -> bool {
-    one.write(rt, writer) == (Came::Idle, take(AnswerTrace::Empty))
+    one.write(rt, writer) == (WriteTurn::Idle, take(AnswerTrace::Empty))
         && one.serve(rt)
-        && one.offer(rt) == Some((Came::Held(2), arrival(0, AnswerTrace::Hold)))
+        && one.offer(rt) == Some((Came::Held(2), arrival(head_of(0), AnswerTrace::Hold)))
 }
 
 /// The WRITE's reply is written, and then the READ is taken in.
@@ -42,8 +42,8 @@ fn the_other_goes_in<'a, L: Ledger, R: Wait>(
     one: &mut Seated<'a, L>,
     writer: &mut Text<'a>,
 ) -> bool {
-    one.write(rt, writer) == (Came::Going, take(reply(1)))
-        && one.offer(rt) == Some((Came::Going, arrival(0, accepted(1))))
+    one.write(rt, writer) == (WriteTurn::Written, take(reply(1)))
+        && one.offer(rt) == Some(waits(head_of(0), 1))
 }
 
 /// The READ is served, and its reply is written.
@@ -52,7 +52,7 @@ fn it_is_answered<'a, L: Ledger, R: Wait>(
     one: &mut Seated<'a, L>,
     writer: &mut Text<'a>,
 ) -> bool {
-    one.serve(rt) && one.write(rt, writer) == (Came::Going, take(reply(2)))
+    one.serve(rt) && one.write(rt, writer) == (WriteTurn::Written, take(reply(2)))
 }
 
 /// The input is over, and the session ends for both sides.
@@ -63,7 +63,7 @@ fn it_ends<'a, L: Ledger, R: Wait>(
     writer: &mut Text<'a>,
 ) -> bool {
     one.read(rt, reader) == (Came::Ended, leave(AnswerTrace::Left))
-        && one.write(rt, writer) == (Came::Ended, gone(AnswerTrace::Dropped))
+        && one.write(rt, writer) == (WriteTurn::Ended, gone(AnswerTrace::Dropped))
 }
 
 /// Further turns find no session.
@@ -73,7 +73,7 @@ fn it_stays_ended<'a, L: Ledger, R: Wait>(
     reader: &mut Wire<'a, '_>,
     writer: &mut Text<'a>,
 ) -> bool {
-    one.write(rt, writer) == (Came::Ended, take(AnswerTrace::NotOpen))
+    one.write(rt, writer) == (WriteTurn::Ended, take(AnswerTrace::NotOpen))
         && one.read(rt, reader) == (Came::Ended, leave(AnswerTrace::NotOpen))
 }
 
@@ -107,4 +107,44 @@ fn held_until_a_reply_is_taken(rt: HostRuntime) {
     let Seated { shared, pass, .. } = one;
     assert!(rt; pass.turns() == 17);
     assert!(rt; steps_of(&heap, shared, pass) == Some(11));
+}
+
+/// A READ of four bytes behind the export's end, with the cookie 2.
+const BEHIND: &[u8; 28] =
+    b"\x25\x60\x95\x13\x00\x00\x00\x00\x00\x00\x00\x00\x00\x00\x00\x02\x00\x00\x00\x00\x00\x00\x10\x00\x00\x00\x00\x04";
+
+/// It is handed in, and answered with EINVAL.
+fn is_answered<'a, L: Ledger, R: Wait>(
+    rt: &R,
+    one: &mut Seated<'a, L>,
+    reader: &mut Wire<'a, '_>,
+) -> bool {
+    let mut head = head_of(0);
+    head.offset = 4096;
+    let answer = Arrived::Answered(22);
+    one.read(rt, reader)
+        == (
+            Came::Going(Arrival { head, answer }),
+            arrival(head, AnswerTrace::Answered(22)),
+        )
+}
+
+#[test]
+fn an_error_is_told_at_once(rt: HostRuntime) {
+    let heap = Refusing::new(rt.alloc(), 0);
+    let mut reader = FrameReader::new(&heap, Counted::new(BEHIND.as_slice()));
+    let mut one = opened::<Brand, _>(&rt, &heap, Blank::new(1)).expect(&rt, "memory");
+    assert!(rt; is_answered(&rt, &mut one, &mut reader));
+}
+
+#[test]
+fn what_waits_has_a_number(rt: HostRuntime) {
+    let head = head_of(0);
+    let answer = Arrived::Accepted {
+        number: 7,
+        limit_tag: 5,
+    };
+    assert!(rt; Arrival { head, answer }.number() == Some(7));
+    let answer = Arrived::Answered(22);
+    assert!(rt; Arrival { head, answer }.number() == None);
 }

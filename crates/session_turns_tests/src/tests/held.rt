@@ -46,9 +46,8 @@ fn sent(heap: Heap<'_>) -> Option<Vec<u8, Heap<'_>>> {
 
 fn came_to(turn: Turn<Heap<'_>>) -> Came {
     match turn {
-        Turn::Going => Came::Going,
+        Turn::Going(arrival) => Came::Going(arrival),
         Turn::Held(request) => Came::Held(request.head().cookie),
-        Turn::Idle => Came::Idle,
         Turn::Ended => Came::Ended,
     }
 }
@@ -119,9 +118,9 @@ fn are_handed_in<'a, L: Ledger>(
     one: &mut Unshared<'a, L>,
     reader: &mut FrameReader<&[u8], Heap<'a>>,
 ) -> bool {
-    one.read(reader) == (Came::Going, arrival(1, accepted(0)))
+    one.read(reader) == waits(head_of(1), 0)
         && reader.ready().len() == 1
-        && one.read_ready(reader) == Some((Came::Going, arrival(0, accepted(1))))
+        && one.read_ready(reader) == Some(waits(head_of(0), 1))
         && one.read_ready(reader) == None
 }
 
