@@ -4,22 +4,24 @@ use crate::feed::Feed;
 use crate::outlet::Outlet;
 use crate::rules::joined_size;
 use crate::session_link::SessionLink;
+use crate::under_way::Admitted;
 use export_cell::Outdated;
 use nbd_base::NoMemory;
 use nbd_service::policy::{OUTDATED_PAGES, performs_itself, size_of};
 use nbd_service::{Asked, Disks, RequestSize, Service, Wakeups, prefetch};
 use nbd_session::{Counted, Frame, FrameReader};
 use nbd_wire::{Request, RequestHead};
-use server_lock::{AnswerTrace, EventTrace, Pass, Trace};
-use session_turns::{Stop, Turn, hand_in, offer_held, read_ready};
+use server_lock::Pass;
+use session_turns::{Arrival, Stop, Turn, hand_in, offer_held, read_ready};
 use std::alloc::Global;
 use std::sync::ledger::Ledger;
 use std::sync::{MutexGuard, Wait};
+use std::time;
 use tag_clock::Clock;
 
 /// Where a reader has its requests from, and what it keeps for its holds of the server.
 #[derive(Drop)]
-pub struct RequestSource<'a, 'b, R: Wait> {
+pub struct RequestSource<'a, 'b, R: Wait + time::Clock> {
     pub frames: FrameReader<Feed<'a, 'b, R>, Global>,
     pub wakeups: Wakeups,
     /// Empty but while the server is let go.
@@ -68,14 +70,44 @@ pub struct BatchOutcome {
 /// What a turn handed in.
 #[derive(Clone, Copy, Debug, PartialEq, Eq, Drop)]
 struct Admission {
-    /// Whether a request was handed in.
-    arrived: bool,
     size: RequestSize,
-    /// The request's number, where it wasn't answered at once.
-    number: Option<u64>,
+    /// The request, where one was handed in.
+    arrival: Option<Arrival>,
 }
 
-impl<'a, 'b, R: Wait> RequestSource<'a, 'b, R> {
+impl Admission {
+    /// What this turn handed in.
+    fn of(turn: &Turn<Global>) -> Admission {
+        match turn {
+            Turn::Going(arrival) => Admission {
+                size: size_of(arrival.head),
+                arrival: Some(*arrival),
+            },
+            _ => Admission {
+                size: RequestSize::Nothing,
+                arrival: None,
+            },
+        }
+    }
+
+    /// The request's number, where it wasn't answered at once.
+    fn number(&self) -> Option<u64> {
+        match &self.arrival {
+            Some(arrival) => arrival.number(),
+            None => None,
+        }
+    }
+
+    /// The bytes that a hold handed in, with these, which were performed under it or not.
+    fn added_to(&self, admitted: Admitted, performed: bool) -> Admitted {
+        match (&self.arrival, self.number()) {
+            (Some(arrival), Some(_)) => admitted.with(arrival.head, performed),
+            _ => admitted,
+        }
+    }
+}
+
+impl<'a, 'b, R: Wait + time::Clock> RequestSource<'a, 'b, R> {
     pub fn new(
         alloc: Global,
         reader: Counted<Feed<'a, 'b, R>>,
@@ -106,23 +138,28 @@ impl<'a, 'b, R: Wait> RequestSource<'a, 'b, R> {
             Offer::Read(frame) => hand_in(disks, pass, link.session, frame, clock),
             Offer::Again(request) => offer_held(disks, pass, link.session, request, clock),
         };
-        let admission = admission_of(&turn, pass.last());
-        self.follow(disks, service, link, pass, outlet, admission, clock);
+        let admission = Admission::of(&turn);
+        let mut admitted = Admitted::NOTHING;
+        let served = self.follow(disks, service, link, pass, outlet, admission, clock);
+        admitted = admission.added_to(admitted, served);
         let mut batch = BatchOutcome::first(turn, admission, prefetched);
         for _ in 1..most {
-            if batch.size == RequestSize::Nothing || self.wakeups.served_others() {
+            let full = batch.size == RequestSize::Nothing || link.bytes.ends_batch(admitted);
+            if full || self.wakeups.served_others() {
                 break;
             }
             let Some(turn) = read_ready(disks, pass, link.session, &mut self.frames, clock) else {
                 break;
             };
-            let admission = admission_of(&turn, pass.last());
-            self.follow(disks, service, link, pass, outlet, admission, clock);
+            let admission = Admission::of(&turn);
+            let served = self.follow(disks, service, link, pass, outlet, admission, clock);
+            admitted = admission.added_to(admitted, served);
             batch.add(turn, admission);
         }
         if let Some(outlet) = outlet {
             batch.stop = Some(outlet.take(disks, pass, link.session));
         }
+        link.bytes.add(admitted);
         batch.waits = disks.server().waiting() > 0;
         disks.sweep(link.session.export, &mut self.outdated);
         batch
@@ -140,9 +177,9 @@ impl<'a, 'b, R: Wait> RequestSource<'a, 'b, R> {
         outlet: &mut Option<MutexGuard<'_, Outlet<'_>>>,
         admission: Admission,
         clock: &C,
-    ) {
-        let Some(number) = admission.number else {
-            return;
+    ) -> bool {
+        let Some(number) = admission.number() else {
+            return true;
         };
         let own = Asked {
             session: link.session,
@@ -154,11 +191,12 @@ impl<'a, 'b, R: Wait> RequestSource<'a, 'b, R> {
                 .serve_own(disks, &service.bells, pass, own, clock);
         if !served {
             service.bells.note_asker(link.session, number);
-            return;
+            return false;
         }
         if let Some(outlet) = outlet {
             outlet.take_one(disks, pass, link.session);
         }
+        true
     }
 }
 
@@ -172,7 +210,7 @@ impl BatchOutcome {
             reads_long: admission.size == RequestSize::LongRead,
             writes_long: admission.size == RequestSize::LongWrite,
             waits: false,
-            arrived: admission.arrived as u64,
+            arrived: admission.arrival.is_some() as u64,
             prefetched,
         }
     }
@@ -180,32 +218,9 @@ impl BatchOutcome {
     /// One more turn was made.
     fn add(&mut self, turn: Turn<Global>, admission: Admission) {
         self.turn = turn;
-        self.arrived = self.arrived.saturating_add(admission.arrived as u64);
+        self.arrived = self.arrived.saturating_add(admission.arrival.is_some() as u64);
         self.writes_long = self.writes_long || admission.size == RequestSize::LongWrite;
         self.reads_long = self.reads_long || admission.size == RequestSize::LongRead;
         self.size = joined_size(self.size, admission.size);
     }
-}
-
-/// What a turn handed in, by what its pass was told last.
-fn admission_of(turn: &Turn<Global>, last: Option<Trace>) -> Admission {
-    let mut admission = Admission {
-        arrived: false,
-        size: RequestSize::Nothing,
-        number: None,
-    };
-    let Turn::Going = turn else {
-        return admission;
-    };
-    admission.arrived = true;
-    let Some(Trace { event, answer }) = last else {
-        return admission;
-    };
-    if let AnswerTrace::Accepted { number, .. } = answer {
-        admission.number = Some(number);
-    }
-    if let EventTrace::Arrive { head, .. } = event {
-        admission.size = size_of(head);
-    }
-    admission
 }

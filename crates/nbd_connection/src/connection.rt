@@ -2,8 +2,11 @@
 
 use crate::batch::RequestSource;
 use crate::feed::Feed;
+use crate::handshake::{HandshakeClock, HandshakeSocket};
 use crate::reader::read_requests;
 use crate::session_link::SessionLink;
+use crate::turn_seat::TurnSeat;
+use crate::under_way::BytesUnderWay;
 use crate::writer::write_replies;
 use nbd_base::NoMemory;
 use nbd_service::policy::FLUSH_WAIT_MS;
@@ -29,8 +32,9 @@ pub fn serve_client<L: Ledger + Send + Sync, R: Wait + Threads + Sync + time::Cl
     let Some(pass) = service.passes.borrow(rt) else {
         return;
     };
-    let mut reader = Counted::new(peer);
-    let mut writer = Counted::new(peer);
+    let clock = HandshakeClock::new(rt);
+    let mut reader = Counted::new(HandshakeSocket::new(peer, &clock));
+    let mut writer = Counted::new(HandshakeSocket::new(peer, &clock));
     let mut door = Door::new(rt, &service.shared, pass);
     let entry = haggle(
         service.alloc,
@@ -57,16 +61,23 @@ fn serve_session<L: Ledger + Send + Sync, R: Wait + Threads + Sync + time::Clock
     session: SessionId,
     pass: &mut Pass<L>,
 ) {
+    let _ = peer.set_read_timeout(None);
     // Where it can't be set, a reader waits for a client that doesn't read.
     let _ = peer.set_write_timeout(Some(Duration::from_millis(FLUSH_WAIT_MS)));
     let patient = AtomicBool::new(false);
     let wakeups = Wakeups::new(service.alloc);
-    if let (Ok(link), Ok(wakeups)) = (link_of(service, peer, &patient, session), wakeups) {
+    let Some(all_waiting) = service.waiting_writes.get(session.export as usize) else {
+        return;
+    };
+    let bytes = BytesUnderWay::new(all_waiting);
+    let link = link_of(service, peer, &patient, &bytes, session);
+    if let (Ok(link), Ok(wakeups)) = (link, wakeups) {
         let feed = Counted::new(Feed::new(rt, &link));
         if let Ok(source) = RequestSource::new(service.alloc, feed, wakeups) {
             read_and_write(rt, service, &link, source, pass);
         }
     }
+    bytes.settle();
     // The writer has dropped the session, where there was one.
     service.give_up(rt, session, pass);
 }
@@ -76,11 +87,23 @@ fn link_of<'a, L: Ledger>(
     service: &'a Service<L>,
     peer: &'a TcpStream,
     patient: &'a AtomicBool,
+    bytes: &'a BytesUnderWay<'a>,
     session: SessionId,
 ) -> Result<SessionLink<'a>, NoMemory> {
     let replies = service.bells.replies(session);
     let interactive = &service.interactive;
-    SessionLink::new(service.alloc, session, peer, patient, replies, interactive)
+    let seat = TurnSeat::new(&service.turns, service.start, session.export);
+    SessionLink::new(
+        service.alloc,
+        session,
+        peer,
+        patient,
+        replies,
+        interactive,
+        seat,
+        bytes,
+        &service.bells.work,
+    )
 }
 
 /// The writer has a thread of its own, the reader this one.
@@ -96,6 +119,7 @@ fn read_and_write<L: Ledger + Send + Sync, R: Wait + Threads + Sync + time::Cloc
         if started.is_ok() {
             read_requests(rt, scope, service, link, source, pass);
         }
+        link.seat.leave(rt, false);
         link.ahead.end();
     });
 }

@@ -7,6 +7,7 @@
 mod batch;
 mod connection;
 mod feed;
+mod handshake;
 mod outlet;
 mod port;
 mod preparing;
@@ -15,9 +16,13 @@ mod reader;
 mod ready_replies;
 pub mod rules;
 mod session_link;
+mod turn_seat;
+mod under_way;
 mod writer;
 
 pub use connection::serve_client;
 pub use feed::Feed;
 pub use read_ahead::ReadAhead;
 pub use session_link::SessionLink;
+pub use turn_seat::TurnSeat;
+pub use under_way::BytesUnderWay;

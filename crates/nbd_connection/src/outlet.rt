@@ -2,11 +2,13 @@
 
 use crate::port::{Port, is_late};
 use crate::ready_replies::Ready;
+use crate::under_way::BytesUnderWay;
 use nbd_base::NoMemory;
 use nbd_service::policy::{OUTLET_BYTES, REPLY_HEAD_BYTES, TAKEN_REPLIES, may_keep, suits_reader};
 use nbd_service::{Disks, InteractiveLoad};
 use nbd_session::{Counted, put, put_reply};
 use nbd_wire::Reply;
+use nbd_workers::Bell;
 use reply_box::Taken;
 use server_core::SessionId;
 use server_lock::{Pass, turn_take};
@@ -22,6 +24,7 @@ use std::sync::ledger::Ledger;
 pub struct Outlet<'a> {
     writer: Counted<BufWriter<Port<'a>>>,
     patient: &'a AtomicBool,
+    under_way: &'a BytesUnderWay<'a>,
     // Replies that were taken and aren't written yet, the oldest first. Its room was obtained at the start.
     taken: Vec<Reply<Global>, Global>,
     // How many were written since the writer sent last, and how many bytes they have at most.
@@ -52,6 +55,14 @@ fn bytes_of(replies: &[Reply<Global>]) -> usize {
     bytes
 }
 
+/// How many bytes of data a reply has that was made ready.
+fn data_of_ready(ready: &Ready) -> u64 {
+    match ready {
+        Ready::Text(text) => text.len().saturating_sub(REPLY_HEAD_BYTES) as u64,
+        Ready::Whole(reply) => reply.content().len() as u64,
+    }
+}
+
 impl<'a> Outlet<'a> {
     /// The writes of a reader are those that aren't `patient`.
     pub fn new(
@@ -59,14 +70,17 @@ impl<'a> Outlet<'a> {
         peer: &'a TcpStream,
         patient: &'a AtomicBool,
         interactive: &'a InteractiveLoad,
+        under_way: &'a BytesUnderWay<'a>,
+        work: &'a Bell,
     ) -> Result<Outlet<'a>, NoMemory> {
-        let port = Port::new(peer, patient, interactive);
+        let port = Port::new(peer, patient, interactive, under_way, work);
         let Ok(writer) = BufWriter::with_capacity(alloc, OUTLET_BYTES, port) else {
             return Err(NoMemory);
         };
         Ok(Outlet {
             writer: Counted::new(writer),
             patient,
+            under_way,
             taken: Vec::with_capacity(alloc, TAKEN_REPLIES)?,
             unsent: 0,
             bytes: 0,
@@ -128,6 +142,7 @@ impl<'a> Outlet<'a> {
             Ready::Text(text) => put(&mut self.writer, text.as_slice()),
             Ready::Whole(reply) => put_reply(reply, &mut self.writer),
         };
+        self.under_way.note_written(data_of_ready(ready));
         written.is_ok() && self.send()
     }
 
@@ -161,8 +176,13 @@ impl<'a> Outlet<'a> {
                 return false;
             }
         }
-        self.unsent = self.unsent.saturating_add(self.taken.len());
-        self.bytes = self.bytes.saturating_add(bytes_of(self.taken.as_slice()));
+        let count = self.taken.len();
+        let bytes = bytes_of(self.taken.as_slice());
+        let heads = count.saturating_mul(REPLY_HEAD_BYTES);
+        self.under_way
+            .note_written(bytes.saturating_sub(heads) as u64);
+        self.unsent = self.unsent.saturating_add(count);
+        self.bytes = self.bytes.saturating_add(bytes);
         self.taken.clear();
         true
     }

@@ -1,7 +1,9 @@
 //! A client's socket, as replies go out to it.
 
+use crate::under_way::BytesUnderWay;
 use nbd_service::InteractiveLoad;
-use nbd_service::policy::MUCH_WRITTEN_BYTES;
+use nbd_service::policy::{MUCH_WRITTEN_BYTES, is_stalled};
+use nbd_workers::Bell;
 use std::io;
 use std::io::{ErrorKind, Write};
 use std::net::TcpStream;
@@ -14,6 +16,9 @@ pub struct Port<'a> {
     // Whether a write that waited so long goes on.
     patient: &'a AtomicBool,
     interactive: &'a InteractiveLoad,
+    under_way: &'a BytesUnderWay<'a>,
+    // Rung where the client doesn't read, and what its writer would have chosen is left to the workers.
+    work: &'a Bell,
 }
 
 impl<'a> Port<'a> {
@@ -21,11 +26,15 @@ impl<'a> Port<'a> {
         peer: &'a TcpStream,
         patient: &'a AtomicBool,
         interactive: &'a InteractiveLoad,
+        under_way: &'a BytesUnderWay<'a>,
+        work: &'a Bell,
     ) -> Port<'a> {
         Port {
             peer,
             patient,
             interactive,
+            under_way,
+            work,
         }
     }
 }
@@ -33,10 +42,18 @@ impl<'a> Port<'a> {
 impl Write for Port<'_> {
     fn write(&mut self, buf: &[u8]) -> io::Result<usize> {
         let mut peer = self.peer;
-        for _ in 0..u64::MAX {
+        for waits in 1..u64::MAX {
             match peer.write(buf) {
-                Err(error) if self.patient.load(Ordering::SeqCst) && is_late(&error) => {}
+                Err(error)
+                    if self.patient.load(Ordering::SeqCst)
+                        && is_late(&error)
+                        && !is_stalled(waits) =>
+                {
+                    self.under_way.note_unread(true);
+                    self.work.ring_one();
+                }
                 written => {
+                    self.under_way.note_unread(false);
                     self.interactive.rest_behind(&written, MUCH_WRITTEN_BYTES);
                     return written;
                 }

@@ -5,7 +5,7 @@ use crate::outlet::{FlushOutcome, Outlet};
 use crate::preparing::make_ready;
 use crate::rules::{wakes_worker, wakes_writer};
 use crate::session_link::SessionLink;
-use nbd_service::policy::{PATIENCE_S, batch_after, load_of, size_of};
+use nbd_service::policy::{BATCH, PATIENCE_S, batch_after, load_of, size_of};
 use nbd_service::{HoldClock, Service};
 use nbd_wire::Request;
 use nbd_workers::until;
@@ -37,20 +37,36 @@ pub fn read_requests<'s, E, L: Ledger, R: Wait + Sync + time::Clock>(
             Some(request) => Offer::Again(request),
             None => Offer::Read(source.frames.next()),
         };
+        wait_for_room(rt, link);
         let (turn, ahead) = read_on(rt, service, link, &mut source, pass, offer);
         set_reading_ahead(rt, scope, service.alloc, link, ahead);
         match turn {
-            Turn::Going => {}
+            Turn::Going(_) => {}
             Turn::Held(request) => {
                 held = Some(request);
                 link.replies.ring();
+                link.seat.leave(rt, false);
                 link.room
                     .wait(rt, heard, Some(Duration::from_secs(PATIENCE_S)));
             }
-            Turn::Idle | Turn::Ended => break,
+            Turn::Ended => break,
         }
     }
     link.replies.ring();
+}
+
+/// Waits while too many bytes of the session's requests are under way, or too many of its export's WRITEs wait.
+fn wait_for_room<R: Wait + time::Clock>(rt: &R, link: &SessionLink<'_>) {
+    for _ in rt.forever() {
+        let heard = link.room.heard();
+        if !link.bytes.holds_back(link.under_way()) {
+            return;
+        }
+        link.seat.leave(rt, false);
+        link.replies.ring();
+        link.room
+            .wait(rt, heard, Some(Duration::from_secs(PATIENCE_S)));
+    }
 }
 
 /// Has the client's bytes read ahead from now on, or no longer.
@@ -85,9 +101,16 @@ fn read_on<L: Ledger, R: Wait + time::Clock>(
     pass: &mut Pass<L>,
     offer: Offer,
 ) -> (Turn<Global>, bool) {
+    if let Some(head) = offer.head() {
+        link.seat
+            .wait_for_turn(rt, head, source.frames.ready(), BATCH);
+    }
     let mut outlet = link.outlet.try_lock();
     let before = match &outlet {
-        Some(outlet) => outlet.unwritten(),
+        Some(outlet) => {
+            link.settle_bytes(rt, &**outlet);
+            outlet.unwritten()
+        }
         None => 0,
     };
     let batch = hold_once(rt, service, link, source, pass, &mut outlet, offer);
@@ -107,12 +130,13 @@ fn read_on<L: Ledger, R: Wait + time::Clock>(
     if busy && batch.reads_long {
         make_ready(rt, service, link, &mut source.wakeups, pass);
     }
-    if wakes_worker(batch.waits, batch.reads_long) {
+    if wakes_worker(batch.waits, batch.reads_long, link.bytes.is_unread()) {
         service.bells.work.ring_one();
     }
     let ahead = batch.writes_long
         && service.is_wide
         && service.note_long_write(rt, link.session, service.clock(rt).now());
+    link.seat.end_turn(rt);
     (batch.turn, ahead)
 }
 
@@ -159,7 +183,7 @@ fn note_load<L: Ledger>(
 
 fn is_going(turn: &Turn<Global>) -> bool {
     match turn {
-        Turn::Going => true,
+        Turn::Going(_) => true,
         _ => false,
     }
 }

@@ -22,11 +22,12 @@ pub fn wakes_writer(reads_long: bool, is_written: bool) -> bool
     reads_long || !is_written
 }
 
-/// Whether a reader wakes a worker behind a hold: something waits, and its writer, which would choose it, isn't woken for long data.
-pub fn wakes_worker(waits: bool, reads_long: bool) -> bool
-    ensures { result ≡ (waits && not reads_long) }
+/// Whether a reader wakes a worker behind a hold: something waits, and its writer won't choose it, since it isn't woken for long data
+/// or is kept from it by a client that doesn't read.
+pub fn wakes_worker(waits: bool, reads_long: bool, is_unread: bool) -> bool
+    ensures { result ≡ (waits && (is_unread || not reads_long)) }
 {
-    waits && !reads_long
+    waits && (is_unread || !reads_long)
 }
 
 /// Whether a writer goes on by itself: something waits, and this round wasn't for nothing.

@@ -3,6 +3,8 @@
 use crate::outlet::{FlushOutcome, Outlet};
 use crate::read_ahead::ReadAhead;
 use crate::ready_replies::ReadyReplies;
+use crate::turn_seat::TurnSeat;
+use crate::under_way::BytesUnderWay;
 use nbd_base::NoMemory;
 use nbd_service::policy::patience;
 use nbd_service::{InteractiveLoad, Load};
@@ -29,6 +31,8 @@ pub struct SessionLink<'a> {
     pub(crate) replies: &'a Bell,
     /// The sessions that ask for little.
     pub(crate) interactive: &'a InteractiveLoad,
+    pub(crate) seat: TurnSeat<'a>,
+    pub(crate) bytes: &'a BytesUnderWay<'a>,
     /// Rung where a reply was taken.
     pub(crate) room: Bell,
     /// How many requests were handed in.
@@ -51,8 +55,11 @@ impl<'a> SessionLink<'a> {
         patient: &'a AtomicBool,
         replies: &'a Bell,
         interactive: &'a InteractiveLoad,
+        seat: TurnSeat<'a>,
+        bytes: &'a BytesUnderWay<'a>,
+        work: &'a Bell,
     ) -> Result<SessionLink<'a>, NoMemory> {
-        let outlet = Outlet::new(alloc, peer, patient, interactive)?;
+        let outlet = Outlet::new(alloc, peer, patient, interactive, bytes, work)?;
         let ready = ReadyReplies::new(alloc)?;
         let ahead = ReadAhead::new(alloc)?;
         Ok(SessionLink {
@@ -63,6 +70,8 @@ impl<'a> SessionLink<'a> {
             ahead,
             replies,
             interactive,
+            seat,
+            bytes,
             room: Bell::new(),
             arrived: AtomicU64::new(0),
             taken: AtomicU64::new(0),
@@ -130,13 +139,20 @@ impl<'a> SessionLink<'a> {
         }
     }
 
+    /// Where nothing is under way and all replies are written, nothing counts any more. Whoever asks has locked the outlet.
+    pub(crate) fn settle_bytes<R: Wait>(&self, rt: &R, outlet: &Outlet<'_>) {
+        if self.under_way() == 0 && outlet.unwritten() == 0 && self.ready.is_empty(rt) {
+            self.bytes.settle();
+        }
+    }
+
     /// How long the writer sleeps without a ring: without end where nothing is under way.
     pub fn patience(&self) -> Option<Duration> {
         patience(self.under_way())
     }
 
     /// How many requests were handed in whose replies weren't taken.
-    fn under_way(&self) -> u64 {
+    pub(crate) fn under_way(&self) -> u64 {
         let taken = self.taken.load(Ordering::SeqCst);
         self.arrived.load(Ordering::SeqCst).wrapping_sub(taken)
     }

@@ -47,6 +47,7 @@ pub fn write_replies<L: Ledger, R: Wait + time::Clock>(
         }
         service.passes.give_back(rt, pass);
     }
+    link.bytes.end();
     link.room.ring();
     // Wakes a reader that waits for the client.
     let _ = link.peer.shutdown(Shutdown::Both);
@@ -91,6 +92,9 @@ fn write_on<L: Ledger, R: Wait + time::Clock>(
     if !outlet.write() {
         service.give_up(rt, link.session, pass);
         return Round::Over;
+    }
+    if wrote {
+        link.room.ring();
     }
     let goes_on = writer_goes_on(waits, wrote, performed);
     match stop {
@@ -152,11 +156,12 @@ fn send_ready<L: Ledger, R: Wait>(
         return Round::Over;
     }
     link.ready.give_back(rt, ready);
+    link.room.ring();
     Round::Going
 }
 
 /// Sends what was written. Where nothing more is to be done here, what waits is left to the workers.
-fn send<L: Ledger, R: Wait>(
+fn send<L: Ledger, R: Wait + time::Clock>(
     rt: &R,
     service: &Service<L>,
     link: &SessionLink<'_>,
@@ -176,6 +181,8 @@ fn send<L: Ledger, R: Wait>(
         service.bells.work.ring_one();
     }
     if link.patience().is_none() {
+        link.seat.note_idle(rt);
+        link.settle_bytes(rt, outlet);
         link.ready.rest(rt);
     }
     Round::Idle

@@ -1,5 +1,6 @@
 -- The rules over values that the threads of a server follow. Data are counted in bytes, times in nanoseconds.
-use Rattle.std.specs.Prelude.{ℕ, ◌+◌, ◌-◌, ◌*◌, ◌%◌, min, Bool, true, false, ◌&&◌, ◌==◌, nat_lt, nat_le, if◌then◌else◌, Option, Some, None}
+use Rattle.std.specs.Prelude.{ℕ, ◌+◌, ◌-◌, ◌*◌, ◌%◌, min, Bool, true, false, ◌&&◌, ◌||◌, ◌==◌, nat_lt, nat_le, if◌then◌else◌, Option, Some, None}
+use Rattle.turn_order.specs.Flows.{units_of}
 use Rattle.nbd_service.specs.declared.request_size.RequestSize.{RequestSize}
 use Rattle.nbd_service.specs.declared.request_size.RequestSize.TheVariants as sizes
 use Rattle.nbd_service.specs.declared.request_size.Load.{Load}
@@ -50,6 +51,45 @@ yields_by bytes many = nat_le many bytes
 -- more than a second ago
 abbrev pub is_forgotten_by : ℕ → ℕ → Bool
 is_forgotten_by latest moment = nat_lt 1000000000 (moment - latest)
+
+-- ---- turns
+
+-- one for each 16 KiB begun, and one at least
+abbrev pub cost_by : ℕ → ℕ → ℕ
+cost_by kind length = if (kind == 0) || (kind == 1) then units_of length else 1
+
+-- 16 holds more, or one fewer
+abbrev pub backlog_by : ℕ → Bool → ℕ
+backlog_by before more = if more then 16 else before - 1
+
+-- ---- silent clients, and what is under way
+
+-- in milliseconds: 10 s for an option, a minute for all
+abbrev pub handshake_wait_by : ℕ → ℕ → ℕ
+handshake_wait_by passed option = min (60000 - passed) (10000 - option)
+
+-- 600 waits of 100 milliseconds
+abbrev pub is_stalled_by : ℕ → Bool
+is_stalled_by waits = nat_le 600 waits
+
+abbrev pub data_by : ℕ → ℕ → ℕ
+data_by kind length = if (kind == 0) || (kind == 1) then length else 0
+
+-- more than 64 MiB of the session, or 256 MiB of its export's waiting WRITEs
+abbrev pub holds_back_by : ℕ → ℕ → ℕ → Bool
+holds_back_by under_way session waiting = nat_lt 0 under_way && (nat_lt 67108864 session || nat_lt 268435456 waiting)
+
+-- ---- faults of accept(2), by the numbers of errno(3)
+
+abbrev pub is_shortage_by : ℕ → Bool
+is_shortage_by n = (n == 12) || (n == 23) || (n == 24) || (n == 105)
+
+abbrev pub is_network_fault_by : ℕ → Bool
+is_network_fault_by n =
+    ((n == 1) || (n == 71) || (n == 92) || (n == 95)) || ((n == 64) || (n == 100) || (n == 101)) || (n == 112) || (n == 113)
+
+abbrev pub accept_may_pass_by : ℕ → Bool
+accept_may_pass_by n = is_shortage_by n || is_network_fault_by n
 
 -- ---- reading ahead
 

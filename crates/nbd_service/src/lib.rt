@@ -6,9 +6,11 @@
 #![tactic(auto)]
 
 mod bells;
+mod descriptors;
 mod fault;
 mod hold_clock;
 mod interactive;
+mod keepalive;
 mod passes;
 pub mod policy;
 mod prefetching;
@@ -17,19 +19,23 @@ mod running_clock;
 mod service;
 mod spin;
 mod spin_poll;
+mod turns;
 mod wakeups;
 mod worker_gate;
 
 pub use bells::Bells;
+pub use descriptors::room_for_connections;
 pub use fault::ServeFault;
 pub use hold_clock::HoldClock;
 pub use interactive::InteractiveLoad;
+pub use keepalive::keep_alive;
 pub use passes::PassPool;
 pub use prefetching::prefetch;
 pub use request_size::{Load, RequestSize};
 pub use running_clock::RunningClock;
 pub use service::{Disks, LongWrite, Service};
 pub use spin::SpinLadder;
-pub use spin_poll::SpinPoll;
+pub use spin_poll::{SpinPoll, has_input};
+pub use turns::Turns;
 pub use wakeups::{Asked, Wakeups};
 pub use worker_gate::WorkerGate;

@@ -1,7 +1,7 @@
 //! Every number of the serving code, and the rules over values that its threads follow. `specs/Policy.antt` says each rule.
-ghost use Rattle.std.specs.Prelude.{◌≡◌, ◌+◌, ◌*◌, ◌<◌, ◌≤◌, ◌^◌, min, option_map};
+ghost use Rattle.std.specs.Prelude.{◌≡◌, ◌+◌, ◌-◌, ◌*◌, ◌<◌, ◌≤◌, ◌^◌, min, option_map};
 ghost use Rattle.std.specs.Duration.{as_nanos};
-ghost use Rattle.nbd_service.specs.Policy.{batch_by, bell_by, is_alone_by, is_forgotten_by, keeps_by, load_by, next_skip_by, patience_by, performs_by, reads_ahead_by, short_pieces_by, size_by, suits_reader_by, yields_by, yields_behind_look_by};
+ghost use Rattle.nbd_service.specs.Policy.{accept_may_pass_by, backlog_by, batch_by, bell_by, cost_by, data_by, handshake_wait_by, holds_back_by, is_alone_by, is_forgotten_by, is_network_fault_by, is_shortage_by, is_stalled_by, keeps_by, load_by, next_skip_by, patience_by, performs_by, reads_ahead_by, short_pieces_by, size_by, suits_reader_by, yields_by, yields_behind_look_by};
 
 use crate::request_size::{Load, RequestSize};
 use nbd_wire::RequestHead;
@@ -20,6 +20,9 @@ pub const IDLE_THREADS: usize = 64;
 /// How many milliseconds a listener waits before it tries again to accept, where the system is short of something.
 pub const RETRY_MS: u64 = 10;
 
+/// How many descriptors the server has besides those of connections, at most.
+pub const OWN_DESCRIPTORS: u64 = 16;
+
 /// The largest block, in bytes, that the C library is to keep for itself once it was given back. Its own bound on such
 /// blocks is 32 MiB, with what it adds to them (mallopt(3), M_MMAP_THRESHOLD).
 pub const KEPT_BLOCK_BYTES: usize = 33_550_000;
@@ -32,6 +35,25 @@ pub const NOTED_SESSIONS: usize = 16;
 
 /// The last moment that there is, in nanoseconds: some 146 years.
 pub const LAST_MOMENT_NS: u64 = (1 << 62) - 1;
+
+// ---- Clients that are silent
+
+/// How many milliseconds a client has for each option of its handshake, and for its flags.
+pub const OPTION_MS: u64 = 10_000;
+
+/// How many milliseconds it has for the whole handshake.
+pub const HANDSHAKE_MS: u64 = 60_000;
+
+/// How many milliseconds a reply waits for a client that reads nothing, before its session ends.
+pub const STALLED_WRITE_MS: u64 = 60_000;
+
+/// After how many seconds without a byte a connection over TCP is probed, how many lie between two probes, and how many
+/// unanswered ones end it (tcp(7)).
+pub const KEEPALIVE_IDLE_S: u8 = 60;
+
+pub const KEEPALIVE_INTERVAL_S: u8 = 10;
+
+pub const KEEPALIVE_PROBES: u8 = 6;
 
 // ---- Requests
 
@@ -60,6 +82,12 @@ pub const STEPS_OF_A_REQUEST: usize = 4;
 /// How many pages that writes put others in place of are let go once the server isn't held any more, in the export and in its base.
 pub const OUTDATED_PAGES: usize = 256;
 
+/// How many bytes the READs and WRITEs of a session may come to that are under way, before its reader hands in no more.
+pub const SESSION_BYTES: u64 = 67_108_864;
+
+/// How many bytes the WRITEs of an export may come to that wait.
+pub const WAITING_WRITE_BYTES: u64 = 268_435_456;
+
 // ---- Who goes first
 
 /// For how many nanoseconds a session that asked for little is expected to ask again.
@@ -86,6 +114,17 @@ pub const LEAST_SKIPPED_READS: u32 = 8;
 
 /// In how many reads in a row it isn't, at most.
 pub const MOST_SKIPPED_READS: u32 = 64;
+
+// ---- Turns
+
+/// For how many nanoseconds an export counts as busy that asked for a turn.
+pub const BUSY_NS: u64 = 5_000_000;
+
+/// For how many nanoseconds an export still counts whose client sends long WRITEs one behind another.
+pub const LINGER_NS: u64 = 250_000;
+
+/// For how many holds with one request a session counts as one that mostly has several.
+pub const BACKLOG_HOLDS: u32 = 16;
 
 // ---- Replies
 
@@ -156,6 +195,94 @@ pub fn size_of(head: RequestHead) -> RequestSize
     } else {
         RequestSize::Short
     }
+}
+
+/// What a request counts in the order of turns: one for each 16 KiB of data begun, and one at least.
+pub fn cost_of(head: RequestHead) -> u32
+    ensures { result ≡ cost_by head.kind head.length }
+{
+    if head.kind == READ || head.kind == WRITE {
+        turn_order::cost_of(head.length)
+    } else {
+        1
+    }
+}
+
+/// For how many more holds a session counts as one that mostly has several requests, which has more at hand at this one or not.
+pub fn backlog_after(before: u32, more: bool) -> u32
+    ensures { result ≡ backlog_by before more }
+{
+    if more {
+        BACKLOG_HOLDS
+    } else {
+        before.saturating_sub(1)
+    }
+}
+
+/// How many milliseconds a client has for its next bytes, so many after its handshake and after its option began. 0: none.
+pub fn handshake_wait_ms(passed: u64, option_passed: u64) -> u64
+    ensures { result ≡ handshake_wait_by passed option_passed }
+{
+    let whole = HANDSHAKE_MS.saturating_sub(passed);
+    let option = OPTION_MS.saturating_sub(option_passed);
+    whole.min(option)
+}
+
+/// Whether a write ends its session that so often waited in vain for its client.
+pub fn is_stalled(waits: u64) -> bool
+    ensures { result ≡ is_stalled_by waits }
+{
+    waits >= STALLED_WRITE_MS / FLUSH_WAIT_MS
+}
+
+/// Whether a reader hands in no more for now: so many bytes of its session's requests are under way, and so many of WRITEs that wait
+/// at its export. Where nothing of its session is under way it goes on.
+pub fn holds_back(under_way: u64, session_bytes: u64, waiting_bytes: u64) -> bool
+    ensures { result ≡ holds_back_by under_way session_bytes waiting_bytes }
+{
+    under_way > 0 && (session_bytes > SESSION_BYTES || waiting_bytes > WAITING_WRITE_BYTES)
+}
+
+/// How many bytes of data go with a request, in either direction.
+pub fn data_of(head: RequestHead) -> u64
+    ensures { result ≡ data_by head.kind head.length }
+{
+    if head.kind == READ || head.kind == WRITE {
+        u64::from(head.length)
+    } else {
+        0
+    }
+}
+
+/// Whether an `accept` that failed with this number of the system (errno(3)) may succeed a little later: no descriptor, buffer
+/// or memory is left, or the network had a fault that accept(2) says to pass over.
+pub fn accept_may_pass(number: u32) -> bool
+    ensures { result ≡ accept_may_pass_by number }
+{
+    is_shortage(number) || is_network_fault(number)
+}
+
+/// ENOMEM, ENFILE, EMFILE, ENOBUFS.
+fn is_shortage(number: u32) -> bool
+    ensures { result ≡ is_shortage_by number }
+{
+    number == 12 || number == 23 || number == 24 || number == 105
+}
+
+/// EPERM, ENONET, EPROTO, ENOPROTOOPT, EOPNOTSUPP, ENETDOWN, ENETUNREACH, EHOSTDOWN, EHOSTUNREACH.
+fn is_network_fault(number: u32) -> bool
+    ensures { result ≡ is_network_fault_by number }
+{
+    let is_protocol = number == 1 || number == 71 || number == 92 || number == 95;
+    let is_net = number == 64 || number == 100 || number == 101;
+    is_protocol || is_net || number == 112 || number == 113
+}
+
+/// How many connections a process has room for that may have so many descriptors: some are its own.
+pub fn connections_for(descriptors: u64) -> u64
+    ensures { result ≡ descriptors - 16 }
+{
+    descriptors.saturating_sub(OWN_DESCRIPTORS)
 }
 
 /// How much a session asks for whose next request is this long, with others ready behind it or none.

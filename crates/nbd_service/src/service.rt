@@ -6,6 +6,7 @@ use crate::passes::PassPool;
 use crate::policy::{KEPT_BLOCK_BYTES, is_alone, may_read_ahead};
 use crate::running_clock::RunningClock;
 use crate::spin::SpinLadder;
+use crate::turns::Turns;
 use eligibility::Heaped;
 use export_store::Paged;
 use nbd_base::NoMemory;
@@ -14,7 +15,7 @@ use nbd_options::ExportTable;
 use server_core::SessionId;
 use server_lock::{Booked, Pass, Shared};
 use std::alloc::Global;
-use std::sync::atomic::{AtomicBool, Ordering};
+use std::sync::atomic::{AtomicBool, AtomicU64, Ordering};
 use std::sync::ledger::Ledger;
 use std::sync::{Mutex, MutexGuard, Wait};
 use std::thread::{Threads, available_parallelism};
@@ -63,6 +64,10 @@ pub struct Service<L: Ledger> {
     pub taken: AtomicBool,
     /// The sessions that ask for little.
     pub interactive: InteractiveLoad,
+    /// Whose turn it is.
+    pub turns: Turns,
+    /// How many bytes of each export's WRITEs wait.
+    pub waiting_writes: Vec<AtomicU64>,
     pub latest_long: Mutex<Option<LongWrite>>,
     /// Whether there are processors enough to read a client's bytes ahead.
     pub is_wide: bool,
@@ -78,6 +83,10 @@ impl<L: Ledger> Service<L> {
         shared: Shared<L, Paged<Global>, Heaped<Global>>,
         passes: PassPool<L>,
     ) -> Result<Service<L>, NoMemory> {
+        let mut waiting_writes = Vec::new(alloc);
+        for _ in config.exports() {
+            waiting_writes.push(AtomicU64::new(0))?;
+        }
         // The C library gives no block of this size back to the system from now on, which would cost more than the copies.
         drop(Vec::<u8>::with_capacity(alloc, KEPT_BLOCK_BYTES)?);
         Ok(Service {
@@ -90,6 +99,8 @@ impl<L: Ledger> Service<L> {
             closed: AtomicBool::new(false),
             taken: AtomicBool::new(false),
             interactive: InteractiveLoad::new(),
+            turns: Turns::new(alloc, config)?,
+            waiting_writes,
             latest_long: Mutex::new(None),
             is_wide: available_parallelism(rt).map_or(false, |count| may_read_ahead(count.get())),
         })

@@ -38,6 +38,16 @@ impl SpinPoll {
     }
 }
 
+/// Whether something has come, or the connection is over.
+pub fn has_input(peer: &TcpStream) -> bool {
+    let mut socket = [pollfd {
+        fd: peer.as_raw_fd(),
+        events: POLLIN,
+        revents: 0,
+    }];
+    poll(&mut socket, 0) > 0
+}
+
 /// Whether something has come, or the connection is over, at one of some looks.
 fn has_come(peer: &TcpStream) -> bool {
     let mut socket = [pollfd {

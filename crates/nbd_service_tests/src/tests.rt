@@ -1,5 +1,6 @@
 use nbd_service::policy::{
-    batch_after, bell_of, is_alone, load_of, may_keep, may_read_ahead, moment_after, next_skip,
+    accept_may_pass, backlog_after, batch_after, bell_of, connections_for, cost_of, data_of,
+    handshake_wait_ms, holds_back, is_alone, is_stalled, load_of, may_keep, may_read_ahead, moment_after, next_skip,
     passes_for, patience, performs_itself, short_pieces, size_of, suits_reader, yields_behind,
     yields_behind_look,
 };
@@ -94,6 +95,44 @@ fn what_is_read_ahead_and_kept(rt: HostRuntime) -> Result<(), Fail> {
     assert!(rt; patience(0) == None);
     assert!(rt; patience(1) == Some(Duration::from_secs(1)));
     Ok(())
+}
+
+/// The head of a request for so many bytes.
+fn head(kind: u16, length: u32) -> RequestHead {
+    RequestHead {
+        flags: 0,
+        kind,
+        cookie: 1,
+        offset: 0,
+        length,
+    }
+}
+
+#[test]
+fn what_a_request_counts(rt: HostRuntime) {
+    assert!(rt; cost_of(head(READ, 0)) == 1 && cost_of(head(READ, 16_384)) == 1);
+    assert!(rt; cost_of(head(WRITE, 16_385)) == 2 && cost_of(head(WRITE, 1_048_576)) == 64);
+    assert!(rt; cost_of(head(TRIM, 1_048_576)) == 1);
+    assert!(rt; data_of(head(WRITE, 5)) == 5 && data_of(head(TRIM, 5)) == 0);
+    assert!(rt; backlog_after(3, true) == 16 && backlog_after(3, false) == 2);
+    assert!(rt; backlog_after(0, false) == 0);
+}
+
+#[test]
+fn how_long_and_how_much_is_waited_for(rt: HostRuntime) {
+    assert!(rt; handshake_wait_ms(0, 0) == 10_000 && handshake_wait_ms(55_000, 1_000) == 5_000);
+    assert!(rt; handshake_wait_ms(60_000, 0) == 0 && handshake_wait_ms(20_000, 10_000) == 0);
+    assert!(rt; !is_stalled(599) && is_stalled(600));
+    assert!(rt; !holds_back(1, 67_108_864, 268_435_456));
+    assert!(rt; holds_back(1, 67_108_865, 0) && holds_back(1, 0, 268_435_457));
+    assert!(rt; !holds_back(0, 67_108_865, 268_435_457));
+}
+
+#[test]
+fn what_a_listener_passes_over(rt: HostRuntime) {
+    assert!(rt; accept_may_pass(24) && accept_may_pass(71) && accept_may_pass(1));
+    assert!(rt; !accept_may_pass(9) && !accept_may_pass(22));
+    assert!(rt; connections_for(1_024) == 1_008 && connections_for(3) == 0);
 }
 
 /// Whether something came when a socket was looked at before a byte was sent, and at how many of twelve looks after it.

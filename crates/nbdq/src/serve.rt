@@ -2,11 +2,12 @@
 
 use crate::serving::serve_on;
 use nbd_commands::Config;
-use nbd_service::ServeFault;
+use nbd_service::policy::CONNECTIONS;
+use nbd_service::{ServeFault, room_for_connections};
 use nbd_session::Counted;
 use nbdq_cli::{Ending, Outcome, ServeTask, read_offer};
 use std::alloc::Global;
-use std::fs::Files;
+use std::fs::{Files, remove_file};
 use std::io;
 use std::io::Write;
 use std::net::{Net, SocketAddr, TcpListener, TcpStream};
@@ -20,6 +21,7 @@ pub fn serve<R>(rt: &R, task: &ServeTask) -> Ending
 where
     R: Input
         + Print
+        + Eprint
         + AllocGlobal
         + Net<Listener = TcpListener, Stream = TcpStream>
         + Files
@@ -39,13 +41,37 @@ where
         Ok(config) => config,
         Err(outcome) => return Ending::Ran(outcome),
     };
-    let (Ok(tcp), Ok(unix)) = (bind_tcp(rt, address), bind_unix(rt, &task.unix)) else {
+    // The socket's file is made last, so that a start that fails leaves none behind.
+    let Ok(tcp) = bind_tcp(rt, address) else {
         return Ending::CannotListen;
     };
+    let Ok(unix) = bind_unix(rt, &task.unix) else {
+        return Ending::CannotListen;
+    };
+    let end = serve_listeners(rt, task, &config, tcp, unix);
+    if let Some(path) = &task.unix {
+        let _ = remove_file(rt, path.as_str());
+    }
+    end
+}
+
+/// Says `ready`, serves, and tells how many steps were counted.
+fn serve_listeners<R: Print + Eprint + AllocGlobal + Wait + Threads + Sync + Clock>(
+    rt: &R,
+    task: &ServeTask,
+    config: &Config<Global>,
+    tcp: Option<TcpListener>,
+    unix: Option<UnixListener>,
+) -> Ending {
+    if let Some(room) = room_for_connections() {
+        if room < CONNECTIONS {
+            let _ = eprintln!(rt; "serve: room for {room} connections, by the limit of descriptors");
+        }
+    }
     if println!(rt; "ready").is_err() {
         return Ending::Ran(Outcome::WriteFailed);
     }
-    match serve_on(rt, rt.alloc(), &config, tcp, unix, task.crew) {
+    match serve_on(rt, rt.alloc(), config, tcp, unix, task.crew) {
         Ok(steps) => match println!(rt; "steps {steps}") {
             Ok(()) => Ending::Ran(Outcome::Done),
             Err(_) => Ending::Ran(Outcome::WriteFailed),

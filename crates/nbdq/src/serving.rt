@@ -85,7 +85,7 @@ fn serve_booked<L: Ledger + Send + Sync, R: Wait + Threads + Sync + time::Clock>
     Ok(settle(booked, passes))
 }
 
-/// All threads: returns once each has ended. False where a listener failed, or its thread couldn't be had.
+/// All threads: returns once each has ended. False where a listener failed, or the thread of a listener or a worker couldn't be had.
 fn run_threads<L: Ledger + Send + Sync, R: Wait + Threads + Sync + time::Clock>(
     rt: &R,
     service: &Service<L>,
@@ -93,10 +93,12 @@ fn run_threads<L: Ledger + Send + Sync, R: Wait + Threads + Sync + time::Clock>(
     crew: Crew,
 ) -> bool {
     thread::scope(thread::scope_env(), rt, |scope| {
+        let mut all = true;
         for _ in 0..crew.workers {
-            let _ = scope.spawn(move || run_worker(rt, service));
+            let started = scope.spawn(move || run_worker(rt, service));
+            all = all && started.is_ok();
         }
-        let listened = listen(rt, service, entrances, crew.sessions);
+        let listened = all && listen(rt, service, entrances, crew.sessions);
         service.shared.stop();
         service.bells.work.ring();
         listened
@@ -163,6 +165,8 @@ fn accept_all<L: Ledger + Send + Sync, R: Wait + Threads + Sync + time::Clock>(
                 let _ = scope.spawn(move || serve_clients(rt, service, &entrance.idle, peer));
             }
         }
+        // Who connects from now on is refused, and doesn't wait for nothing.
+        let _ = entrance.listener.close();
         entrance.idle.close();
         accepted
     })

@@ -65,12 +65,14 @@ impl IdleThreads {
         put(&mut *self.waiting.lock(rt), at);
         for _ in rt.forever() {
             let heard = seat.bell.heard();
+            // In this order: a client that was handed over before the end is found.
+            let is_closed = self.closed.load(Ordering::SeqCst);
             let client = seat.client.lock(rt).take();
             if client.is_some() {
                 put(&mut *self.empty.lock(rt), at);
                 return client;
             }
-            if self.closed.load(Ordering::SeqCst) {
+            if is_closed {
                 return None;
             }
             seat.bell.wait(rt, heard, None);

@@ -2,16 +2,14 @@
 
 use super::idle_threads::IdleThreads;
 use nbd_base::NoMemory;
+use nbd_service::keep_alive;
+use nbd_service::policy::accept_may_pass;
 use std::alloc::Global;
 use std::io;
 use std::io::ErrorKind;
 use std::net::{Shutdown, TcpListener, TcpStream};
 use std::os::fd::OwnedFd;
 use std::os::unix::net::UnixListener;
-
-/// The numbers that Linux gives to "no descriptor is left", of the process and of the system, "no buffer is left" and "no
-/// memory is left".
-const PASSING: [i32; 4] = [24, 23, 105, 12];
 
 /// Where clients connect. A connection of either kind is a stream socket, so one type serves for both.
 #[derive(Drop)]
@@ -41,6 +39,7 @@ impl Listener {
             Listener::Tcp(listener) => {
                 let (stream, _) = listener.accept()?;
                 let _ = stream.set_nodelay(true);
+                keep_alive(&stream);
                 Ok(stream)
             }
             Listener::Unix(listener) => {
@@ -67,7 +66,7 @@ pub fn may_pass(error: &io::Error) -> bool {
     match error.kind() {
         ErrorKind::ConnectionAborted | ErrorKind::Interrupted => true,
         _ => match error.raw_os_error() {
-            Some(number) => PASSING.contains(&number),
+            Some(number) => accept_may_pass(number.unsigned_abs()),
             None => false,
         },
     }

@@ -1,0 +1,141 @@
+//! A session's place in the order of turns.
+
+use nbd_service::policy::{backlog_after, cost_of, size_of};
+use nbd_service::{RequestSize, RunningClock, Turns, has_input};
+use nbd_wire::{Request, RequestHead};
+use std::alloc::Global;
+use std::net::TcpStream;
+use std::sync::Wait;
+use std::sync::atomic::{AtomicBool, AtomicU32, Ordering};
+use std::time;
+use std::time::Instant;
+use tag_clock::Clock;
+
+/// A session's place in the order of turns. Its reader waits there before it hands requests in, while no lock is held.
+#[derive(Drop)]
+pub struct TurnSeat<'a> {
+    turns: &'a Turns,
+    start: Option<Instant>,
+    export: u32,
+    // Whether the session counts as one that has something at hand.
+    at_hand: AtomicBool,
+    // Whether its reader waits for the client, and its writer has something to do.
+    reader_waits: AtomicBool,
+    // Whether more had come behind the latest request.
+    had_input: AtomicBool,
+    // Whether that was a long WRITE.
+    writes_long: AtomicBool,
+    // For how many holds it counts as one that mostly has several requests.
+    backlog: AtomicU32,
+}
+
+impl<'a> TurnSeat<'a> {
+    /// Of a session that has nothing at hand.
+    pub fn new(turns: &'a Turns, start: Option<Instant>, export: u32) -> TurnSeat<'a> {
+        TurnSeat {
+            turns,
+            start,
+            export,
+            at_hand: AtomicBool::new(false),
+            reader_waits: AtomicBool::new(false),
+            had_input: AtomicBool::new(false),
+            writes_long: AtomicBool::new(false),
+            backlog: AtomicU32::new(0),
+        }
+    }
+
+    /// Waits for the turn of a request and of those that are ready behind it, so many at most in all.
+    pub fn wait_for_turn<R: Wait + time::Clock>(
+        &self,
+        rt: &R,
+        head: RequestHead,
+        ready: &[Request<Global>],
+        most: usize,
+    ) {
+        let long = size_of(head) == RequestSize::LongWrite;
+        let more = !ready.is_empty() || (long && self.had_input.load(Ordering::SeqCst));
+        let before = self.backlog.load(Ordering::SeqCst);
+        let backlog = backlog_after(before, more);
+        if backlog != before {
+            self.backlog.store(backlog, Ordering::SeqCst);
+        }
+        set(&self.writes_long, long);
+        if self.turns.is_alone(self.export) {
+            return;
+        }
+        let mut cost = cost_of(head);
+        for request in ready.iter().rev().take(most.saturating_sub(1)) {
+            cost = cost.saturating_add(cost_of(request.head()));
+        }
+        let enters = !self.at_hand.load(Ordering::SeqCst);
+        set(&self.at_hand, true);
+        let clock = RunningClock::since(rt, self.start);
+        self.turns
+            .wait_for_turn(rt, self.export, cost, enters, &clock);
+    }
+
+    /// Behind a hold: a session that mostly has one request at a time has nothing at hand.
+    pub fn end_turn<R: Wait + time::Clock>(&self, rt: &R) {
+        let more = self.backlog.load(Ordering::SeqCst) > 0;
+        if !more && !self.writes_long.load(Ordering::SeqCst) {
+            self.leave(rt, false);
+        }
+    }
+
+    /// The reader is about to wait for its client, behind whole requests, of which so many are under way.
+    pub fn wait_for_client<R: Wait + time::Clock>(&self, rt: &R, peer: &TcpStream, under_way: u64) {
+        if !self.is_waited_for() {
+            return;
+        }
+        let has = has_input(peer);
+        set(&self.had_input, has);
+        if !has {
+            self.wait_for_pieces(rt, under_way);
+        }
+    }
+
+    /// The same where nothing has come, as is known.
+    pub fn wait_for_pieces<R: Wait + time::Clock>(&self, rt: &R, under_way: u64) {
+        if !self.is_waited_for() {
+            return;
+        }
+        if under_way > 0 {
+            set(&self.reader_waits, true);
+        } else {
+            let much = self.backlog.load(Ordering::SeqCst) > 0;
+            self.leave(rt, much && self.writes_long.load(Ordering::SeqCst));
+        }
+    }
+
+    /// Something has come from the client.
+    pub fn end_wait(&self) {
+        set(&self.reader_waits, false);
+    }
+
+    /// All replies are out.
+    pub fn note_idle<R: Wait + time::Clock>(&self, rt: &R) {
+        if self.reader_waits.load(Ordering::SeqCst) {
+            self.leave(rt, false);
+        }
+    }
+
+    /// The session has nothing at hand.
+    pub fn leave<R: Wait + time::Clock>(&self, rt: &R, lingers: bool) {
+        if self.at_hand.load(Ordering::SeqCst) && self.at_hand.swap(false, Ordering::SeqCst) {
+            let now = RunningClock::since(rt, self.start).now();
+            self.turns.leave(rt, self.export, now, lingers);
+        }
+    }
+
+    /// Whether others may wait for it.
+    fn is_waited_for(&self) -> bool {
+        self.at_hand.load(Ordering::SeqCst) && self.turns.is_contended(self.export)
+    }
+}
+
+/// Sets a flag, where it isn't so already.
+fn set(flag: &AtomicBool, value: bool) {
+    if flag.load(Ordering::SeqCst) != value {
+        flag.store(value, Ordering::SeqCst);
+    }
+}

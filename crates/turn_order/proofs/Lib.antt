@@ -1,0 +1,11 @@
+pub mod Cases
+pub mod Puts
+pub mod Gathered
+pub mod Turns
+pub mod Late
+pub mod Alone
+pub mod Owed
+pub mod Moved
+pub mod Given
+pub mod Stuck
+pub mod Steps

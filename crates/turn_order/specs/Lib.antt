@@ -1,0 +1,5 @@
+pub mod Flows
+pub mod Contenders
+pub mod Orders
+pub mod Calls
+pub mod Laws
