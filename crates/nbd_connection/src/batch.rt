@@ -218,7 +218,9 @@ impl BatchOutcome {
     /// One more turn was made.
     fn add(&mut self, turn: Turn<Global>, admission: Admission) {
         self.turn = turn;
-        self.arrived = self.arrived.saturating_add(admission.arrival.is_some() as u64);
+        self.arrived = self
+            .arrived
+            .saturating_add(admission.arrival.is_some() as u64);
         self.writes_long = self.writes_long || admission.size == RequestSize::LongWrite;
         self.reads_long = self.reads_long || admission.size == RequestSize::LongRead;
         self.size = joined_size(self.size, admission.size);

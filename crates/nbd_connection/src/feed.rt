@@ -5,10 +5,9 @@ use crate::read_ahead::Piece;
 use crate::session_link::SessionLink;
 use nbd_service::SpinPoll;
 use nbd_service::policy::MUCH_READ_BYTES;
-use std::io;
 use std::io::Read;
 use std::sync::Wait;
-use std::time;
+use std::{io, time};
 
 /// The most bytes of a long WRITE's payload that are read at once. Where there is room for more, the next bytes begin a request.
 const LONGEST_STRETCH: usize = 65_536;
@@ -92,7 +91,9 @@ impl<'a, 'b, R: Wait + time::Clock> Feed<'a, 'b, R> {
                 return None;
             }
             if self.is_between {
-                self.link.seat.wait_for_pieces(self.rt, self.link.under_way());
+                self.link
+                    .seat
+                    .wait_for_pieces(self.rt, self.link.under_way());
             }
             ahead.pieces.wait(self.rt, heard, None);
             self.link.seat.end_wait();

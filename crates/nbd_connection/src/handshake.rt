@@ -2,11 +2,10 @@
 
 use nbd_service::policy::handshake_wait_ms;
 use std::cell::Cell;
-use std::io;
 use std::io::{ErrorKind, Read, Write};
 use std::net::TcpStream;
-use std::time;
 use std::time::{Duration, Instant};
+use std::{io, time};
 
 /// How long a handshake has taken.
 #[derive(Drop)]

@@ -47,8 +47,7 @@ impl Write for Port<'_> {
                 Err(error)
                     if self.patient.load(Ordering::SeqCst)
                         && is_late(&error)
-                        && !is_stalled(waits) =>
-                {
+                        && !is_stalled(waits) => {
                     self.under_way.note_unread(true);
                     self.work.ring_one();
                 }

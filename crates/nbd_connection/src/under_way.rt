@@ -64,7 +64,8 @@ impl<'a> BytesUnderWay<'a> {
         }
         if admitted.waiting > 0 {
             self.waiting.fetch_add(admitted.waiting, Ordering::SeqCst);
-            self.all_waiting.fetch_add(admitted.waiting, Ordering::SeqCst);
+            self.all_waiting
+                .fetch_add(admitted.waiting, Ordering::SeqCst);
         }
     }
 

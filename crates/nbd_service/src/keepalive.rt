@@ -19,7 +19,13 @@ pub fn keep_alive(peer: &TcpStream) {
     let fd = peer.as_raw_fd();
     unsafe {
         setsockopt(fd, IPPROTO_TCP, TCP_KEEPIDLE, &number(KEEPALIVE_IDLE_S), 4);
-        setsockopt(fd, IPPROTO_TCP, TCP_KEEPINTVL, &number(KEEPALIVE_INTERVAL_S), 4);
+        setsockopt(
+            fd,
+            IPPROTO_TCP,
+            TCP_KEEPINTVL,
+            &number(KEEPALIVE_INTERVAL_S),
+            4,
+        );
         setsockopt(fd, IPPROTO_TCP, TCP_KEEPCNT, &number(KEEPALIVE_PROBES), 4);
         setsockopt(fd, SOL_SOCKET, SO_KEEPALIVE, &number(1), 4);
     }

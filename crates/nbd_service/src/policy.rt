@@ -117,6 +117,9 @@ pub const MOST_SKIPPED_READS: u32 = 64;
 
 // ---- Turns
 
+/// How many exports there are at most.
+pub const MOST_EXPORTS: usize = 64;
+
 /// For how many nanoseconds an export counts as busy that asked for a turn.
 pub const BUSY_NS: u64 = 5_000_000;
 
@@ -209,10 +212,10 @@ pub fn cost_of(head: RequestHead) -> u32
 }
 
 /// For how many more holds a session counts as one that mostly has several requests, which has more at hand at this one or not.
-pub fn backlog_after(before: u32, more: bool) -> u32
-    ensures { result ≡ backlog_by before more }
+pub fn backlog_after(before: u32, has_more: bool) -> u32
+    ensures { result ≡ backlog_by before has_more }
 {
-    if more {
+    if has_more {
         BACKLOG_HOLDS
     } else {
         before.saturating_sub(1)

@@ -1,6 +1,6 @@
 //! Whose turn it is among exports whose clients ask for much: the order of turns behind a lock, and the bells of those that wait.
 
-use crate::policy::{BUSY_NS, LINGER_NS, cost_of};
+use crate::policy::{BUSY_NS, LINGER_NS, MOST_EXPORTS};
 use nbd_base::NoMemory;
 use nbd_commands::Config;
 use nbd_workers::Bell;
@@ -23,9 +23,9 @@ pub struct Turns {
     waiting: AtomicU64,
 }
 
-/// The bit of an export.
-fn bit_of(export: u32) -> u64 {
-    1u64 << (export % 64)
+/// The bit of an export, by its number.
+fn bit_of(export: usize) -> u64 {
+    1u64 << (export % MOST_EXPORTS) as u32
 }
 
 impl Turns {
@@ -42,6 +42,10 @@ impl Turns {
             asked.push(AtomicU64::new(0))?;
             bells.push(Bell::new())?;
         }
+        // A configuration has no more exports.
+        if rates.len() > MOST_EXPORTS {
+            return Err(NoMemory);
+        }
         Ok(Turns {
             order: Mutex::new(TurnOrder::new(alloc, rates.as_slice())?),
             busy: AtomicU64::new(0),
@@ -53,7 +57,7 @@ impl Turns {
 
     /// Whether no other export asked lately. The export itself counts from now on.
     pub fn is_alone(&self, export: u32) -> bool {
-        let bit = bit_of(export);
+        let bit = bit_of(export as usize);
         let busy = self.busy.load(Ordering::SeqCst);
         if busy & bit == 0 {
             self.busy.fetch_or(bit, Ordering::SeqCst);
@@ -63,7 +67,7 @@ impl Turns {
 
     /// Whether another export asked lately.
     pub fn is_contended(&self, export: u32) -> bool {
-        self.busy.load(Ordering::SeqCst) & !bit_of(export) != 0
+        self.busy.load(Ordering::SeqCst) & !bit_of(export as usize) != 0
     }
 
     /// Waits for the export's turn with requests of this cost. Where the session `enters`, it counts from now on as one that has something at hand.
@@ -94,7 +98,14 @@ impl Turns {
     }
 
     /// Asks once. Where the turn has come it wakes others whose turn has come too, else it tells how long to wait.
-    fn ask<R: Wait>(&self, rt: &R, export: u32, cost: u32, enters: bool, now: Moment) -> Option<u64> {
+    fn ask<R: Wait>(
+        &self,
+        rt: &R,
+        export: u32,
+        cost: u32,
+        enters: bool,
+        now: Moment,
+    ) -> Option<u64> {
         let mut order = self.order.lock(rt);
         if enters {
             order.enter(export, now);
@@ -134,11 +145,11 @@ impl Turns {
             return wakes;
         }
         let mut from = 0u32;
-        for _ in 0..64 {
+        for _ in 0..MOST_EXPORTS {
             let Some(export) = order.next_to_wake(from, now) else {
                 break;
             };
-            wakes = wakes | bit_of(export);
+            wakes = wakes | bit_of(export as usize);
             from = export.saturating_add(1);
         }
         wakes
@@ -149,7 +160,7 @@ impl Turns {
             return;
         }
         for (export, bell) in self.bells.iter().enumerate() {
-            if wakes & bit_of(export as u32) != 0 {
+            if wakes & bit_of(export) != 0 {
                 bell.ring();
             }
         }
@@ -163,7 +174,7 @@ impl Turns {
         }
         let busy = self.busy.load(Ordering::SeqCst);
         for (at, asked) in self.asked.iter().enumerate() {
-            let bit = bit_of(at as u32);
+            let bit = bit_of(at);
             if busy & bit != 0 && now.saturating_sub(asked.load(Ordering::SeqCst)) > BUSY_NS {
                 self.busy.fetch_and(!bit, Ordering::SeqCst);
             }

@@ -65,7 +65,9 @@ fn serve_listeners<R: Print + Eprint + AllocGlobal + Wait + Threads + Sync + Clo
 ) -> Ending {
     if let Some(room) = room_for_connections() {
         if room < CONNECTIONS {
-            let _ = eprintln!(rt; "serve: room for {room} connections, by the limit of descriptors");
+            let _ = eprintln!(rt;
+                "serve: room for {room} connections, by the limit of descriptors"
+            );
         }
     }
     if println!(rt; "ready").is_err() {
