@@ -45,7 +45,7 @@ pub fn serve_on<R: Wait + Threads + Sync + time::Clock>(
     if let Some(unix) = unix {
         entrances.push(Entrance::new(alloc, Listener::Unix(unix))?)?;
     }
-    let listening = crew.sessions.saturating_mul(entrances.len() as u64);
+    let listening = crew.sessions.most().saturating_mul(entrances.len() as u64);
     let passes = passes_for(listening, crew.workers);
     let blank = Blank::new(passes);
     serve_booked::<Brand, R>(rt, alloc, config, entrances.as_slice(), crew, blank, passes)
@@ -96,7 +96,7 @@ fn run_threads<L: Ledger + Send + Sync, R: Wait + Threads + Sync + time::Clock>(
         for _ in 0..crew.workers {
             let _ = scope.spawn(move || run_worker(rt, service));
         }
-        let listened = listen(rt, service, entrances, crew.sessions);
+        let listened = listen(rt, service, entrances, crew.sessions.most());
         service.shared.stop();
         service.bells.work.ring();
         listened
