@@ -4,19 +4,17 @@
 mod serve;
 mod serving;
 
-use clap::error::ErrorKind;
+use clap::Error;
 use nbd_scripts::{replay_script, talk_script};
 use nbd_session::Counted;
 use nbdq_cli::{
-    Ending, Job, Outcome, Task, check_text, read_command_line, status_of_end, text_of_end,
+    Ending, Job, Outcome, Task, check_text, end_of_refusal, read_command_line, status_of_end,
+    text_of_end,
 };
 use serve::serve;
 use std::io;
 use std::io::{BufWriter, Write};
 use std::process::ExitCode;
-
-/// The status of a command line that is refused or asks for help.
-const USAGE: u8 = 2;
 
 /// The commands that read all of standard input, and then write.
 fn run<R: Input + Print + AllocGlobal>(rt: &R, task: Task) -> Outcome {
@@ -37,16 +35,28 @@ fn run<R: Input + Print + AllocGlobal>(rt: &R, task: Task) -> Outcome {
     }
 }
 
+/// Shows the text of the command line's parser: the version on standard output, all else on standard error.
+fn show<R: Print + Eprint>(rt: &R, error: &Error) -> Ending {
+    let end = end_of_refusal(error);
+    match end {
+        Ending::Version => match rt.print(error) {
+            Ok(()) => end,
+            Err(_) => Ending::Ran(Outcome::WriteFailed),
+        },
+        Ending::Usage => {
+            let _ = rt.eprint(error);
+            end
+        }
+        _ => end,
+    }
+}
+
 // A standard error that fails changes no status.
 fn main(rt: HostRuntime) -> ExitCode {
     let end = match read_command_line(&rt) {
         Ok(Job::Task(task)) => Ending::Ran(run(&rt, task)),
         Ok(Job::Serve(task)) => serve(&rt, &task),
-        Err(error) if error.kind() == ErrorKind::OutOfMemory => Ending::Ran(Outcome::NoMemory),
-        Err(error) => {
-            let _ = rt.eprint(&error);
-            return ExitCode::from(USAGE);
-        }
+        Err(error) => show(&rt, &error),
     };
     if let Some(line) = text_of_end(end) {
         let _ = rt.eprintln(line);

@@ -45,7 +45,7 @@ pub fn serve_on<R: Wait + Threads + Sync + time::Clock>(
     if let Some(unix) = unix {
         entrances.push(Entrance::new(alloc, Listener::Unix(unix))?)?;
     }
-    let listening = crew.sessions.saturating_mul(entrances.len() as u64);
+    let listening = crew.sessions.most().saturating_mul(entrances.len() as u64);
     let passes = passes_for(listening, crew.workers);
     let blank = Blank::new(passes);
     serve_booked::<Brand, R>(rt, alloc, config, entrances.as_slice(), crew, blank, passes)
@@ -98,7 +98,7 @@ fn run_threads<L: Ledger + Send + Sync, R: Wait + Threads + Sync + time::Clock>(
             let started = scope.spawn(move || run_worker(rt, service));
             all = all && started.is_ok();
         }
-        let listened = all && listen(rt, service, entrances, crew.sessions);
+        let listened = all && listen(rt, service, entrances, crew.sessions.most());
         service.shared.stop();
         service.bells.work.ring();
         listened

@@ -1,12 +1,12 @@
 //! The words that the program is called with.
 
-ghost use Rattle.std.specs.Prelude.{◌≡◌, false, map, option_map, string_bytes, IfOk};
+ghost use Rattle.std.specs.Prelude.{◌≡◌, false, true, map, option_map, string_bytes, IfOk};
 ghost use Rattle.clap.specs.declared.builder.command.Command.TheViews.{out-Command as fields_of};
 ghost use Rattle.clap.specs.Words.{app_of, found_of, new_app, rows_of, rule_of, subcommand_name_of, subcommand_rows_of, with_subcommand, FailsBy};
-ghost use Rattle.nbdq_cli.specs.Asked.{faults_in, AsksFor, IsJob, IsServe};
-ghost use Rattle.nbdq_cli.specs.Commands.{number_rule, numbers_up_to, option_rule, program, serve_command};
+ghost use Rattle.nbdq_cli.specs.Asked.{faults_in, number_faults, sessions_said, wants_number, AsksFor, IsJob, IsServe, IsSessions};
+ghost use Rattle.nbdq_cli.specs.Commands.{number_rule, numbers_up_to, option_rule, program_with, serve_command};
 
-use crate::crew::Crew;
+use crate::crew::{Crew, Sessions};
 use clap::builder::ValueParser;
 use clap::error::ErrorKind;
 use clap::{Arg, ArgMatches, Command, Error, value_parser};
@@ -18,8 +18,13 @@ use std::io;
 /// How many workers serve, and how many connections each listener accepts, where the words don't say.
 const CREW: Crew = Crew {
     workers: 4,
-    sessions: 100_000,
+    sessions: Sessions::Count(100_000),
 };
+
+/// The word that stands in place of a count of connections.
+const FOREVER: &str = "forever";
+
+const VERSION: &str = "0.1.0";
 
 // What help says of the program, of its commands, and of the options of `serve`.
 const PROGRAM: &str = "A Network Block Device server for disks held in memory";
@@ -38,7 +43,8 @@ const UNIX: &str = "Listen on a Unix socket, whose file is made";
 
 const WORKERS: &str = "Threads that perform requests, 1 to 64 [default: 4]";
 
-const SESSIONS: &str = "Connections that each listener accepts, 1 to 1000000 [default: 100000]";
+const SESSIONS: &str =
+    "Connections that each listener accepts, 1 to 1000000, or forever [default: 100000]";
 
 /// What the program is asked to do.
 #[derive(Debug, Drop)]
@@ -78,7 +84,7 @@ pub fn read_command_line(rt: &(impl Env + AllocGlobal)) -> Result<Job, Error> {
             asked_job(alloc, words.as_slice())
         }
         Err(error) if error.kind() == io::ErrorKind::OutOfMemory => Err(Error::from(AllocError)),
-        Err(_) => Err(command(alloc)?.error(
+        Err(_) => Err(command(alloc, sessions())?.error(
             ErrorKind::UnknownArgument,
             "invalid UTF-8 was detected in one or more arguments",
         )?),
@@ -90,8 +96,55 @@ pub fn asked_job<S: AsStr>(alloc: Global, words: &[S]) -> Result<Job, Error>
     ensures asked { IfOk result (AsksFor (map S.text words.now)) }
     ensures refused { FailsBy (faults_in (map S.text words.now)) result }
 {
-    let matches = command(alloc)?.try_get_matches_from(words)?;
+    let matches = command(alloc, ValueParser::String)?.try_get_matches_from(words)?;
+    check_sessions(alloc, &matches, words)?;
     Ok(job_of(alloc, &matches)?)
+}
+
+/// Refuses what is behind `--sessions` where it is neither the word nor a number that is taken.
+///
+/// `clap` has no parser for a word or a number: the words were read with any text there, and are read again with a number alone.
+fn check_sessions<S: AsStr>(
+    alloc: Global,
+    matches: &ArgMatches<'_>,
+    words: &[S],
+) -> Result<(), Error>
+    ensures { FailsBy (number_faults (wants_number (sessions_said (subcommand_rows_of matches.now))) (map S.text words.now)) result }
+{
+    if wants_number(matches) {
+        read_again(alloc, words)
+    } else {
+        Ok(())
+    }
+}
+
+/// Reads the words with a number alone behind `--sessions`.
+fn read_again<S: AsStr>(alloc: Global, words: &[S]) -> Result<(), Error>
+    ensures { FailsBy (number_faults true (map S.text words.now)) result }
+{
+    match command(alloc, sessions())?.try_get_matches_from(words) {
+        Ok(_) => Ok(()),
+        Err(error) => Err(error),
+    }
+}
+
+/// Whether something stands behind `--sessions` that has to be a number.
+fn wants_number(matches: &ArgMatches<'_>) -> bool
+    ensures { result ≡ wants_number (sessions_said (subcommand_rows_of matches.now)) }
+{
+    match matches.subcommand() {
+        Some((_, given)) => is_no_word(given.get_str("sessions")),
+        None => false,
+    }
+}
+
+fn is_no_word(text: Option<&str>) -> bool
+    ensures { result ≡ wants_number (option_map (λ text. text.now) text.entry) }
+{
+    match text {
+        Some(text) => text != FOREVER,
+        None => false,
+    }
 }
 
 /// What a command and its options ask for.
@@ -115,9 +168,23 @@ fn serve_task(alloc: Global, given: &ArgMatches<'_>) -> Result<ServeTask, AllocE
         unix: kept(alloc, given.get_str("unix"))?,
         crew: Crew {
             workers: given.get_one::<u64>("workers").unwrap_or(CREW.workers),
-            sessions: given.get_one::<u64>("sessions").unwrap_or(CREW.sessions),
+            sessions: sessions_of(given.get_str("sessions")),
         },
     })
+}
+
+/// How many connections are accepted, by what is behind `--sessions`.
+fn sessions_of(text: Option<&str>) -> Sessions
+    ensures { IsSessions (option_map (λ text. text.now) text.entry) result }
+{
+    match text {
+        Some("forever") => Sessions::Forever,
+        Some(text) => match text.parse::<u64>() {
+            Ok(count) => Sessions::Count(count),
+            Err(_) => CREW.sessions,
+        },
+        None => CREW.sessions,
+    }
 }
 
 fn kept(alloc: Global, word: Option<&str>) -> Result<Option<String>, AllocError>
@@ -129,26 +196,32 @@ fn kept(alloc: Global, word: Option<&str>) -> Result<Option<String>, AllocError>
     }
 }
 
-fn command<'a>(alloc: Global) -> Result<Command<'a>, AllocError>
-    ensures { IfOk result (λ command. app_of command ≡ program) }
+/// The program, whose `--sessions` takes what this parser does.
+fn command<'a>(alloc: Global, sessions: ValueParser<'a>) -> Result<Command<'a>, AllocError>
+    ensures { IfOk result (λ command. app_of command ≡ program_with sessions.entry) }
 {
     let program = new_command(alloc, "nbdq", PROGRAM)
+        .version(VERSION)
         .subcommand_required(true)
         .subcommand(new_command(alloc, "check", CHECK))?
         .subcommand(new_command(alloc, "talk", TALK))?
         .subcommand(new_command(alloc, "replay", REPLAY))?;
-    with_serve(alloc, program)
+    with_serve(alloc, program, sessions)
 }
 
 /// The program with its command `serve`.
-fn with_serve<'a>(alloc: Global, program: Command<'a>) -> Result<Command<'a>, AllocError>
-    ensures { IfOk result (λ command. app_of command ≡ with_subcommand (app_of program.entry) serve_command.top) }
+fn with_serve<'a>(
+    alloc: Global,
+    program: Command<'a>,
+    sessions: ValueParser<'a>,
+) -> Result<Command<'a>, AllocError>
+    ensures { IfOk result (λ command. app_of command ≡ with_subcommand (app_of program.entry) (serve_command sessions.entry).top) }
 {
     let serve = new_command(alloc, "serve", SERVE)
         .arg(option(alloc, "tcp", "ADDR", TCP))?
         .arg(option(alloc, "unix", "PATH", UNIX))?
         .arg(number(alloc, "workers", WORKERS, workers()))?
-        .arg(number(alloc, "sessions", SESSIONS, sessions()))?;
+        .arg(number(alloc, "sessions", SESSIONS, sessions))?;
     program.subcommand(serve)
 }
 

@@ -2,8 +2,11 @@
 
 ghost use Rattle.std.specs.Prelude.{◌≡◌};
 ghost use Rattle.std.specs.Option.{option_copied};
-ghost use Rattle.nbdq_cli.specs.Outcomes.{status_of, text_of, status_of_end, text_of_end};
+ghost use Rattle.clap.specs.Words.{kind_of};
+ghost use Rattle.nbdq_cli.specs.Outcomes.{end_of_kind, status_of, text_of, status_of_end, text_of_end};
 
+use clap::Error;
+use clap::error::ErrorKind;
 pub use nbd_scripts::Outcome;
 
 /// The exit status of the program.
@@ -35,6 +38,10 @@ pub fn text(outcome: Outcome) -> Option<&'static str>
 pub enum Ending {
     /// A command went so.
     Ran(Outcome),
+    /// The version is asked for. Its text goes to standard output.
+    Version,
+    /// The command line is refused, or asks for help. The text of its parser goes to standard error.
+    Usage,
     /// `serve` is asked for without an address or a path.
     NoListener,
     /// What `serve` is to listen on is no IP address with a port.
@@ -43,23 +50,36 @@ pub enum Ending {
     CannotListen,
 }
 
+/// How the program ends where the command line asks for none of its commands.
+pub fn end_of_refusal(error: &Error) -> Ending
+    ensures { result ≡ end_of_kind (kind_of error.now) }
+{
+    match error.kind() {
+        ErrorKind::OutOfMemory => Ending::Ran(Outcome::NoMemory),
+        ErrorKind::DisplayVersion => Ending::Version,
+        _ => Ending::Usage,
+    }
+}
+
 /// The exit status of an end.
 pub fn status_of_end(end: Ending) -> u8
     ensures { result ≡ status_of_end end }
 {
     match end {
         Ending::Ran(outcome) => status(outcome),
-        Ending::NoListener | Ending::BadAddress => 2,
+        Ending::Version => 0,
+        Ending::Usage | Ending::NoListener | Ending::BadAddress => 2,
         Ending::CannotListen => 4,
     }
 }
 
-/// What standard error is told at an end.
+/// The line that standard error is told at an end. The text of the command line's parser is none.
 pub fn text_of_end(end: Ending) -> Option<&'static str>
     ensures { option_copied result ≡ text_of_end end }
 {
     match end {
         Ending::Ran(outcome) => text(outcome),
+        Ending::Version | Ending::Usage => None,
         Ending::NoListener => Some("serve: no listener"),
         Ending::BadAddress => Some("serve: bad address"),
         Ending::CannotListen => Some("cannot listen"),

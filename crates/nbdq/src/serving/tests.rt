@@ -5,6 +5,7 @@ use super::*;
 use nbd_commands::{ExportList, ExportSettings};
 use nbd_wire::protocol::{READ, WRITE};
 use nbd_wire::{RequestHead, write_head};
+use nbdq_cli::Sessions;
 use std::io::{Read, Write};
 use std::net::TcpStream;
 use std::os::unix::net::UnixStream;
@@ -13,7 +14,7 @@ use std::{fs, io};
 
 const CREW: Crew = Crew {
     workers: 4,
-    sessions: 1,
+    sessions: Sessions::Count(1),
 };
 
 /// The client's flags, EXPORT_NAME of `a`, and a WRITE of four bytes.
@@ -253,7 +254,7 @@ fn long_writes_and_a_second_client(rt: HostRuntime) -> Result<(), Fail> {
     let lent = &config;
     let crew = Crew {
         workers: 4,
-        sessions: 2,
+        sessions: Sessions::Count(2),
     };
     let listener = TcpListener::bind(rt, "127.0.0.1:0")?;
     let address = listener.local_addr()?;

@@ -1,7 +1,8 @@
-use Rattle.std.proofs.Common.{codes, ◌∙◌, rules}
+use Rattle.std.proofs.Common.{Option, codes, subst, ◌∙◌, rules}
 use Rattle.std.specs.Str.Parse.{ParsesUnsigned, ExplainsUnsignedError, HasUnsignedDigitsIfOk}
-use Rattle.clap.specs.Words.{found_of, rows_of, one_of}
+use Rattle.clap.specs.Words.{Text, found_of, rows_of, one_of}
 use Rattle.clap.proofs.WalkLemmas.{first_value-rows, one_text-rows}
+use Rattle.nbdq_cli.specs.Asked.{IsSessions}
 use Rattle.nbdq_cli.proofs.AskedLemmas.{count_is}
 use Rattle.nbdq_cli.proofs.command_line.serve_task.Goals as goal
 
@@ -15,6 +16,6 @@ returns c =
           count_is _ (λ bs r. ParsesUnsigned 64 10 bs r × ExplainsUnsignedError 10 bs r × HasUnsignedDigitsIfOk bs r) (one_of (codes "workers") (rows_of found)) c.get_one.result 4 c.unwrap_or.result
           (λ none. c.get_one.ensures.none (one_text-rows found (codes "workers") ∙ none)) (λ t some. c.get_one.ensures.value t (one_text-rows found (codes "workers") ∙ some)) (λ u x g. g.0) (search rules);
       sessions =
-          count_is _ (λ bs r. ParsesUnsigned 64 10 bs r × ExplainsUnsignedError 10 bs r × HasUnsignedDigitsIfOk bs r) (one_of (codes "sessions") (rows_of found)) c.get_one-2.result 100000 c.unwrap_or-2.result
-          (λ none. c.get_one-2.ensures.none (one_text-rows found (codes "sessions") ∙ none)) (λ t some. c.get_one-2.ensures.value t (one_text-rows found (codes "sessions") ∙ some)) (λ u x g. g.0) (search rules);
+          let P : Option Text → Type 0 = λ said. IsSessions said c.sessions_of.result in
+          subst P (c.get_str-3.ensures ∙ first_value-rows found (codes "sessions")) c.sessions_of.ensures;
     }

@@ -14,6 +14,6 @@ returns c =
     let two = c.in_ok-arg-2.ensures.shape c.option-2.ensures.local ∙ ap₂ with_rule one c.option-2.ensures.rule in
     let three =
     c.in_ok-arg-3.ensures.shape c.number.ensures.local ∙ ap₂ with_rule two (c.number.ensures.rule ∙ ap (number_rule (codes "workers")) c.workers.ensures) in
-    let serve_is : app_of c.in_ok-serve.serve ≡ serve_command = c.in_ok-serve.ensures.shape c.number-2.ensures.local
-    ∙ ap₂ with_rule three (c.number-2.ensures.rule ∙ ap (number_rule (codes "sessions")) c.sessions.ensures) in
+    let serve_is : app_of c.in_ok-serve.serve ≡ serve_command c.args.sessions = c.in_ok-serve.ensures.shape c.number-2.ensures.local
+    ∙ ap₂ with_rule three c.number-2.ensures.rule in
     IfOk-weaker c.subcommand.result _ _ (λ m h. h.shape local_four ∙ ap (λ (a : App). with_subcommand (app_of c.args.program) a.top) serve_is) c.subcommand.ensures
