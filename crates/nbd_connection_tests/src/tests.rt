@@ -1,15 +1,16 @@
-use nbd_connection::{Feed, SessionLink};
-use nbd_service::InteractiveLoad;
+use nbd_connection::{BytesUnderWay, Feed, SessionLink, TurnSeat};
+use nbd_service::{InteractiveLoad, Turns};
 use nbd_workers::Bell;
 use server_core::SessionId;
 use std::alloc::Global;
 use std::io::{Read, Write};
 use std::net::{TcpListener, TcpStream};
 use std::sync::Wait;
-use std::sync::atomic::AtomicBool;
+use std::sync::atomic::{AtomicBool, AtomicU64};
 use std::test::Fail;
 use std::thread::Threads;
-use std::{io, thread};
+use std::{io, thread, time};
+use turn_order::Rates;
 
 /// The byte that is sent at a place.
 fn byte_at(at: usize) -> u8 {
@@ -26,7 +27,7 @@ fn send_bytes(alloc: Global, stream: &mut TcpStream, count: usize) -> io::Result
 }
 
 /// How many bytes come while they are read ahead, and whether each is the one that was sent.
-fn fed<R: Wait + Threads + Sync>(
+fn fed<R: Wait + Threads + Sync + time::Clock>(
     rt: &R,
     alloc: Global,
     peer: &TcpStream,
@@ -38,7 +39,28 @@ fn fed<R: Wait + Threads + Sync>(
     };
     let patient = AtomicBool::new(false);
     let interactive = InteractiveLoad::new();
-    let made = SessionLink::new(alloc, session, peer, &patient, &bell, &interactive);
+    let rates = [Rates {
+        reservation: 0,
+        limit: 0,
+        weight: 1,
+    }];
+    let Ok(turns) = Turns::of(alloc, &rates) else {
+        return Ok((0, false));
+    };
+    let waiting = AtomicU64::new(0);
+    let bytes = BytesUnderWay::new(&waiting);
+    let seat = TurnSeat::new(&turns, None, 0);
+    let made = SessionLink::new(
+        alloc,
+        session,
+        peer,
+        &patient,
+        &bell,
+        &interactive,
+        seat,
+        &bytes,
+        &bell,
+    );
     let Ok(made) = made else {
         return Ok((0, false));
     };
@@ -58,7 +80,7 @@ fn fed<R: Wait + Threads + Sync>(
     })
 }
 
-fn all_of<R: Wait>(rt: &R, link: &SessionLink<'_>) -> io::Result<(usize, bool)> {
+fn all_of<R: Wait + time::Clock>(rt: &R, link: &SessionLink<'_>) -> io::Result<(usize, bool)> {
     let mut feed = Feed::new(rt, link);
     let mut buffer = [0u8; 5_000];
     let mut at = 0usize;

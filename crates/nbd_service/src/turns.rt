@@ -29,25 +29,33 @@ fn bit_of(export: usize) -> u64 {
 }
 
 impl Turns {
+    /// Of the exports of a configuration.
     pub fn new(alloc: Global, config: &Config<Global>) -> Result<Turns, NoMemory> {
         let mut rates = Vec::new(alloc);
-        let mut asked = Vec::new(alloc);
-        let mut bells = Vec::new(alloc);
         for export in config.exports() {
             rates.push(Rates {
                 reservation: export.reservation(),
                 limit: export.limit(),
                 weight: export.weight(),
             })?;
-            asked.push(AtomicU64::new(0))?;
-            bells.push(Bell::new())?;
         }
+        Turns::of(alloc, rates.as_slice())
+    }
+
+    /// Of exports with these rates, 64 at most.
+    pub fn of(alloc: Global, rates: &[Rates]) -> Result<Turns, NoMemory> {
         // A configuration has no more exports.
         if rates.len() > MOST_EXPORTS {
             return Err(NoMemory);
         }
+        let mut asked = Vec::new(alloc);
+        let mut bells = Vec::new(alloc);
+        for _ in rates {
+            asked.push(AtomicU64::new(0))?;
+            bells.push(Bell::new())?;
+        }
         Ok(Turns {
-            order: Mutex::new(TurnOrder::new(alloc, rates.as_slice())?),
+            order: Mutex::new(TurnOrder::new(alloc, rates)?),
             busy: AtomicU64::new(0),
             asked,
             bells,

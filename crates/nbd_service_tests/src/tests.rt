@@ -1,10 +1,10 @@
 use nbd_service::policy::{
     accept_may_pass, backlog_after, batch_after, bell_of, connections_for, cost_of, data_of,
-    handshake_wait_ms, holds_back, is_alone, is_stalled, load_of, may_keep, may_read_ahead, moment_after, next_skip,
-    passes_for, patience, performs_itself, short_pieces, size_of, suits_reader, yields_behind,
-    yields_behind_look,
+    handshake_wait_ms, holds_back, is_alone, is_stalled, load_of, may_keep, may_read_ahead,
+    moment_after, next_skip, passes_for, patience, performs_itself, short_pieces, size_of,
+    suits_reader, yields_behind, yields_behind_look,
 };
-use nbd_service::{InteractiveLoad, Load, RequestSize, SpinPoll};
+use nbd_service::{InteractiveLoad, Load, RequestSize, RunningClock, SpinPoll, Turns};
 use nbd_wire::RequestHead;
 use nbd_wire::protocol::{READ, TRIM, WRITE};
 use std::io;
@@ -13,8 +13,9 @@ use std::net::TcpStream;
 use std::os::fd::OwnedFd;
 use std::os::unix::net::UnixStream;
 use std::test::Fail;
-use std::time::Duration;
+use std::time::{Duration, Instant};
 use tag_clock::Moment;
+use turn_order::Rates;
 
 /// Whether a session is expected before one asked for little at the moment 5, then, and where one asks for much at another.
 fn expected_at(nanoseconds: u64) -> Option<(bool, bool, bool)> {
@@ -156,4 +157,42 @@ fn a_socket_that_is_watched(rt: HostRuntime) -> Result<(), Fail> {
     // Since nothing came at first, the socket isn't looked at for eight reads.
     assert_eq!(rt; watched(&rt)?, (false, 4));
     Ok(())
+}
+
+/// How long an export waits that has just got far ahead of another.
+fn waited(rt: &HostRuntime, turns: &Turns, start: Instant) -> Option<Duration> {
+    let clock = RunningClock::since(rt, Some(start));
+    turns.wait_for_turn(rt, 1, 1, false, &clock);
+    turns.wait_for_turn(rt, 0, 20_000, false, &clock);
+    let began = Instant::now(rt).ok()?;
+    turns.wait_for_turn(rt, 0, 1, false, &clock);
+    began.elapsed(rt).ok()
+}
+
+/// Whether one export is alone, until another asks, and then waits at one of some turns.
+fn waits_beside_another(rt: &HostRuntime) -> Option<bool> {
+    let rates = [Rates {
+        reservation: 0,
+        limit: 0,
+        weight: 1,
+    }; 2];
+    let turns = Turns::of(rt.alloc(), &rates).ok()?;
+    let start = Instant::now(rt).ok()?;
+    let clock = RunningClock::since(rt, Some(start));
+    let before = turns.is_alone(0) && turns.is_alone(0) && !turns.is_contended(0);
+    turns.wait_for_turn(rt, 0, 1, true, &clock);
+    turns.wait_for_turn(rt, 1, 1, true, &clock);
+    let beside = !turns.is_alone(1) && turns.is_contended(0);
+    // The other is waited for as long as it was seen lately, 5 milliseconds: a test that is stopped for longer waits for nobody.
+    let mut waits = false;
+    for _ in 0..50 {
+        waits = waits || waited(rt, &turns, start)? >= Duration::from_micros(500);
+    }
+    turns.leave(rt, 1, Moment::zero(), false);
+    Some(before && beside && waits)
+}
+
+#[test]
+fn who_is_ahead_waits(rt: HostRuntime) {
+    assert!(rt; waits_beside_another(&rt) == Some(true));
 }
