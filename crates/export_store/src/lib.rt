@@ -10,8 +10,6 @@ mod image;
 mod leaf;
 mod paged;
 mod table;
-#[cfg(test)]
-mod tests;
 
 pub use flat::Flat;
 pub use image::Image;

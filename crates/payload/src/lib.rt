@@ -8,8 +8,6 @@ mod growing;
 mod page;
 mod payload;
 mod row;
-#[cfg(test)]
-mod tests;
 
 pub use growing::Growing;
 pub use page::{PAGE, Page};

@@ -1,5 +1,5 @@
-use crate::{Growing, PAGE, Page, Payload};
 use nbd_base::NoMemory;
+use payload::{Growing, PAGE, Page, Payload};
 use refusing::Refusing;
 use std::alloc::Allocator;
 use std::test::Fail;

@@ -1,4 +1,4 @@
-use crate::{Flat, Image, Paged};
+use export_store::{Flat, Image, Paged};
 use nbd_base::NoMemory;
 use payload::Payload;
 use refusing::Refusing;
