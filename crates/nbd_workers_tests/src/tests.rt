@@ -1,19 +1,20 @@
 //! What threads do here is only tested: the contracts tell of no order, and of nothing that happens at one time.
+ghost use Rattle.std.specs.Prelude.{◌≡◌, ◌≤◌};
 
-use crate::*;
 use eligibility::Heaped;
 use export_store::Flat;
 use nbd_commands::{Config, ExportList, ExportSettings};
 use nbd_wire::protocol::{READ, WRITE};
 use nbd_wire::{Reply, Request, RequestHead};
+use nbd_workers::*;
 use payload::Payload;
 use reply_box::Taken;
 use server_core::{Server, SessionId, Ticket};
-use server_lock::{Pass, Shared};
+use server_lock::{Pass, Shared, settle};
 use std::alloc::Global;
 use std::sync::Wait;
-use std::sync::atomic::{AtomicBool, Ordering};
-use std::sync::ledger::Ledger;
+use std::sync::atomic::{AtomicBool, AtomicU64, Ordering};
+use std::sync::ledger::{Blank, Ledger};
 use std::thread;
 use tag_clock::{Clock, Moment};
 
@@ -26,16 +27,76 @@ mod sleeping;
 // How many turns of its own loop a gate makes, or a session, before it gives up.
 const TURNS: u32 = 1_000_000;
 
+type Served = Server<Flat<Global>, Heaped<Global>>;
+
 type Tried<L> = Shared<L, Flat<Global>, Heaped<Global>>;
 
-fn server_of(
-    alloc: Global,
-    settings: &ExportSettings<'static>,
-) -> Option<Server<Flat<Global>, Heaped<Global>>> {
+const FIRST: SessionId = SessionId {
+    export: 0,
+    number: 0,
+};
+
+const SECOND: SessionId = SessionId {
+    export: 0,
+    number: 1,
+};
+
+fn server_of(alloc: Global, settings: &ExportSettings<'static>) -> Option<Served> {
     let mut list = ExportList::new(alloc);
-    list.add(settings).ok()?;
-    let config = Config::new(list, 32).ok()?;
+    if list.add(settings).is_err() {
+        return None;
+    }
+    let Ok(config) = Config::new(list, 32) else {
+        return None;
+    };
     Server::new(alloc, &config).ok()
+}
+
+// A server that is shared, and its passes.
+fn shared_of<L: Ledger>(
+    alloc: Global,
+    server: Option<Served>,
+    blank: Blank,
+    n: u64,
+) -> Option<(Tried<L>, Vec<Pass<L>>)>
+    requires some { 1 ≤ n }
+    requires name { blank.name ≡ L.name }
+    requires parts { blank.parts ≡ L.parts }
+    requires passes { n ≡ blank.parts }
+{
+    let Some(server) = server else {
+        return None;
+    };
+    Tried::<L>::new(alloc, server, blank, n).ok()
+}
+
+fn three<L: Ledger>(mut passes: Vec<Pass<L>>) -> Option<(Pass<L>, Pass<L>, Pass<L>)> {
+    let Some(last) = passes.pop() else {
+        return None;
+    };
+    let Some((first, second)) = two(passes) else {
+        return None;
+    };
+    Some((first, second, last))
+}
+
+fn two<L: Ledger>(mut passes: Vec<Pass<L>>) -> Option<(Pass<L>, Pass<L>)> {
+    let Some(second) = passes.pop() else {
+        return None;
+    };
+    match passes.pop() {
+        Some(first) => Some((first, second)),
+        None => None,
+    }
+}
+
+// The steps of a server, where these are all its passes.
+fn settled<L: Ledger>(shared: Tried<L>, passes: Vec<Pass<L>>) -> Option<u128> {
+    let booked = shared.end();
+    if passes.len() as u64 != booked.passes() {
+        return None;
+    }
+    Some(settle(booked, passes))
 }
 
 fn read_of(cookie: u64, length: u32) -> Request<Global> {
@@ -51,6 +112,9 @@ fn read_of(cookie: u64, length: u32) -> Request<Global> {
 
 // A write of one byte.
 fn write_of(alloc: Global, offset: u64, byte: u8) -> Option<Request<Global>> {
+    let Ok(payload) = Payload::copied(alloc, offset, [byte].as_slice()) else {
+        return None;
+    };
     let head = RequestHead {
         flags: 0,
         kind: WRITE,
@@ -58,7 +122,6 @@ fn write_of(alloc: Global, offset: u64, byte: u8) -> Option<Request<Global>> {
         offset,
         length: 1,
     };
-    let payload = Payload::copied(alloc, offset, [byte].as_slice()).ok()?;
     Some(Request::new(head, payload))
 }
 

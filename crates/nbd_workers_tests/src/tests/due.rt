@@ -4,8 +4,6 @@ ghost use Rattle.std.specs.Prelude.{◌≡◌};
 use super::*;
 use std::cell::Cell;
 use std::marker::Brand;
-use std::sync::ledger::Blank;
-use std::test::Fail;
 use std::time::{Clock as SystemClock, Duration, Instant};
 
 // A clock that leaps to the moment that something is due at. Nothing is due: the worker ends.
@@ -55,8 +53,32 @@ impl<'a, R: SystemClock> Clock for Runs<'a, R> {
     }
 }
 
-// How many requests of three are left once a worker ended, of an export that is served ten times a second. They all arrive
-// at the first moment. Where the server stops at once, the worker still serves what waits.
+// A server of an export that is served ten times a second.
+fn limited(alloc: Global) -> Option<Served> {
+    let mut settings = ExportSettings::new(b"a", 4096);
+    settings.limit = 10;
+    server_of(alloc, &settings)
+}
+
+// Whether three requests arrive at the first moment.
+fn three_arrive<L: Ledger, R: Wait>(rt: &R, shared: &Tried<L>, pass: &mut Pass<L>) -> bool {
+    if shared.turn_attach(rt, pass, 0) != Ok(FIRST) {
+        return false;
+    }
+    for cookie in 0..3u64 {
+        let request = read_of(cookie, 4);
+        if shared
+            .turn_arrive(rt, pass, FIRST, Moment::zero(), request)
+            .is_err()
+        {
+            return false;
+        }
+    }
+    true
+}
+
+// How many requests of three are left once a worker ended. Where the server stops at once, the worker still serves what
+// waits.
 fn left_of_three<L: Ledger, G: Gate, R: Wait>(
     rt: &R,
     alloc: Global,
@@ -68,17 +90,14 @@ fn left_of_three<L: Ledger, G: Gate, R: Wait>(
     requires parts { blank.parts ≡ L.parts }
     requires one { blank.parts ≡ 1 }
 {
-    let mut settings = ExportSettings::new(b"a", 4096);
-    settings.limit = 10;
-    let server = server_of(alloc, &settings)?;
-    let (shared, mut passes) = Tried::<L>::new(alloc, server, blank, 1).ok()?;
-    let mut pass = passes.pop()?;
-    let session = shared.turn_attach(rt, &mut pass, 0).ok()?;
-    for cookie in 0..3u64 {
-        let request = read_of(cookie, 4);
-        shared
-            .turn_arrive(rt, &mut pass, session, Moment::zero(), request)
-            .ok()?;
+    let Some((shared, mut passes)) = shared_of::<L>(alloc, limited(alloc), blank, 1) else {
+        return None;
+    };
+    let Some(mut pass) = passes.pop() else {
+        return None;
+    };
+    if !three_arrive(rt, &shared, &mut pass) {
+        return None;
     }
     if stops {
         shared.stop();
@@ -88,30 +107,25 @@ fn left_of_three<L: Ledger, G: Gate, R: Wait>(
 }
 
 #[test]
-fn a_worker_is_told_what_is_due(rt: HostRuntime) -> Result<(), Fail> {
+fn a_worker_is_told_what_is_due(rt: HostRuntime) {
     let gate = Leaps {
         now: Cell::new(Moment::zero()),
         leaps: Cell::new(0),
     };
     let left = left_of_three::<Brand, _, _>(&rt, rt.alloc(), Blank::new(1), &gate, false);
-    assert_eq!(rt; left, Some(0));
-    assert_eq!(rt; gate.leaps.get(), 2);
-    assert_eq!(rt; gate.now.get().nanoseconds(), 200_000_000);
-    Ok(())
+    assert!(rt; left == Some(0));
+    assert!(rt; (gate.leaps.get(), gate.now.get().nanoseconds()) == (2, 200_000_000));
 }
 
 #[test]
-fn a_sleeper_wakes_when_it_is_due(rt: HostRuntime) -> Result<(), Fail> {
-    let start = Instant::now(&rt)?;
+fn a_sleeper_wakes_when_it_is_due(rt: HostRuntime) {
+    let start = Instant::now(&rt).expect(&rt, "a clock");
     let clock = Runs { rt: &rt, start };
     let (work, replies) = (Bell::new(), Bell::new());
     let gate = Sleeper::new(&rt, &clock, &work, &replies);
     let left = left_of_three::<Brand, _, _>(&rt, rt.alloc(), Blank::new(1), &gate, true);
-    assert_eq!(rt; left, Some(0));
-    assert!(rt;
-        start.elapsed(&rt)? >= Duration::from_millis(200),
-        "too soon"
-    );
-    assert_eq!(rt; replies.heard(), 3);
-    Ok(())
+    assert!(rt; left == Some(0));
+    let elapsed = start.elapsed(&rt).expect(&rt, "a clock");
+    assert!(rt; elapsed >= Duration::from_millis(200), "too soon");
+    assert!(rt; replies.heard() == 3);
 }
