@@ -49,6 +49,25 @@ fn is_left(seen: (Seen, Seen, Put)) -> bool {
         && end == (WriteTurn::Ended, gone(AnswerTrace::Dropped))
 }
 
+/// How a session goes whose client sent these bytes. Its memory's growth of this number is refused, where there is one.
+fn ends<'a, L: Ledger, R: Wait>(
+    rt: &R,
+    heap: Heap<'a>,
+    blank: Blank,
+    source: Source<'_>,
+    nth: u64,
+) -> Option<(Seen, Seen, Put)>
+    requires name { blank.name ≡ L.name }
+    requires parts { blank.parts ≡ L.parts }
+    requires one { blank.parts ≡ 1 }
+{
+    let Some(mut one) = opened::<L, R>(rt, heap, blank) else {
+        return None;
+    };
+    heap.arm(nth);
+    Some(sent(rt, heap, &mut one, source))
+}
+
 #[test]
 fn what_is_no_request_leaves(rt: HostRuntime) {
     let heap = Refusing::new(rt.alloc(), 0);
@@ -63,8 +82,8 @@ fn what_is_no_request_leaves(rt: HostRuntime) {
         (&WRITE[..31], true, "failed read in a payload"),
     ] {
         let source = Source { bytes, fails };
-        let mut one = opened::<Brand, _>(&rt, &heap, Blank::new(1)).expect(&rt, "memory");
-        assert!(rt; is_left(sent(&rt, &heap, &mut one, source)), "{what}");
+        let seen = ends::<Brand, _>(&rt, &heap, Blank::new(1), source, 0).expect(&rt, "memory");
+        assert!(rt; is_left(seen), "{what}");
     }
 }
 
@@ -77,9 +96,7 @@ fn refused_memory_leaves(rt: HostRuntime) {
             bytes: WRITE.as_slice(),
             fails: false,
         };
-        let mut one = opened::<Brand, _>(&rt, &heap, Blank::new(1)).expect(&rt, "memory");
-        heap.arm(nth);
-        let seen = sent(&rt, &heap, &mut one, source);
+        let seen = ends::<Brand, _>(&rt, &heap, Blank::new(1), source, nth).expect(&rt, "memory");
         if heap.is_armed() {
             assert!(rt; seen.0 == waits(head_of(1), 0));
             break;
@@ -118,19 +135,30 @@ fn has_written(writer: Counted<Sink<'_>>, room: usize) -> bool {
     failures == 1 && Some(taken.as_slice()) == ZEROS_READ.as_slice().get(..room)
 }
 
+/// The READ is served, and its reply's write fails behind so many bytes.
+fn fails_at<'a, L: Ledger, R: Wait>(rt: &R, heap: Heap<'a>, blank: Blank, room: usize) -> bool
+    requires name { blank.name ≡ L.name }
+    requires parts { blank.parts ≡ L.parts }
+    requires one { blank.parts ≡ 1 }
+{
+    let Some(mut one) = opened::<L, R>(rt, heap, blank) else {
+        return false;
+    };
+    let mut reader = FrameReader::new(heap, Counted::new(READ.as_slice()));
+    let taken = Vec::new(heap);
+    let mut writer = Counted::new(Sink { taken, room });
+    is_served(rt, &mut one, &mut reader)
+        && is_dropped(rt, &mut one, &mut reader, &mut writer)
+        && has_written(writer, room)
+}
+
 #[test]
 fn each_write_fails(rt: HostRuntime) {
     let heap = Refusing::new(rt.alloc(), 0);
     for room in 0..20usize {
-        let mut reader = FrameReader::new(&heap, Counted::new(READ.as_slice()));
-        let taken = Vec::new(&heap);
-        let mut writer = Counted::new(Sink { taken, room });
-        let mut one = opened::<Brand, _>(&rt, &heap, Blank::new(1)).expect(&rt, "memory");
-        assert!(rt; is_served(&rt, &mut one, &mut reader));
         assert!(rt;
-            is_dropped(&rt, &mut one, &mut reader, &mut writer),
+            fails_at::<Brand, _>(&rt, &heap, Blank::new(1), room),
             "at {room}"
         );
-        assert!(rt; has_written(writer, room), "at {room}");
     }
 }

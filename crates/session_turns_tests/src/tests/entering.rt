@@ -26,20 +26,33 @@ fn enters<'a, L: Ledger, R: Wait>(
     haggle(heap, table, &mut reader, &mut writer, door) == Ok(Entry::In(0))
 }
 
-#[test]
-fn go_gives_the_next_session(rt: HostRuntime) {
-    let heap = Refusing::new(rt.alloc(), 0);
-    let table = table(&heap).expect(&rt, "memory");
-    let one = opened::<Brand, _>(&rt, &heap, Blank::new(1)).expect(&rt, "memory");
+/// The client is given the export's second session, and its door tells so.
+fn is_second<'a, L: Ledger, R: Wait>(rt: &R, heap: Heap<'a>, blank: Blank) -> bool
+    requires name { blank.name ≡ L.name }
+    requires parts { blank.parts ≡ L.parts }
+    requires one { blank.parts ≡ 1 }
+{
+    let Some(table) = table(heap) else {
+        return false;
+    };
+    let Some(one) = opened::<L, R>(rt, heap, blank) else {
+        return false;
+    };
     let Seated { shared, pass, .. } = one;
-    let mut door = Door::new(&rt, &shared, pass);
-    assert!(rt; door.session() == None);
-    assert!(rt; enters(&heap, &table, &mut door));
+    let mut door = Door::new(rt, &shared, pass);
     let second = SessionId {
         export: 0,
         number: 1,
     };
-    assert!(rt; door.session() == Some(second));
+    let entered = door.session() == None
+        && enters(heap, &table, &mut door)
+        && door.session() == Some(second);
     let event = EventTrace::Attach { export: 0 };
-    assert!(rt; door.into_pass().last() == traced(event, AnswerTrace::Session(1)));
+    entered && door.into_pass().last() == traced(event, AnswerTrace::Session(1))
+}
+
+#[test]
+fn go_gives_the_next_session(rt: HostRuntime) {
+    let heap = Refusing::new(rt.alloc(), 0);
+    assert!(rt; is_second::<Brand, _>(&rt, &heap, Blank::new(1)));
 }

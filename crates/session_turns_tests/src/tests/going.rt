@@ -90,23 +90,39 @@ fn steps_of<'a, L: Ledger>(heap: Heap<'a>, shared: Tried<'a, L>, pass: Pass<L>) 
     Some(settle(booked, passes))
 }
 
+/// A request is held until the reply to the one before it is taken, and both go on to the end.
+fn is_held<'a, L: Ledger, R: Wait>(rt: &R, heap: Heap<'a>, blank: Blank) -> bool
+    requires name { blank.name ≡ L.name }
+    requires parts { blank.parts ≡ L.parts }
+    requires one { blank.parts ≡ 1 }
+{
+    let Some(sent) = both(heap) else {
+        return false;
+    };
+    let Some(mut one) = opened::<L, R>(rt, heap, blank) else {
+        return false;
+    };
+    let mut reader = FrameReader::new(heap, Counted::new(sent.as_slice()));
+    let mut writer = Counted::new(Vec::new(heap));
+    let went = one_goes_in(rt, &mut one, &mut reader)
+        && none_goes_in(rt, &mut one, &mut writer)
+        && the_other_goes_in(rt, &mut one, &mut writer)
+        && it_is_answered(rt, &mut one, &mut writer)
+        && it_ends(rt, &mut one, &mut reader, &mut writer)
+        && it_stays_ended(rt, &mut one, &mut reader, &mut writer);
+    went && writer.into_inner().as_slice() == REPLIES.as_slice() && are_counted(heap, one)
+}
+
+/// The pass made 17 turns, and 11 of them were steps.
+fn are_counted<'a, L: Ledger>(heap: Heap<'a>, one: Seated<'a, L>) -> bool {
+    let Seated { shared, pass, .. } = one;
+    pass.turns() == 17 && steps_of(heap, shared, pass) == Some(11)
+}
+
 #[test]
 fn held_until_a_reply_is_taken(rt: HostRuntime) {
     let heap = Refusing::new(rt.alloc(), 0);
-    let sent = both(&heap).expect(&rt, "memory");
-    let mut reader = FrameReader::new(&heap, Counted::new(sent.as_slice()));
-    let mut writer = Counted::new(Vec::new(&heap));
-    let mut one = opened::<Brand, _>(&rt, &heap, Blank::new(1)).expect(&rt, "memory");
-    assert!(rt; one_goes_in(&rt, &mut one, &mut reader));
-    assert!(rt; none_goes_in(&rt, &mut one, &mut writer));
-    assert!(rt; the_other_goes_in(&rt, &mut one, &mut writer));
-    assert!(rt; it_is_answered(&rt, &mut one, &mut writer));
-    assert!(rt; it_ends(&rt, &mut one, &mut reader, &mut writer));
-    assert!(rt; it_stays_ended(&rt, &mut one, &mut reader, &mut writer));
-    assert!(rt; writer.into_inner().as_slice() == REPLIES.as_slice());
-    let Seated { shared, pass, .. } = one;
-    assert!(rt; pass.turns() == 17);
-    assert!(rt; steps_of(&heap, shared, pass) == Some(11));
+    assert!(rt; is_held::<Brand, _>(&rt, &heap, Blank::new(1)));
 }
 
 /// A READ of four bytes behind the export's end, with the cookie 2.
@@ -129,12 +145,22 @@ fn is_answered<'a, L: Ledger, R: Wait>(
         )
 }
 
+fn error_is_told<'a, L: Ledger, R: Wait>(rt: &R, heap: Heap<'a>, blank: Blank) -> bool
+    requires name { blank.name ≡ L.name }
+    requires parts { blank.parts ≡ L.parts }
+    requires one { blank.parts ≡ 1 }
+{
+    let Some(mut one) = opened::<L, R>(rt, heap, blank) else {
+        return false;
+    };
+    let mut reader = FrameReader::new(heap, Counted::new(BEHIND.as_slice()));
+    is_answered(rt, &mut one, &mut reader)
+}
+
 #[test]
 fn an_error_is_told_at_once(rt: HostRuntime) {
     let heap = Refusing::new(rt.alloc(), 0);
-    let mut reader = FrameReader::new(&heap, Counted::new(BEHIND.as_slice()));
-    let mut one = opened::<Brand, _>(&rt, &heap, Blank::new(1)).expect(&rt, "memory");
-    assert!(rt; is_answered(&rt, &mut one, &mut reader));
+    assert!(rt; error_is_told::<Brand, _>(&rt, &heap, Blank::new(1)));
 }
 
 #[test]

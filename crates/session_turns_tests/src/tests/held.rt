@@ -124,28 +124,58 @@ fn are_handed_in<'a, L: Ledger>(
         && one.read_ready(reader) == None
 }
 
+fn goes_in<'a, L: Ledger>(heap: Heap<'a>, blank: Blank) -> bool
+    requires name { blank.name ≡ L.name }
+    requires parts { blank.parts ≡ L.parts }
+    requires one { blank.parts ≡ 1 }
+{
+    let Some(sent) = sent(heap) else {
+        return false;
+    };
+    let Some(mut one) = attached::<L>(heap, blank) else {
+        return false;
+    };
+    let mut reader = FrameReader::new(heap, Counted::new(sent.as_slice()));
+    are_handed_in(&mut one, &mut reader)
+}
+
 #[test]
 fn what_was_read_is_handed_in(rt: HostRuntime) {
     let heap = Refusing::new(rt.alloc(), 0);
-    let sent = sent(&heap).expect(&rt, "memory");
-    let mut reader = FrameReader::new(&heap, Counted::new(sent.as_slice()));
-    let mut one = attached::<Brand>(&heap, Blank::new(1)).expect(&rt, "memory");
-    assert!(rt; are_handed_in(&mut one, &mut reader));
+    assert!(rt; goes_in::<Brand>(&heap, Blank::new(1)));
+}
+
+/// Both replies are taken, and then none, until the session has left and is dropped.
+fn are_taken<'a, L: Ledger>(heap: Heap<'a>, one: &mut Unshared<'a, L>) -> bool {
+    let written = REPLIES.as_slice().get(..16).unwrap_or_default();
+    let read = REPLIES.as_slice().get(16..).unwrap_or_default();
+    one.takes(heap, 1, Stop::Full, written)
+        && one.takes(heap, 3, Stop::Empty, read)
+        && one.leave()
+        && one.takes(heap, 3, Stop::End, b"")
+        && one.close()
+        && one.takes(heap, 3, Stop::Refused(SessionRefusal::NotOpen), b"")
+}
+
+/// Two requests are served, and their replies taken.
+fn takes_in_a_row<'a, L: Ledger>(heap: Heap<'a>, blank: Blank) -> bool
+    requires name { blank.name ≡ L.name }
+    requires parts { blank.parts ≡ L.parts }
+    requires one { blank.parts ≡ 1 }
+{
+    let Some(sent) = sent(heap) else {
+        return false;
+    };
+    let Some(mut one) = attached::<L>(heap, blank) else {
+        return false;
+    };
+    let mut reader = FrameReader::new(heap, Counted::new(sent.as_slice()));
+    let served = are_handed_in(&mut one, &mut reader) && one.serve() && one.serve();
+    served && are_taken(heap, &mut one)
 }
 
 #[test]
 fn replies_are_taken_in_a_row(rt: HostRuntime) {
     let heap = Refusing::new(rt.alloc(), 0);
-    let sent = sent(&heap).expect(&rt, "memory");
-    let mut reader = FrameReader::new(&heap, Counted::new(sent.as_slice()));
-    let mut one = attached::<Brand>(&heap, Blank::new(1)).expect(&rt, "memory");
-    assert!(rt; are_handed_in(&mut one, &mut reader));
-    assert!(rt; one.serve() && one.serve());
-    let written = REPLIES.as_slice().get(..16).unwrap_or_default();
-    assert!(rt; one.takes(&heap, 1, Stop::Full, written));
-    let read = REPLIES.as_slice().get(16..).unwrap_or_default();
-    assert!(rt; one.takes(&heap, 3, Stop::Empty, read));
-    assert!(rt; one.leave() && one.takes(&heap, 3, Stop::End, b""));
-    let refused = Stop::Refused(SessionRefusal::NotOpen);
-    assert!(rt; one.close() && one.takes(&heap, 3, refused, b""));
+    assert!(rt; takes_in_a_row::<Brand>(&heap, Blank::new(1)));
 }
