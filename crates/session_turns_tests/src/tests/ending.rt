@@ -49,23 +49,16 @@ fn is_left(seen: (Seen, Seen, Put)) -> bool {
         && end == (WriteTurn::Ended, gone(AnswerTrace::Dropped))
 }
 
-/// How a session goes whose client sent these bytes. Its memory's growth of this number is refused, where there is one.
-fn ends<'a, L: Ledger, R: Wait>(
-    rt: &R,
-    heap: Heap<'a>,
-    blank: Blank,
-    source: Source<'_>,
-    nth: u64,
-) -> Option<(Seen, Seen, Put)>
+/// Whether a session leaves at once whose client sent these bytes.
+fn leaves<'a, L: Ledger, R: Wait>(rt: &R, heap: Heap<'a>, blank: Blank, source: Source<'_>) -> bool
     requires name { blank.name ≡ L.name }
     requires parts { blank.parts ≡ L.parts }
     requires one { blank.parts ≡ 1 }
 {
     let Some(mut one) = opened::<L, R>(rt, heap, blank) else {
-        return None;
+        return false;
     };
-    heap.arm(nth);
-    Some(sent(rt, heap, &mut one, source))
+    is_left(sent(rt, heap, &mut one, source))
 }
 
 #[test]
@@ -82,8 +75,32 @@ fn what_is_no_request_leaves(rt: HostRuntime) {
         (&WRITE[..31], true, "failed read in a payload"),
     ] {
         let source = Source { bytes, fails };
-        let seen = ends::<Brand, _>(&rt, &heap, Blank::new(1), source, 0).expect(&rt, "memory");
-        assert!(rt; is_left(seen), "{what}");
+        assert!(rt;
+            leaves::<Brand, _>(&rt, &heap, Blank::new(1), source),
+            "{what}"
+        );
+    }
+}
+
+/// Whether a session leaves whose growth of this number is refused, and else takes the WRITE in.
+fn leaves_without<'a, L: Ledger, R: Wait>(rt: &R, heap: Heap<'a>, blank: Blank, nth: u64) -> bool
+    requires name { blank.name ≡ L.name }
+    requires parts { blank.parts ≡ L.parts }
+    requires one { blank.parts ≡ 1 }
+{
+    let Some(mut one) = opened::<L, R>(rt, heap, blank) else {
+        return false;
+    };
+    let source = Source {
+        bytes: WRITE.as_slice(),
+        fails: false,
+    };
+    heap.arm(nth);
+    let seen = sent(rt, heap, &mut one, source);
+    if heap.is_armed() {
+        seen.0 == waits(head_of(1), 0)
+    } else {
+        is_left(seen)
     }
 }
 
@@ -92,16 +109,13 @@ fn refused_memory_leaves(rt: HostRuntime) {
     let mut refused = 0u64;
     for nth in 1..100u64 {
         let heap = Refusing::new(rt.alloc(), 0);
-        let source = Source {
-            bytes: WRITE.as_slice(),
-            fails: false,
-        };
-        let seen = ends::<Brand, _>(&rt, &heap, Blank::new(1), source, nth).expect(&rt, "memory");
+        assert!(rt;
+            leaves_without::<Brand, _>(&rt, &heap, Blank::new(1), nth),
+            "at {nth}"
+        );
         if heap.is_armed() {
-            assert!(rt; seen.0 == waits(head_of(1), 0));
             break;
         }
-        assert!(rt; is_left(seen), "at {nth}");
         refused = nth;
     }
     assert!(rt; refused > 0);
