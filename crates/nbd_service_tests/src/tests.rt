@@ -7,13 +7,15 @@ use nbd_service::policy::{
 use nbd_service::{InteractiveLoad, Load, RequestSize, RunningClock, SpinPoll, Turns};
 use nbd_wire::RequestHead;
 use nbd_wire::protocol::{READ, TRIM, WRITE};
-use std::io;
+use std::alloc::Global;
 use std::io::Write;
 use std::net::TcpStream;
 use std::os::fd::OwnedFd;
 use std::os::unix::net::UnixStream;
+use std::sync::Wait;
 use std::test::Fail;
 use std::time::{Duration, Instant};
+use std::{io, time};
 use tag_clock::Moment;
 use turn_order::Rates;
 
@@ -160,7 +162,7 @@ fn a_socket_that_is_watched(rt: HostRuntime) -> Result<(), Fail> {
 }
 
 /// How long an export waits that has just got far ahead of another.
-fn waited(rt: &HostRuntime, turns: &Turns, start: Instant) -> Option<Duration> {
+fn waited<R: Wait + time::Clock>(rt: &R, turns: &Turns, start: Instant) -> Option<Duration> {
     let clock = RunningClock::since(rt, Some(start));
     turns.wait_for_turn(rt, 1, 1, false, &clock);
     turns.wait_for_turn(rt, 0, 20_000, false, &clock);
@@ -170,13 +172,13 @@ fn waited(rt: &HostRuntime, turns: &Turns, start: Instant) -> Option<Duration> {
 }
 
 /// Whether one export is alone, until another asks, and then waits at one of some turns.
-fn waits_beside_another(rt: &HostRuntime) -> Option<bool> {
+fn waits_beside_another<R: Wait + time::Clock>(rt: &R, alloc: Global) -> Option<bool> {
     let rates = [Rates {
         reservation: 0,
         limit: 0,
         weight: 1,
     }; 2];
-    let turns = Turns::of(rt.alloc(), &rates).ok()?;
+    let turns = Turns::of(alloc, &rates).ok()?;
     let start = Instant::now(rt).ok()?;
     let clock = RunningClock::since(rt, Some(start));
     let before = turns.is_alone(0) && turns.is_alone(0) && !turns.is_contended(0);
@@ -194,5 +196,5 @@ fn waits_beside_another(rt: &HostRuntime) -> Option<bool> {
 
 #[test]
 fn who_is_ahead_waits(rt: HostRuntime) {
-    assert!(rt; waits_beside_another(&rt) == Some(true));
+    assert!(rt; waits_beside_another(&rt, rt.alloc()) == Some(true));
 }
