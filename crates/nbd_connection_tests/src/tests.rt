@@ -26,45 +26,78 @@ fn send_bytes(alloc: Global, stream: &mut TcpStream, count: usize) -> io::Result
     stream.write_all(bytes.as_slice())
 }
 
-/// How many bytes come while they are read ahead, and whether each is the one that was sent.
-fn fed<R: Wait + Threads + Sync + time::Clock>(
-    rt: &R,
-    alloc: Global,
-    peer: &TcpStream,
-) -> io::Result<(usize, bool)> {
-    let bell = Bell::new();
-    let session = SessionId {
-        export: 0,
-        number: 0,
-    };
-    let patient = AtomicBool::new(false);
-    let interactive = InteractiveLoad::new();
+/// What the threads of a server share with a session's.
+#[derive(Drop)]
+struct Shared {
+    bell: Bell,
+    interactive: InteractiveLoad,
+    turns: Turns,
+    waiting: AtomicU64,
+}
+
+fn shared_of(alloc: Global) -> Option<Shared> {
     let rates = [Rates {
         reservation: 0,
         limit: 0,
         weight: 1,
     }];
     let Ok(turns) = Turns::of(alloc, &rates) else {
-        return Ok((0, false));
+        return None;
     };
-    let waiting = AtomicU64::new(0);
-    let bytes = BytesUnderWay::new(&waiting);
-    let seat = TurnSeat::new(&turns, None, 0);
-    let made = SessionLink::new(
+    Some(Shared {
+        bell: Bell::new(),
+        interactive: InteractiveLoad::new(),
+        turns,
+        waiting: AtomicU64::new(0),
+    })
+}
+
+fn link_of<'a>(
+    shared: &'a Shared,
+    alloc: Global,
+    peer: &'a TcpStream,
+    patient: &'a AtomicBool,
+    bytes: &'a BytesUnderWay<'a>,
+) -> Option<SessionLink<'a>> {
+    let session = SessionId {
+        export: 0,
+        number: 0,
+    };
+    let seat = TurnSeat::new(&shared.turns, None, 0);
+    SessionLink::new(
         alloc,
         session,
         peer,
-        &patient,
-        &bell,
-        &interactive,
+        patient,
+        &shared.bell,
+        &shared.interactive,
         seat,
-        &bytes,
-        &bell,
-    );
-    let Ok(made) = made else {
-        return Ok((0, false));
-    };
-    let link = &made;
+        bytes,
+        &shared.bell,
+    )
+    .ok()
+}
+
+/// How many bytes come while they are read ahead, and whether each is the one that was sent.
+fn fed<R: Wait + Threads + Sync + time::Clock>(
+    rt: &R,
+    alloc: Global,
+    shared: &Shared,
+    peer: &TcpStream,
+) -> io::Result<(usize, bool)> {
+    let patient = AtomicBool::new(false);
+    let bytes = BytesUnderWay::new(&shared.waiting);
+    match link_of(shared, alloc, peer, &patient, &bytes) {
+        Some(link) => read_ahead(rt, alloc, &link),
+        None => Ok((0, false)),
+    }
+}
+
+fn read_ahead<R: Wait + Threads + Sync + time::Clock>(
+    rt: &R,
+    alloc: Global,
+    link: &SessionLink<'_>,
+) -> io::Result<(usize, bool)> {
     thread::scope(thread::scope_env(), rt, |scope| {
         let started = link.ahead.wants_thread()
             && scope
@@ -102,13 +135,14 @@ fn all_of<R: Wait + time::Clock>(rt: &R, link: &SessionLink<'_>) -> io::Result<(
 fn bytes_that_are_read_ahead(rt: HostRuntime) -> Result<(), Fail> {
     let rt = &rt;
     let alloc = rt.alloc();
+    let shared = &shared_of(alloc).ok_or("memory")?;
     let listener = &TcpListener::bind(rt, "127.0.0.1:0")?;
     let address = listener.local_addr()?;
     let (told, sent) = thread::join(
         rt,
         move || {
             let (peer, _) = listener.accept()?;
-            fed(rt, alloc, &peer)
+            fed(rt, alloc, shared, &peer)
         },
         move || send_bytes(alloc, &mut TcpStream::connect(rt, address)?, 3_000_000),
     );
