@@ -2,7 +2,12 @@ pub mod PageLemmas
 pub mod HolesLemmas
 pub mod ShownLemmas
 pub mod TableLemmas
+pub mod CountLemmas
+pub mod MarksLemmas
 pub mod ImageLemmas
+pub mod ZeroLemmas
+pub mod ChunkLemmas
+pub mod ZeroChunkLemmas
 pub mod PieceLemmas
 pub mod RangeLemmas
 pub mod FlatLemmas

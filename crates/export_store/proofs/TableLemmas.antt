@@ -1,12 +1,14 @@
--- A chunk of pages after one of its places has changed, and a table after one of its chunks has.
-use Rattle.std.proofs.Common.{◌≡◌, ◌≢◌, ℕ, zero, suc, ◌/◌, ◌%◌, ◌<◌, inl, inr, false, true, set, get_or, is_some, unwrap_or, Result, Ok, Err, OnErr, Option, None, Some, List, [], ◌∷◌, ◌++◌, length, refl, sym, ap, ◌∙◌, arith}
+-- A list of places after one of them has changed, and a table after one of its chunks has.
+use Rattle.std.proofs.Common.{◌≡◌, ◌≢◌, ℕ, zero, suc, ◌*◌, ◌/◌, ◌%◌, ◌<◌, ◌≤◌, inl, inr, false, true, set, get_or, is_some, nat_lt, Result, Ok, Err, OnErr, Option, None, Some, List, [], ◌∷◌, ◌++◌, length, refl, sym, ap, ◌∙◌, arith}
 use Rattle.std.specs.Ordering.{nat_cmp, is_eq}
 use Rattle.std.specs.Cmp.{nat_cmp_is}
 use Rattle.std.specs.declared.cmp.Ordering.TheVariants.{Less, Greater}
-use Rattle.std.specs.BTreeMap.{BTreeMap, is_at, get_by, UpdatesBy}
+use Rattle.std.specs.BTreeMap.{BTreeMap, is_at, get, UpdatesBy}
 use Rattle.std.proofs.lemmas.Bool.{cases_lt, cases_eq}
+use Rattle.std.proofs.lemmas.Bool.Decides.{nat_tests}
 use Rattle.std.proofs.lemmas.List.{get_or_default, get_or-set_same, get_or-set_other}
-use Rattle.export_store.specs.Table.{in_place, in_table}
+use Rattle.export_store.specs.Table.{Chunk, in_place, in_chunk}
+use Rattle.export_store.specs.Pages.{Pages, chunk_of, held_page, is_held, AreUsed}
 
 -- what holds anyhow holds after a failure
 pub on_err : {T E : Type 0} (r : Result T E) (P : Type 0) → P → OnErr r P
@@ -56,49 +58,82 @@ at_other k q apart =
       | inr le ↦ let lt : q < k = omega arith in ap is_eq (sym (nat_cmp_is k q Greater lt))
     ]
 
--- what is held in a chunk of a table
-pub table_found : (m : BTreeMap ℕ Places) (number : ℕ) (chunk : Places) → Some chunk ≡ get_by (nat_cmp (number / 256)) m → (k : ℕ) → k / 256 ≡ number / 256 → in_place chunk (k % 256) ≡ in_table m.entries k
-unfolding in_table
-table_found m number chunk found k same =
-    ap (λ (places : Option Places). in_place (unwrap_or places []) (k % 256)) found
-    ∙ ap (λ (q : ℕ). in_place (unwrap_or (get_by (nat_cmp q) m) []) (k % 256)) (sym same)
+-- the other chunks once one was put, changed or taken out
+pub updates_others : (m n : BTreeMap ℕ Chunk) (q : ℕ) (w : Option Chunk) → UpdatesBy nat_cmp (nat_cmp q) m n w → (p : ℕ) → p ≢ q → get nat_cmp n p ≡ get nat_cmp m p
+updates_others m n q w updates p apart = updates.2 p (at_other q p apart)
 
-pub table_absent : (m : BTreeMap ℕ Places) (number : ℕ) → None ≡ get_by (nat_cmp (number / 256)) m → (k : ℕ) → k / 256 ≡ number / 256 → None ≡ in_table m.entries k
-unfolding in_table
-table_absent m number absent k same =
-    sym (in_none (k % 256))
-    ∙ ap (λ (places : Option Places). in_place (unwrap_or places []) (k % 256)) absent
-    ∙ ap (λ (q : ℕ). in_place (unwrap_or (get_by (nat_cmp q) m) []) (k % 256)) (sym same)
+-- what is held under a number within the image, and beyond it
+pub held_within : (pages : Pages) (k : ℕ) → 4096 * k < pages.size → held_page pages k ≡ in_chunk (chunk_of pages (k / 256)) (k % 256)
+unfolding held_page
+held_within pages k below = let inside : nat_lt (4096 * k) pages.size ≡ true = grind (arith, nat_tests) in rw inside refl
 
-pub not_held : (m : BTreeMap ℕ Places) (number : ℕ) → None ≡ get_by (nat_cmp (number / 256)) m → is_some (in_table m.entries number) ≡ true → ⊥
-not_held m number absent held = let bad : false ≡ true = ap is_some (table_absent m number absent number refl) ∙ held in cc
+pub held_beyond : (pages : Pages) (k : ℕ) → pages.size ≤ 4096 * k → held_page pages k ≡ None
+unfolding held_page
+held_beyond pages k above = let outside : nat_lt (4096 * k) pages.size ≡ false = grind (arith, nat_tests) in rw outside refl
 
-pub table_none : (m : BTreeMap ℕ Places) → m.entries ≡ [] → (k : ℕ) → in_table m.entries k ≡ None
-unfolding in_table
-table_none m none k = ap (λ (entries : List (ℕ × Places)). in_table entries k) none ∙ in_none (k % 256)
+pub begins_within : (pages : Pages) (k : ℕ) → is_held pages k ≡ true → 4096 * k < pages.size
+begins_within pages k held =
+    elim (cases_lt (4096 * k) pages.size) [
+      | inl lt ↦ lt
+      | inr le ↦ let bad : false ≡ true = ap is_some (sym (held_beyond pages k le)) ∙ held in absurd (cc)
+    ]
 
--- Once there is a chunk under the number of a page.
-module _ (m n : BTreeMap ℕ Places) (number : ℕ) (chunk : Places) (updates : UpdatesBy nat_cmp (nat_cmp (number / 256)) m n (Some chunk)) where
-  same_chunk : (k : ℕ) → k / 256 ≡ number / 256 → in_table n.entries k ≡ in_place chunk (k % 256)
-  same_chunk k same = sym (table_found n number chunk (sym updates.1) k same)
+-- where there is no chunk
+pub held_nowhere : (pages : Pages) (k : ℕ) → chunk_of pages (k / 256) ≡ None → held_page pages k ≡ None
+held_nowhere pages k absent =
+    elim (cases_lt (4096 * k) pages.size) [
+      | inl lt ↦ held_within pages k lt ∙ ap (λ (chunk : Option Chunk). in_chunk chunk (k % 256)) absent
+      | inr le ↦ held_beyond pages k le
+    ]
 
-  other_chunk : (k : ℕ) → k / 256 ≢ number / 256 → in_table n.entries k ≡ in_table m.entries k
-  unfolding in_table
-  other_chunk k apart = ap (λ (places : Option Places). in_place (unwrap_or places []) (k % 256)) (updates.2 (k / 256) (at_other (number / 256) (k / 256) apart))
+-- where a chunk has the same in a place
+pub held_same : (old new : Pages) (k : ℕ) → new.size ≡ old.size → in_chunk (chunk_of new (k / 256)) (k % 256) ≡ in_chunk (chunk_of old (k / 256)) (k % 256) → held_page new k ≡ held_page old k
+unfolding held_page
+held_same old new k size same = rw (size, same) refl
 
-  pub table_here : (page : Option (List ℕ)) → in_place chunk (number % 256) ≡ page → in_table n.entries number ≡ page
-  table_here page here = same_chunk number refl ∙ here
+-- One chunk has changed.
+module _ (old new : Pages) (q : ℕ) (size : new.size ≡ old.size) (others : (p : ℕ) → p ≢ q → chunk_of new p ≡ chunk_of old p) where
+  pub held_others : (k : ℕ) → k / 256 ≢ q → held_page new k ≡ held_page old k
+  held_others k apart = held_same old new k size (ap (λ (chunk : Option Chunk). in_chunk chunk (k % 256)) (others (k / 256) apart))
 
-  pub table_others : ((k : ℕ) → k / 256 ≡ number / 256 → k % 256 ≢ number % 256 → in_place chunk (k % 256) ≡ in_table m.entries k) → (k : ℕ) → k ≢ number → in_table n.entries k ≡ in_table m.entries k
-  table_others others k apart =
-      elim (cases_eq (k / 256) (number / 256)) [
-        | inl same ↦ same_chunk k same ∙ others k same (λ e. apart (omega arith))
-        | inr other ↦ other_chunk k other
+  pub held_place : (k : ℕ) → k / 256 ≡ q → in_chunk (chunk_of new q) (k % 256) ≡ in_chunk (chunk_of old q) (k % 256) → held_page new k ≡ held_page old k
+  held_place k is same =
+      held_same old new k size
+      (ap (λ (p : ℕ). in_chunk (chunk_of new p) (k % 256)) is ∙ same ∙ ap (λ (p : ℕ). in_chunk (chunk_of old p) (k % 256)) (sym is))
+
+  pub put_here : (number : ℕ) (held : Option (Option (List ℕ))) → number / 256 ≡ q → 4096 * number < old.size → in_chunk (chunk_of new q) (number % 256) ≡ held → held_page new number ≡ held
+  put_here number held is below here =
+      held_within new number (omega (arith, size, below)) ∙ ap (λ (p : ℕ). in_chunk (chunk_of new p) (number % 256)) is ∙ here
+
+  pub put_others : (number : ℕ) → number / 256 ≡ q → ((k : ℕ) → k ≢ number % 256 → in_chunk (chunk_of new q) k ≡ in_chunk (chunk_of old q) k) → (k : ℕ) → k ≢ number → held_page new k ≡ held_page old k
+  put_others number is same k apart =
+      elim (cases_eq (k / 256) q) [
+        | inl e ↦ held_place k e (same (k % 256) (λ place. apart (omega arith)))
+        | inr other ↦ held_others k other
       ]
 
-  pub table_same : ((k : ℕ) → k / 256 ≡ number / 256 → in_place chunk (k % 256) ≡ in_table m.entries k) → (k : ℕ) → in_table n.entries k ≡ in_table m.entries k
-  table_same all k =
-      elim (cases_eq (k / 256) (number / 256)) [
-        | inl same ↦ same_chunk k same ∙ all k same
-        | inr other ↦ other_chunk k other
+  pub put_same : ((k : ℕ) → in_chunk (chunk_of new q) k ≡ in_chunk (chunk_of old q) k) → (k : ℕ) → held_page new k ≡ held_page old k
+  put_same same k =
+      elim (cases_eq (k / 256) q) [
+        | inl e ↦ held_place k e (same (k % 256))
+        | inr other ↦ held_others k other
       ]
+
+  pub used_after : AreUsed old → (((k : ℕ) → k / 256 ≡ q → is_held new k ≡ false) → is_some (chunk_of new q) ≡ false) → AreUsed new
+  used_after was here p none =
+      elim (cases_eq p q) [
+        | inl e ↦ ap (λ (n : ℕ). is_some (chunk_of new n)) e ∙ here (λ k same. none k (same ∙ sym e))
+        | inr apart ↦ ap is_some (others p apart) ∙ was p (λ k same. ap is_some (sym (held_others k (λ e. apart (sym same ∙ e)))) ∙ none k same)
+      ]
+
+  -- a page of it is held
+  pub used_held : AreUsed old → (number : ℕ) → number / 256 ≡ q → is_held new number ≡ true → AreUsed new
+  used_held was number is held = used_after was (λ none. let bad : false ≡ true = sym (none number is) ∙ held in absurd (cc))
+
+  -- as many of its pages are held as were
+  pub used_same : AreUsed old → ((k : ℕ) → k / 256 ≡ q → is_held new k ≡ is_held old k) → is_some (chunk_of new q) ≡ is_some (chunk_of old q) → AreUsed new
+  used_same was same there = used_after was (λ none. there ∙ was q (λ k is. sym (same k is) ∙ none k is))
+
+  -- it is there no longer
+  pub used_gone : AreUsed old → chunk_of new q ≡ None → AreUsed new
+  used_gone was gone = used_after was (λ none. ap is_some gone)

@@ -2,8 +2,9 @@ ghost use Rattle.std.specs.Prelude.{◌≡◌, ◌+◌, ◌≤◌, length, repli
 ghost use Rattle.payload.specs.Bytes.{overwritten};
 
 use crate::holes::Holes;
+use crate::swept::Swept;
 use nbd_base::NoMemory;
-use payload::{PAGE, Page};
+use payload::Page;
 use std::alloc::Allocator;
 use std::marker::Model;
 use std::mem;
@@ -33,15 +34,12 @@ impl<A: Allocator + Copy> Leaf<A> {
         Ok(Leaf { page, holes })
     }
 
-    /// The bytes are those of another page from now on. It takes no memory. The page that was held is outdated, where there is room
-    /// for one more of these, and else let go.
-    pub(crate) fn put(&mut self, page: Page<A>, outdated: &mut Vec<Page<A>, A>)
+    /// The bytes are those of another page from now on. It takes no memory. The page that was held is swept out.
+    pub(crate) fn put(&mut self, page: Page<A>, swept: &mut Swept<A>)
         ensures { self.new ≡ page }
     {
         let before = self.exchange(page);
-        if outdated.len() < outdated.capacity() {
-            outdated.push_reserved(before);
-        }
+        swept.replaced(before);
     }
 
     // The bytes are those of another page from now on. The answer is the page that was held.
@@ -87,22 +85,20 @@ impl<A: Allocator + Copy> Leaf<A> {
         Ok(cleared)
     }
 
-    /// Makes a range zero. One that isn't the whole page takes memory for a page; where that is refused, it is noted which
-    /// bytes are zeros.
-    pub(crate) fn clear(&mut self, alloc: A, start: usize, count: usize)
+    /// Makes a range zero. It takes memory for a page; where that is refused, it is noted which bytes are zeros.
+    pub(crate) fn clear(&mut self, alloc: A, start: usize, count: usize, swept: &mut Swept<A>)
         requires { start + count ≤ 4096 }
         ensures { self.new ≡ overwritten self.old start count (replicate count 0) }
     {
         let _whole = self.page.as_slice();
-        if count == PAGE {
-            let _before = self.exchange(Page::zeros());
-            return;
-        }
         match self.cleared(alloc, start, count) {
-            Ok(page) => {
-                let _before = self.exchange(page);
-            }
+            Ok(page) => self.put(page, swept),
             Err(NoMemory) => self.holes.dig(start, count),
         }
+    }
+
+    /// The page that was held.
+    pub(crate) fn into_page(self) -> Page<A> {
+        self.page
     }
 }

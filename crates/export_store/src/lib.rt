@@ -4,13 +4,19 @@
 //! held from the first write on. Offsets, counts and sizes are in bytes.
 #![tactic(auto)]
 
+mod chunk;
 mod flat;
 mod holes;
 mod image;
 mod leaf;
+mod marks;
 mod paged;
+mod places;
+mod swept;
 mod table;
+mod zeroing;
 
 pub use flat::Flat;
 pub use image::Image;
 pub use paged::Paged;
+pub use swept::Swept;

@@ -1,195 +1,355 @@
-ghost use Rattle.std.specs.Prelude.{◌≡◌, ℕ, ◌+◌, ◌<◌, ◌≤◌, ◌≢◌, None, Some, IfOk, IsOk, OnOk, OnErr, is_some, true};
+ghost use Rattle.std.specs.Prelude.{◌≡◌, ℕ, ◌+◌, ◌*◌, ◌/◌, ◌%◌, ◌<◌, ◌≤◌, ◌≢◌, ◌-◌, ◌==◌, ◌&&◌, nat_lt, min, None, Some, IfSome, IfNone, IfOk, IsOk, OnOk, OnErr, is_some, if◌then◌else◌, true, false, length, unwrap_or};
 ghost use Rattle.std.specs.Option.{option_copied};
-ghost use Rattle.export_store.specs.Table.{in_place, in_table, cleared};
+ghost use Rattle.std.specs.Int.{div_ceil};
+ghost use Rattle.std.specs.List.{filter, range_with_len};
+ghost use Rattle.std.specs.Ordering.{nat_cmp};
+ghost use Rattle.std.specs.BTreeMap.{get};
+ghost use Rattle.export_store.specs.Table.{in_chunk};
+ghost use Rattle.export_store.specs.Pages.{Pages, chunk_of, held_page, is_held, held_pages, stored_page, has_chunk_whole, zeroed};
 
+use crate::chunk::Chunk;
 use crate::leaf::Leaf;
+use crate::places::CHUNK;
+use crate::swept::Swept;
+use crate::zeroing::{CHUNK_BYTES, Zeroing};
 use nbd_base::NoMemory;
-use payload::Page;
+use payload::{PAGE, Page};
 use std::alloc::Allocator;
 use std::collections::BTreeMap;
 use std::marker::Model;
 
-// How many pages a chunk has places for.
-const CHUNK: usize = 256;
-
-// Places for 256 pages in a row, in some of which one is held. They lie side by side, so that the next page is found beside
-// the one before it.
-#[derive(Drop)]
-struct Chunk<A: Allocator + Copy> {
-    places: Vec<Option<Leaf<A>>, A>,
-}
-
-impl<A: Allocator + Copy> Model for Chunk<A> {
-    ghost use Rattle.std.specs.Prelude.{◌≡◌, ℕ, Option, List, length};
-
-    ghost Value = { List (Option (List ℕ)) };
-
-    ghost view = { λ chunk. chunk.places.items };
-
-    ghost invariant = { λ chunk. length chunk.places.items ≡ 256 };
-}
-
-// A place has a page of these bytes from now on. It takes no memory where one is held there.
-fn put<A: Allocator + Copy>(
-    place: &mut Option<Leaf<A>>,
-    alloc: A,
-    page: Page<A>,
-    outdated: &mut Vec<Page<A>, A>,
-) -> Result<(), NoMemory>
-    ensures here { OnOk result (place.new ≡ Some page) }
-    ensures held { is_some place.old ≡ true → IsOk result }
-    ensures no_memory { OnErr result (place.new ≡ place.old) }
-{
-    if let Some(leaf) = place {
-        leaf.put(page, outdated);
-        return Ok(());
-    }
-    *place = Some(Leaf::holding(alloc, page)?);
-    Ok(())
-}
-
-// Makes a range of the page in a place zero, where one is held there.
-fn clear<A: Allocator + Copy>(place: &mut Option<Leaf<A>>, alloc: A, start: usize, count: usize)
-    requires { start + count ≤ 4096 }
-    ensures { place.new ≡ cleared start count place.old }
-{
-    if let Some(leaf) = place {
-        leaf.clear(alloc, start, count);
-    }
-}
-
-impl<A: Allocator + Copy> Chunk<A> {
-    // No page is held yet.
-    fn new(alloc: A) -> Result<Chunk<A>, NoMemory>
-        ensures { IfOk result (λ chunk. (k : ℕ) → in_place chunk k ≡ None) }
-    {
-        let mut places = Vec::with_capacity(alloc, CHUNK)?;
-        for _ in 0..CHUNK {
-            places.push(None)?;
-        }
-        Ok(Chunk { places })
-    }
-
-    // The page in a place.
-    fn get(&self, place: usize) -> Option<&Leaf<A>>
-        requires { place < 256 }
-        ensures { option_copied result ≡ in_place self.now place }
-    {
-        self.places[place].as_ref()
-    }
-
-    // A place has a page of these bytes from now on. It takes no memory where one is held there.
-    fn put(
-        &mut self,
-        alloc: A,
-        place: usize,
-        page: Page<A>,
-        outdated: &mut Vec<Page<A>, A>,
-    ) -> Result<(), NoMemory>
-        requires { place < 256 }
-        ensures here { OnOk result (in_place self.new place ≡ Some page) }
-        ensures others { (k : ℕ) → k ≢ place → in_place self.new k ≡ in_place self.old k }
-        ensures held { is_some (in_place self.old place) ≡ true → IsOk result }
-        ensures no_memory { OnErr result ((k : ℕ) → in_place self.new k ≡ in_place self.old k) }
-    {
-        put(&mut self.places[place], alloc, page, outdated)?;
-        Ok(())
-    }
-
-    // Makes a range of the page in a place zero, where one is held there.
-    fn clear(&mut self, alloc: A, place: usize, start: usize, count: usize)
-        requires place { place < 256 }
-        requires within { start + count ≤ 4096 }
-        ensures here { in_place self.new place ≡ cleared start count (in_place self.old place) }
-        ensures others { (k : ℕ) → k ≢ place → in_place self.new k ≡ in_place self.old k }
-    {
-        clear(&mut self.places[place], alloc, start, count);
-    }
-
-    // Lets the page in a place go.
-    fn remove(&mut self, place: usize)
-        requires { place < 256 }
-        ensures here { in_place self.new place ≡ None }
-        ensures others { (k : ℕ) → k ≢ place → in_place self.new k ≡ in_place self.old k }
-    {
-        self.places[place] = None;
-    }
-}
-
-/// Pages by their numbers, in chunks of 256 in a row. A page is found by a look-up in the map of the chunks, which is small,
-/// and an index.
+/// The pages of an image by their numbers, in chunks of 256 in a row. A page is found by a look-up in the map of the chunks, which is
+/// small, and an index. A chunk of which no page is held isn't there.
 #[derive(Drop)]
 pub(crate) struct Table<A: Allocator + Copy> {
+    size: usize,
     chunks: BTreeMap<usize, Chunk<A>, A>,
 }
 
 impl<A: Allocator + Copy> Model for Table<A> {
-    ghost use Rattle.std.specs.Prelude.{ℕ, Option, List};
+    ghost use Rattle.export_store.specs.Pages.{Pages, AreUsed};
 
-    ghost Value = { List (ℕ × List (Option (List ℕ))) };
+    ghost Value = { Pages };
 
-    ghost view = { λ table. table.chunks.entries };
+    ghost view = { λ table. record { size = table.size; chunks = table.chunks.entries } };
+
+    ghost invariant = { λ table. AreUsed (record { size = table.size; chunks = table.chunks.entries }) };
+}
+
+// How many of the pages of a chunk begin within an image of a size.
+fn pages_in(size: usize, number: usize) -> usize
+    requires { 1048576 * number < size }
+    ensures { result ≡ min (div_ceil size 4096 - 256 * number) 256 }
+{
+    let _size = size;
+    (size.div_ceil(PAGE) - number * CHUNK).min(CHUNK)
+}
+
+// A chunk of which only what lies in a range that is to be kept is held.
+fn made_for<A: Allocator + Copy>(
+    alloc: A,
+    number: usize,
+    zeroing: Zeroing,
+    swept: &mut Swept<A>,
+) -> Chunk<A>
+    requires within { zeroing.offset + zeroing.count ≤ zeroing.size }
+    requires some { 0 < zeroing.count }
+    requires touched { 1048576 * number < zeroing.offset + zeroing.count }
+    requires kept { zeroing.keep ≡ true }
+    ensures { (k : ℕ) → k / 256 ≡ number → 4096 * k < zeroing.size
+        → in_chunk (Some result) (k % 256)
+        ≡ zeroed zeroing.size zeroing.offset zeroing.count zeroing.keep k None }
+{
+    if zeroing.has_chunk(number) {
+        return Chunk::zeros(alloc);
+    }
+    let mut made = Chunk::new(alloc);
+    made.zero(alloc, number, zeroing, swept);
+    made
+}
+
+// Makes what lies in a chunk of a range zero, where the chunk is there. The answer is how many of its first pages are held then, or none.
+fn zero_in<A: Allocator + Copy>(
+    chunks: &mut BTreeMap<usize, Chunk<A>, A>,
+    alloc: A,
+    number: usize,
+    zeroing: Zeroing,
+    pages: usize,
+    swept: &mut Swept<A>,
+) -> usize
+    requires within { zeroing.offset + zeroing.count ≤ zeroing.size }
+    requires some { 0 < zeroing.count }
+    requires touched { 1048576 * number < zeroing.offset + zeroing.count }
+    requires pages { pages ≤ 256 }
+    ensures here { (k : ℕ) → k / 256 ≡ number → is_some (get nat_cmp chunks.old number) ≡ true
+        → in_chunk (get nat_cmp chunks.new number) (k % 256)
+        ≡ zeroed zeroing.size zeroing.offset zeroing.count zeroing.keep k
+        (in_chunk (get nat_cmp chunks.old number) (k % 256)) }
+    ensures there { is_some (get nat_cmp chunks.new number) ≡ is_some (get nat_cmp chunks.old number) }
+    ensures others { (q : ℕ) → q ≢ number → get nat_cmp chunks.new q ≡ get nat_cmp chunks.old q }
+    ensures count { result ≡ length (filter (λ k. is_some (in_chunk (get nat_cmp chunks.new number) k)) (range_with_len 0 pages)) }
+{
+    let Some(chunk) = chunks.get_mut(&number) else {
+        return 0;
+    };
+    chunk.zero(alloc, number, zeroing, swept);
+    chunk.held(pages)
+}
+
+// All pages of a chunk are held zeros from now on, where it is there.
+fn mark<A: Allocator + Copy>(
+    chunks: &mut BTreeMap<usize, Chunk<A>, A>,
+    number: usize,
+    swept: &mut Swept<A>,
+)
+    ensures here { (k : ℕ) → k < 256 → is_some (get nat_cmp chunks.old number) ≡ true
+        → in_chunk (get nat_cmp chunks.new number) k ≡ Some None }
+    ensures there { is_some (get nat_cmp chunks.new number) ≡ is_some (get nat_cmp chunks.old number) }
+    ensures others { (q : ℕ) → q ≢ number → get nat_cmp chunks.new q ≡ get nat_cmp chunks.old q }
+{
+    if let Some(chunk) = chunks.get_mut(&number) {
+        chunk.mark(swept);
+    }
+}
+
+// A chunk is there no longer.
+fn remove<A: Allocator + Copy>(
+    chunks: &mut BTreeMap<usize, Chunk<A>, A>,
+    number: usize,
+    swept: &mut Swept<A>,
+)
+    ensures here { get nat_cmp chunks.new number ≡ None }
+    ensures others { (q : ℕ) → q ≢ number → get nat_cmp chunks.new q ≡ get nat_cmp chunks.old q }
+{
+    if let Some(chunk) = chunks.remove(&number) {
+        chunk.leave(swept);
+    }
 }
 
 impl<A: Allocator + Copy> Table<A> {
-    /// No page is held.
-    pub(crate) fn new(alloc: A) -> Table<A>
-        ensures { (k : ℕ) → in_table result k ≡ None }
+    /// The pages of an image of a size, none of which is held. It takes no memory.
+    pub(crate) fn new(alloc: A, size: usize) -> Table<A>
+        ensures size { result.size ≡ size }
+        ensures none { (k : ℕ) → held_page result k ≡ None }
     {
         let chunks = BTreeMap::new(alloc);
-        Table { chunks }
+        Table { size, chunks }
     }
 
-    /// The page of a number.
-    pub(crate) fn get(&self, number: usize) -> Option<&Leaf<A>>
-        ensures { option_copied result ≡ in_table self.now number }
+    /// The size of the image.
+    pub(crate) fn size(&self) -> usize
+        ensures { result ≡ self.now.size }
     {
-        let chunk = self.chunks.get(&(number / CHUNK))?;
-        chunk.get(number % CHUNK)
+        self.size
     }
 
-    /// A page has these bytes from now on. It takes no memory where the page is held. The one before it is outdated, where there
-    /// is room for one more of these.
+    // The chunk of a page within the image.
+    fn chunk(&self, number: usize) -> Option<&Chunk<A>>
+        ensures { in_chunk (option_copied result) (number % 256) ≡ held_page self.now number }
+    {
+        if number >= self.size.div_ceil(PAGE) {
+            return None;
+        }
+        self.chunks.get(&(number / CHUNK))
+    }
+
+    /// The page that is stored under a number.
+    pub(crate) fn leaf(&self, number: usize) -> Option<&Leaf<A>>
+        ensures { option_copied result ≡ stored_page self.now number }
+    {
+        match self.chunk(number) {
+            Some(chunk) => chunk.leaf(number % CHUNK),
+            None => None,
+        }
+    }
+
+    /// Whether a page is held.
+    pub(crate) fn holds(&self, number: usize) -> bool
+        ensures { result ≡ is_held self.now number }
+    {
+        match self.chunk(number) {
+            Some(chunk) => chunk.holds(number % CHUNK),
+            None => false,
+        }
+    }
+
+    /// A page is stored, and has these bytes from now on. It takes no memory where it is stored already.
     pub(crate) fn put(
         &mut self,
         alloc: A,
         number: usize,
         page: Page<A>,
-        outdated: &mut Vec<Page<A>, A>,
+        swept: &mut Swept<A>,
     ) -> Result<(), NoMemory>
-        ensures here { OnOk result (in_table self.new number ≡ Some page) }
-        ensures others { (k : ℕ) → k ≢ number → in_table self.new k ≡ in_table self.old k }
-        ensures held { is_some (in_table self.old number) ≡ true → IsOk result }
-        ensures no_memory { OnErr result ((k : ℕ) → in_table self.new k ≡ in_table self.old k) }
+        requires { 4096 * number < self.old.size }
+        ensures size { self.new.size ≡ self.old.size }
+        ensures here { OnOk result (held_page self.new number ≡ Some (Some page)) }
+        ensures others { (k : ℕ) → k ≢ number → held_page self.new k ≡ held_page self.old k }
+        ensures stored { is_some (stored_page self.old number) ≡ true → IsOk result }
+        ensures no_memory { OnErr result ((k : ℕ) → held_page self.new k ≡ held_page self.old k) }
     {
         if let Some(chunk) = self.chunks.get_mut(&(number / CHUNK)) {
-            chunk.put(alloc, number % CHUNK, page, outdated)?;
+            chunk.put(alloc, number % CHUNK, page, swept)?;
             return Ok(());
         }
-        let mut made = Chunk::new(alloc)?;
-        made.put(alloc, number % CHUNK, page, outdated)?;
+        let mut made = Chunk::new(alloc);
+        made.put(alloc, number % CHUNK, page, swept)?;
         self.chunks.insert(number / CHUNK, made)?;
         Ok(())
     }
 
-    /// Makes a range of a page zero, where it is held.
-    pub(crate) fn clear(&mut self, alloc: A, number: usize, start: usize, count: usize)
-        requires { start + count ≤ 4096 }
-        ensures here { in_table self.new number ≡ cleared start count (in_table self.old number) }
-        ensures others { (k : ℕ) → k ≢ number → in_table self.new k ≡ in_table self.old k }
+    /// The first chunk that is there, from one on before an end. It looks at no other.
+    pub(crate) fn next_chunk(&self, from: usize, end: usize) -> Option<usize>
+        requires { from ≤ end }
+        ensures begins { IfSome result (λ number. from ≤ number) }
+        ensures ends { IfSome result (λ number. number < end) }
+        ensures there { IfSome result (λ number. is_some (chunk_of self.now number) ≡ true) }
+        ensures first { IfSome result (λ number. (q : ℕ) → from ≤ q → q < number → chunk_of self.now q ≡ None) }
+        ensures none { IfNone result ((q : ℕ) → from ≤ q → q < end → chunk_of self.now q ≡ None) }
     {
-        if let Some(chunk) = self.chunks.get_mut(&(number / CHUNK)) {
-            chunk.clear(alloc, number % CHUNK, start, count);
+        match self.chunks.range(from..end).next() {
+            Some((number, _)) => Some(*number),
+            None => None,
         }
     }
 
-    /// Lets a page go. Its chunk stays, for others that are held there and for those that will be.
-    pub(crate) fn remove(&mut self, number: usize)
-        ensures here { in_table self.new number ≡ None }
-        ensures others { (k : ℕ) → k ≢ number → in_table self.new k ≡ in_table self.old k }
+    // How many pages of a chunk are held.
+    fn held_in(&self, number: usize) -> usize
+        requires { 1048576 * number < self.now.size }
+        ensures { result ≡ length (filter (is_held self.now) (range_with_len (256 * number) 256)) }
     {
-        if let Some(chunk) = self.chunks.get_mut(&(number / CHUNK)) {
-            chunk.remove(number % CHUNK);
+        match self.chunks.get(&number) {
+            Some(chunk) => chunk.held(pages_in(self.size, number)),
+            None => 0,
+        }
+    }
+
+    /// How many pages are held. It looks at the chunks that are there.
+    pub(crate) fn held(&self) -> usize
+        ensures { result ≡ length (held_pages self.now) }
+    {
+        let end = self.size.div_ceil(CHUNK_BYTES);
+        let mut count = 0;
+        let mut from = 0;
+        while let Some(number) = self.next_chunk(from, end) {
+            count += self.held_in(number);
+            from = number + 1;
+        }
+        count
+    }
+
+    // A chunk is there, and what lies in it of a range that is to be kept is held.
+    fn hold_chunk(
+        &mut self,
+        alloc: A,
+        number: usize,
+        zeroing: Zeroing,
+        swept: &mut Swept<A>,
+    ) -> Result<(), NoMemory>
+        requires size { zeroing.size ≡ self.old.size }
+        requires within { zeroing.offset + zeroing.count ≤ zeroing.size }
+        requires some { 0 < zeroing.count }
+        requires above { zeroing.offset < 1048576 * number + 1048576 }
+        requires touched { 1048576 * number < zeroing.offset + zeroing.count }
+        requires kept { zeroing.keep ≡ true }
+        ensures size { self.new.size ≡ self.old.size }
+        ensures stored { (k : ℕ) → stored_page self.new k ≡ stored_page self.old k }
+        ensures zeroed { (k : ℕ) → zeroed zeroing.size zeroing.offset zeroing.count zeroing.keep k (held_page self.new k)
+            ≡ zeroed zeroing.size zeroing.offset zeroing.count zeroing.keep k (held_page self.old k) }
+        ensures there { OnOk result (is_some (chunk_of self.new number) ≡ true) }
+        ensures others { (q : ℕ) → is_some (chunk_of self.old q) ≡ true → is_some (chunk_of self.new q) ≡ true }
+    {
+        if self.chunks.contains_key(&number) {
+            return Ok(());
+        }
+        let made = made_for(alloc, number, zeroing, swept);
+        self.chunks.insert(number, made)?;
+        Ok(())
+    }
+
+    /// The chunks of a range that is to be kept are there. No byte changes.
+    pub(crate) fn hold_range(
+        &mut self,
+        alloc: A,
+        zeroing: Zeroing,
+        swept: &mut Swept<A>,
+    ) -> Result<(), NoMemory>
+        requires size { zeroing.size ≡ self.old.size }
+        requires within { zeroing.offset + zeroing.count ≤ zeroing.size }
+        requires some { 0 < zeroing.count }
+        requires kept { zeroing.keep ≡ true }
+        ensures size { self.new.size ≡ self.old.size }
+        ensures stored { (k : ℕ) → stored_page self.new k ≡ stored_page self.old k }
+        ensures zeroed { (k : ℕ) → zeroed zeroing.size zeroing.offset zeroing.count zeroing.keep k (held_page self.new k)
+            ≡ zeroed zeroing.size zeroing.offset zeroing.count zeroing.keep k (held_page self.old k) }
+        ensures there { OnOk result ((q : ℕ) → zeroing.offset / 1048576 ≤ q → q < div_ceil (zeroing.offset + zeroing.count) 1048576
+            → is_some (chunk_of self.new q) ≡ true) }
+    {
+        for number in zeroing.offset / CHUNK_BYTES..zeroing.chunks() {
+            self.hold_chunk(alloc, number, zeroing, swept)?;
+        }
+        Ok(())
+    }
+
+    // Makes what lies in a chunk of a range zero, a page at a time.
+    fn zero_part(&mut self, alloc: A, number: usize, zeroing: Zeroing, swept: &mut Swept<A>)
+        requires size { zeroing.size ≡ self.old.size }
+        requires within { zeroing.offset + zeroing.count ≤ zeroing.size }
+        requires some { 0 < zeroing.count }
+        requires touched { 1048576 * number < zeroing.offset + zeroing.count }
+        requires there { is_some (chunk_of self.old number) ≡ true }
+        ensures size { self.new.size ≡ self.old.size }
+        ensures here { (k : ℕ) → k / 256 ≡ number → held_page self.new k
+            ≡ zeroed zeroing.size zeroing.offset zeroing.count zeroing.keep k (held_page self.old k) }
+        ensures others { (q : ℕ) → q ≢ number → chunk_of self.new q ≡ chunk_of self.old q }
+    {
+        let pages = pages_in(self.size, number);
+        let held = zero_in(&mut self.chunks, alloc, number, zeroing, pages, swept);
+        if held != 0 {
+            return;
+        }
+        remove(&mut self.chunks, number, swept);
+    }
+
+    // Makes what lies in a chunk of a range zero. Where that is the whole chunk, it isn't looked into.
+    fn zero_chunk(&mut self, alloc: A, number: usize, zeroing: Zeroing, swept: &mut Swept<A>)
+        requires size { zeroing.size ≡ self.old.size }
+        requires within { zeroing.offset + zeroing.count ≤ zeroing.size }
+        requires some { 0 < zeroing.count }
+        requires touched { 1048576 * number < zeroing.offset + zeroing.count }
+        requires there { is_some (chunk_of self.old number) ≡ true }
+        ensures size { self.new.size ≡ self.old.size }
+        ensures here { (k : ℕ) → k / 256 ≡ number → held_page self.new k
+            ≡ zeroed zeroing.size zeroing.offset zeroing.count zeroing.keep k (held_page self.old k) }
+        ensures others { (q : ℕ) → q ≢ number → chunk_of self.new q ≡ chunk_of self.old q }
+    {
+        if !zeroing.has_chunk(number) {
+            self.zero_part(alloc, number, zeroing, swept);
+            return;
+        }
+        if zeroing.keep {
+            mark(&mut self.chunks, number, swept);
+            return;
+        }
+        remove(&mut self.chunks, number, swept);
+    }
+
+    /// Makes a range zero. It looks at the chunks that are there, and into those which don't lie whole in the range.
+    pub(crate) fn zero_range(&mut self, alloc: A, zeroing: Zeroing, swept: &mut Swept<A>)
+        requires size { zeroing.size ≡ self.old.size }
+        requires within { zeroing.offset + zeroing.count ≤ zeroing.size }
+        requires some { 0 < zeroing.count }
+        requires there { zeroing.keep ≡ true → (q : ℕ) → zeroing.offset / 1048576 ≤ q
+            → q < div_ceil (zeroing.offset + zeroing.count) 1048576 → is_some (chunk_of self.old q) ≡ true }
+        ensures size { self.new.size ≡ self.old.size }
+        ensures zeroed { (k : ℕ) → held_page self.new k
+            ≡ zeroed zeroing.size zeroing.offset zeroing.count zeroing.keep k (held_page self.old k) }
+    {
+        let end = zeroing.chunks();
+        let mut at = zeroing.offset / CHUNK_BYTES;
+        while let Some(number) = self.next_chunk(at, end) {
+            self.zero_chunk(alloc, number, zeroing, swept);
+            at = number + 1;
         }
     }
 }

@@ -1,4 +1,4 @@
-use export_store::{Flat, Image, Paged};
+use export_store::{Flat, Image, Paged, Swept};
 use nbd_base::NoMemory;
 use payload::Payload;
 use refusing::Refusing;
@@ -406,15 +406,15 @@ fn outdated_pages_are_handed_out(rt: HostRuntime) -> Result<(), NoMemory> {
     let alloc = rt.alloc();
     let mut image: Paged<Global> = Paged::zeros(alloc, 12288)?;
     assert!(rt; puts(&mut image, 0, &sevens(alloc, 0, 12288)?));
-    let mut outdated = Vec::with_capacity(alloc, 4)?;
-    image.sweep(&mut outdated);
-    assert!(rt; outdated.is_empty());
+    let mut swept = Swept::with_room(alloc, 4)?;
+    image.sweep(&mut swept);
+    assert!(rt; swept.pages().is_empty());
     assert!(rt; writes(alloc, &mut image, 4096, &[1, 2, 3]));
     assert!(rt; writes(alloc, &mut image, 4097, &[7, 7]));
     assert!(rt; writes(alloc, &mut image, 4096, &[7]));
-    image.sweep(&mut outdated);
-    assert_eq!(rt; outdated.len(), 3);
-    for (page, first) in outdated.iter().zip([7u8, 1, 1]) {
+    image.sweep(&mut swept);
+    assert_eq!(rt; swept.pages().len(), 3);
+    for (page, first) in swept.pages().iter().zip([7u8, 1, 1]) {
         assert_eq!(rt; page.as_slice().first(), Some(&first));
     }
     assert!(rt; is_but(alloc, &image, 7, 0, 0)?);
@@ -425,10 +425,163 @@ fn outdated_pages_are_handed_out(rt: HostRuntime) -> Result<(), NoMemory> {
 fn one_piece_hands_nothing_out(rt: HostRuntime) -> Result<(), NoMemory> {
     let mut image: Flat<Global> = Flat::zeros(rt.alloc(), 6)?;
     assert!(rt; writes(rt.alloc(), &mut image, 1, &[7, 7]));
-    let mut outdated = Vec::with_capacity(rt.alloc(), 4)?;
-    image.sweep(&mut outdated);
+    let mut swept = Swept::with_room(rt.alloc(), 4)?;
+    image.sweep(&mut swept);
     let bytes = all_of(rt.alloc(), &image)?;
-    assert!(rt; outdated.is_empty());
+    assert!(rt; swept.pages().is_empty());
     assert_eq!(rt; bytes.as_slice(), [0, 7, 7, 0, 0, 0].as_slice());
+    Ok(())
+}
+
+// A range of 4,294,967,295 bytes at an odd offset of an image of 1 TiB: it ends with 4 bytes of the page of 8 GiB.
+const TERABYTE: usize = 1_099_511_627_776;
+
+const OFFSET: usize = 4_294_967_301;
+
+const COUNT: usize = 4_294_967_295;
+
+const END: usize = 8_589_934_596;
+
+// The pages that have a byte of it.
+const TOUCHED: usize = 1_048_577;
+
+// Whether so many bytes from an offset on are these.
+fn reads<I: Image>(alloc: I::Alloc, image: &I, offset: usize, bytes: &[u8]) -> bool {
+    let size = image.size();
+    if offset > size || bytes.len() > size - offset {
+        return false;
+    }
+    let Ok(payload) = image.read(offset, bytes.len()) else {
+        return false;
+    };
+    let mut out = Vec::new(alloc);
+    payload.append(&mut out).is_ok() && out.as_slice() == bytes
+}
+
+// Whether the range of an empty image is zeros, and so many pages are held, once it was made zero with no more growths than these.
+fn is_emptied(heap: &Refusing<Global>, keep: bool, held: usize, growths: u64) -> bool {
+    let Ok(mut image) = Paged::zeros(heap, TERABYTE) else {
+        return false;
+    };
+    heap.arm(growths.saturating_add(1));
+    let zeroed = zeroes(&mut image, OFFSET, COUNT, keep) && heap.is_armed();
+    heap.arm(0);
+    let zeros = reads(heap, &image, OFFSET, &[0; 10]) && reads(heap, &image, END - 2, &[0; 4]);
+    let counted = image.held() == held;
+    let given_back = zeroes(&mut image, 0, TERABYTE, false) && image.held() == 0;
+    zeroed && zeros && counted && given_back
+}
+
+#[test]
+fn a_range_of_an_empty_terabyte_is_made_zero(rt: HostRuntime) -> Result<(), NoMemory> {
+    let heap = Refusing::new(rt.alloc(), 0);
+    assert!(rt; is_emptied(&heap, false, 0, 0));
+    assert!(rt; is_emptied(&heap, true, TOUCHED, 4_097));
+    Ok(())
+}
+
+// An image of 1 TiB with some bytes at both edges of the range, and amid it.
+fn with_edges<A: Allocator + Copy>(alloc: A) -> Option<Paged<A>> {
+    let mut image: Paged<A> = Paged::zeros(alloc, TERABYTE).ok()?;
+    let written = writes(alloc, &mut image, OFFSET - 2, &[1, 2, 3, 4])
+        && writes(alloc, &mut image, OFFSET + 2_000_000_000, &[5])
+        && writes(alloc, &mut image, END - 2, &[6, 7, 8, 9]);
+    if written { Some(image) } else { None }
+}
+
+// Whether of those bytes just what lies outside is left, and so many pages are held, once the range was made zero.
+fn keeps_edges(heap: &Refusing<Global>, keep: bool, held: usize) -> bool {
+    heap.arm(0);
+    let Some(mut image) = with_edges(heap) else {
+        return false;
+    };
+    let all = image.held() == 3;
+    let zeroed = zeroes(&mut image, OFFSET, COUNT, keep);
+    let front = reads(heap, &image, OFFSET - 2, &[1, 2, 0, 0]);
+    let amid = reads(heap, &image, OFFSET + 2_000_000_000, &[0]);
+    let back = reads(heap, &image, END - 2, &[0, 0, 8, 9]);
+    all && zeroed && front && amid && back && image.held() == held
+}
+
+// Whether a TRIM does that without memory, and the bytes may be written again.
+fn keeps_edges_without_memory(heap: &Refusing<Global>) -> bool {
+    heap.arm(0);
+    let Some(mut image) = with_edges(heap) else {
+        return false;
+    };
+    heap.arm(1);
+    let zeroed = zeroes(&mut image, OFFSET, COUNT, false);
+    heap.arm(0);
+    let front = reads(heap, &image, OFFSET - 2, &[1, 2, 0, 0]);
+    let back = reads(heap, &image, END - 2, &[0, 0, 8, 9]);
+    let again = writes(heap, &mut image, END - 2, &[3]) && reads(heap, &image, END - 2, &[3, 0, 8]);
+    zeroed && front && back && again && image.held() == 2
+}
+
+#[test]
+fn a_range_of_a_terabyte_keeps_its_edges(rt: HostRuntime) -> Result<(), NoMemory> {
+    let heap = Refusing::new(rt.alloc(), 0);
+    assert!(rt; keeps_edges(&heap, false, 2));
+    assert!(rt; keeps_edges(&heap, true, TOUCHED));
+    assert!(rt; keeps_edges_without_memory(&heap));
+    Ok(())
+}
+
+// Whether a page that is held zeros becomes one that was written, and a part of such a chunk is given back without memory.
+fn zeros_are_written(heap: &Refusing<Global>) -> bool {
+    heap.arm(0);
+    let Ok(mut image) = Paged::zeros(heap, 3_000_000) else {
+        return false;
+    };
+    let held = zeroes(&mut image, 0, 3_000_000, true) && image.held() == 733;
+    let written = writes(heap, &mut image, 1_048_575, &[1, 2]) && image.held() == 733;
+    heap.arm(1);
+    let part = zeroes(&mut image, 4_096, 8_192, false) && image.held() == 731;
+    let end = zeroes(&mut image, 2_990_080, 9_920, false) && image.held() == 728;
+    let armed = heap.is_armed();
+    heap.arm(0);
+    held && written && part && end && armed && reads(heap, &image, 1_048_574, &[0, 1, 2, 0])
+}
+
+// Whether, however early memory is refused, zeros that are kept change no byte.
+fn refused_zeros_change_nothing(heap: &Refusing<Global>, nth: u64) -> bool {
+    heap.arm(0);
+    let Ok(mut image) = Paged::zeros(heap, 1 << 30) else {
+        return false;
+    };
+    let written = writes(heap, &mut image, 5_000_000, &[1, 2]);
+    heap.arm(nth);
+    let zeroed = zeroes(&mut image, 5, 1_000_000_000, true);
+    let refused = !heap.is_armed();
+    heap.arm(0);
+    let bytes: &[u8] = if zeroed { &[0, 0] } else { &[1, 2] };
+    written && zeroed != refused && reads(heap, &image, 5_000_000, bytes)
+}
+
+#[test]
+fn zeros_are_held_by_the_chunk(rt: HostRuntime) -> Result<(), NoMemory> {
+    let heap = Refusing::new(rt.alloc(), 0);
+    assert!(rt; zeros_are_written(&heap));
+    for nth in [1u64, 2, 20, 5_000] {
+        assert!(rt; refused_zeros_change_nothing(&heap, nth), "at {nth}");
+    }
+    Ok(())
+}
+
+// What zeros take the place of is given back once it was swept out.
+#[test]
+fn chunks_are_handed_out(rt: HostRuntime) -> Result<(), NoMemory> {
+    let alloc = rt.alloc();
+    let mut image: Paged<Global> = Paged::zeros(alloc, 4 << 20)?;
+    assert!(rt; puts(&mut image, 0, &sevens(alloc, 0, 4 << 20)?));
+    let mut swept = Swept::with_room(alloc, 4)?;
+    assert!(rt; zeroes(&mut image, 1_048_576, 1_048_576, true));
+    assert!(rt; zeroes(&mut image, 2_097_152, 1_056_768, false));
+    image.sweep(&mut swept);
+    assert_eq!(rt; swept.pages().len(), 2);
+    swept.let_go();
+    assert!(rt; swept.pages().is_empty());
+    assert_eq!(rt; image.held(), 766);
+    assert!(rt; is_but(alloc, &image, 7, 1_048_576, 3_153_920)?);
     Ok(())
 }

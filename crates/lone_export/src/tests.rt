@@ -2,7 +2,7 @@ ghost use Rattle.std.specs.Prelude.{◌≡◌, ◌≤◌, length};
 
 use crate::said::{arrived_said, attach_said, gone_said, leave_said, pick_said, take_said};
 use crate::*;
-use export_store::{Flat, Image};
+use export_store::{Flat, Image, Swept};
 use nbd_base::NoMemory;
 use nbd_commands::{Config, ExportList, ExportSettings};
 use nbd_wire::protocol::{READ, WRITE};
@@ -166,8 +166,8 @@ fn text<A: Allocator, B: Allocator + Copy>(
 fn a_sweep_is_no_step(rt: HostRuntime) -> Result<(), NoMemory> {
     let mut lone = opened(rt.alloc(), &ExportSettings::new(b"a", 8))?;
     assert!(rt; lone.attach() == Ok(0));
-    let mut outdated = Vec::with_capacity(rt.alloc(), 4)?;
-    lone.sweep(&mut outdated);
-    assert!(rt; outdated.is_empty() && lone.steps() == 1);
+    let mut swept = Swept::with_room(rt.alloc(), 4)?;
+    lone.sweep(&mut swept);
+    assert!(rt; swept.pages().is_empty() && lone.steps() == 1);
     Ok(())
 }

@@ -1,9 +1,8 @@
-use Rattle.std.proofs.Common.{◌≡◌, ℕ, List, Option, ◌%◌, ◌/◌, length, unwrap_or, sym, ap, ◌∙◌, arith}
+use Rattle.std.proofs.Common.{◌≡◌, ℕ, List, ◌%◌, ◌/◌, length, sym, ap, ◌∙◌, arith}
 use Rattle.payload.specs.Bytes.{overwritten}
-use Rattle.payload.specs.Rows.{zero_page}
 use Rattle.payload.proofs.Overwriting.{overwritten-all}
 use Rattle.export_store.specs.Pages.{page_of}
-use Rattle.export_store.proofs.ImageLemmas.{image_written}
+use Rattle.export_store.proofs.ImageLemmas.{bytes_of, image_written}
 use Rattle.export_store.proofs.paged.Paged.put_page.Goals as goal
 
 pub returns-clause-written : goal.returns-clause-written
@@ -13,9 +12,8 @@ returns-clause-written g c =
     let old = c.args.self.now in
     let number = c.args.offset / 4096 in
     let page = c.args.page in
-    let shown = λ (p : Option (List ℕ)). unwrap_or p zero_page in
     let all : overwritten (page_of old number) 0 (length page) page ≡ page = overwritten-all (page_of old number) page (pages.whole number ∙ sym c.requires.whole) in
     let start : 0 ≡ c.args.offset % 4096 = sym c.requires.paged in
     image_written old c.replace.new.self c.args.offset page pages after.size (omega arith) (omega arith)
-    (ap shown after.here ∙ sym all ∙ ap (λ (n : ℕ). overwritten (page_of old number) n (length page) page) start)
-    (λ k apart. ap shown (after.others k apart))
+    (ap bytes_of after.here ∙ sym all ∙ ap (λ (n : ℕ). overwritten (page_of old number) n (length page) page) start)
+    (λ k apart. ap bytes_of (after.others k apart))
