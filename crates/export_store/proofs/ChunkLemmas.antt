@@ -1,5 +1,5 @@
 -- A chunk after one of its places has changed: what is stored there, or its mark.
-use Rattle.std.proofs.Common.{◌≡◌, ◌≢◌, ℕ, ◌+◌, ◌-◌, ◌*◌, ◌/◌, ◌%◌, ◌<◌, ◌≤◌, Bool, true, false, ◌||◌, not, min, max, is_some, unwrap_or, if◌then◌else◌, Option, None, Some, List, [], ◌∷◌, length, get_or, set, refl, sym, ap, ◌∙◌, arith}
+use Rattle.std.proofs.Common.{◌≡◌, ◌≢◌, ℕ, ◌+◌, ◌-◌, ◌*◌, ◌/◌, ◌%◌, ◌<◌, ◌≤◌, Bool, true, false, ◌||◌, not, min, max, is_some, unwrap_or, if◌then◌else◌, Option, None, Some, List, [], ◌∷◌, ◌++◌, length, get_or, set, refl, sym, ap, ◌∙◌, arith}
 use Rattle.std.specs.Int.{div_ceil}
 use Rattle.std.specs.Option.{option_map}
 use Rattle.std.proofs.lemmas.Bool.Decides.{nat_tests}
@@ -13,9 +13,14 @@ use Rattle.export_store.proofs.ZeroLemmas.{zeroed_touched}
 pub front_place : (kept : List Places) (places : Places) → 0 < length kept → places ≡ get_or kept 0 places → (k : ℕ) → in_place places k ≡ in_place (get_or kept 0 []) k
 front_place kept places some is k = ap (λ (p : Places). in_place p k) (is ∙ get_or_default kept 0 places [] some)
 
-pub none_place : (kept : List Places) → length kept ≡ 0 → (k : ℕ) → None ≡ in_place (get_or kept 0 []) k
+pub none_place : (kept : List Places) → (0 < length kept → ⊥) → (k : ℕ) → None ≡ in_place (get_or kept 0 []) k
 none_place [] none k = sym (in_none k)
-none_place (places ∷ kept) none k = absurd (omega (arith, none))
+none_place (places ∷ kept) none k = absurd (none (omega arith))
+
+-- the places that a chunk gets where it has none
+pub open_place : (kept more : List Places) (places : Places) → (0 < length kept → ⊥) → more ≡ kept ++ places ∷ [] → ((k : ℕ) → in_place places k ≡ None) → (k : ℕ) → in_place (get_or more 0 []) k ≡ in_place (get_or kept 0 []) k
+open_place [] more places none is empty k = ap (λ (m : List Places). in_place (get_or m 0 []) k) is ∙ empty k ∙ sym (in_none k)
+open_place (first ∷ kept) more places none is empty k = absurd (none (omega arith))
 
 pub front_set : (kept : List Places) (places : Places) → 0 < length kept → (k : ℕ) → in_place (get_or (set kept 0 places) 0 []) k ≡ in_place places k
 front_set kept places some k = ap (λ (p : Places). in_place p k) (get_or-set_same kept 0 places [] some)

@@ -2,6 +2,7 @@ pub mod PageLemmas
 pub mod HolesLemmas
 pub mod ShownLemmas
 pub mod TableLemmas
+pub mod NextLemmas
 pub mod CountLemmas
 pub mod MarksLemmas
 pub mod ImageLemmas

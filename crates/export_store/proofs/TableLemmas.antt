@@ -137,3 +137,32 @@ module _ (old new : Pages) (q : ℕ) (size : new.size ≡ old.size) (others : (p
   -- it is there no longer
   pub used_gone : AreUsed old → chunk_of new q ≡ None → AreUsed new
   used_gone was gone = used_after was (λ none. ap is_some gone)
+
+-- The same of a map that was updated at one number.
+module _ (size : ℕ) (m n : BTreeMap ℕ Chunk) (q : ℕ) (was now : Option Chunk) (found : was ≡ get nat_cmp m q) (updates : UpdatesBy nat_cmp (nat_cmp q) m n now) where
+  pub map_here : (number : ℕ) (held : Option (Option (List ℕ))) → number / 256 ≡ q → 4096 * number < size → in_chunk now (number % 256) ≡ held → held_page (record { size = size; chunks = n.entries }) number ≡ held
+  map_here number held is below here =
+      put_here (record { size = size; chunks = m.entries }) (record { size = size; chunks = n.entries }) q refl (updates_others m n q now updates) number held is below
+      (ap (λ (chunk : Option Chunk). in_chunk chunk (number % 256)) updates.1 ∙ here)
+
+  pub map_others : (number : ℕ) → number / 256 ≡ q → ((k : ℕ) → k ≢ number % 256 → in_chunk now k ≡ in_chunk was k) → (k : ℕ) → k ≢ number
+      → held_page (record { size = size; chunks = n.entries }) k ≡ held_page (record { size = size; chunks = m.entries }) k
+  map_others number is same =
+      put_others (record { size = size; chunks = m.entries }) (record { size = size; chunks = n.entries }) q refl (updates_others m n q now updates) number is
+      (λ k apart. ap (λ (chunk : Option Chunk). in_chunk chunk k) updates.1 ∙ same k apart ∙ ap (λ (chunk : Option Chunk). in_chunk chunk k) found)
+
+  pub map_same : ((k : ℕ) → in_chunk now k ≡ in_chunk was k) → (k : ℕ) → held_page (record { size = size; chunks = n.entries }) k ≡ held_page (record { size = size; chunks = m.entries }) k
+  map_same same =
+      put_same (record { size = size; chunks = m.entries }) (record { size = size; chunks = n.entries }) q refl (updates_others m n q now updates)
+      (λ k. ap (λ (chunk : Option Chunk). in_chunk chunk k) updates.1 ∙ same k ∙ ap (λ (chunk : Option Chunk). in_chunk chunk k) found)
+
+  pub map_used : AreUsed (record { size = size; chunks = m.entries }) → (number : ℕ) (held : Option (List ℕ)) → number / 256 ≡ q → 4096 * number < size → in_chunk now (number % 256) ≡ Some held
+      → AreUsed (record { size = size; chunks = n.entries })
+  map_used used number held is below here =
+      used_held (record { size = size; chunks = m.entries }) (record { size = size; chunks = n.entries }) q refl (updates_others m n q now updates) used number is
+      (ap is_some (map_here number (Some held) is below here))
+
+  pub map_used_same : AreUsed (record { size = size; chunks = m.entries }) → ((k : ℕ) → in_chunk now k ≡ in_chunk was k) → is_some now ≡ is_some was → AreUsed (record { size = size; chunks = n.entries })
+  map_used_same used same there =
+      used_same (record { size = size; chunks = m.entries }) (record { size = size; chunks = n.entries }) q refl (updates_others m n q now updates) used
+      (λ k is. ap is_some (map_same same k)) (ap is_some updates.1 ∙ there ∙ ap is_some found)

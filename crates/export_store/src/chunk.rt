@@ -36,20 +36,18 @@ impl<A: Allocator + Copy> Chunk<A> {
     pub(crate) fn new(alloc: A) -> Chunk<A>
         ensures { (k : ℕ) → place_in result k ≡ None }
     {
-        Chunk {
-            marks: Marks::none(),
-            kept: LinkedList::new(alloc),
-        }
+        let marks = Marks::none();
+        let kept = LinkedList::new(alloc);
+        Chunk { marks, kept }
     }
 
     /// All pages are held zeros. It takes no memory.
     pub(crate) fn zeros(alloc: A) -> Chunk<A>
         ensures { (k : ℕ) → k < 256 → place_in result k ≡ Some None }
     {
-        Chunk {
-            marks: Marks::all(),
-            kept: LinkedList::new(alloc),
-        }
+        let marks = Marks::all();
+        let kept = LinkedList::new(alloc);
+        Chunk { marks, kept }
     }
 
     /// The page that is stored in a place.

@@ -207,7 +207,8 @@ impl<A: Allocator + Copy> Table<A> {
         ensures first { IfSome result (λ number. (q : ℕ) → from ≤ q → q < number → chunk_of self.now q ≡ None) }
         ensures none { IfNone result ((q : ℕ) → from ≤ q → q < end → chunk_of self.now q ≡ None) }
     {
-        match self.chunks.range(from..end).next() {
+        let mut entries = self.chunks.range(from..end);
+        match entries.next() {
             Some((number, _)) => Some(*number),
             None => None,
         }
