@@ -17,6 +17,10 @@ pub none_place : (kept : List Places) → (0 < length kept → ⊥) → (k : ℕ
 none_place [] none k = sym (in_none k)
 none_place (places ∷ kept) none k = absurd (none (omega arith))
 
+pub stored_some : (kept : List Places) (k : ℕ) → is_some (in_place (get_or kept 0 []) k) ≡ true → 0 < length kept
+stored_some [] k stored = let bad : false ≡ true = ap is_some (sym (in_none k)) ∙ stored in absurd (cc)
+stored_some (places ∷ kept) k stored = omega arith
+
 -- the places that a chunk gets where it has none
 pub open_place : (kept more : List Places) (places : Places) → (0 < length kept → ⊥) → more ≡ kept ++ places ∷ [] → ((k : ℕ) → in_place places k ≡ None) → (k : ℕ) → in_place (get_or more 0 []) k ≡ in_place (get_or kept 0 []) k
 open_place [] more places none is empty k = ap (λ (m : List Places). in_place (get_or m 0 []) k) is ∙ empty k ∙ sym (in_none k)

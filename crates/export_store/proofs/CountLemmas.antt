@@ -21,7 +21,7 @@ cond_le : (b : Bool) → cond b 1 0 ≤ 1
 cond_le true = omega arith
 cond_le false = omega arith
 
-cond_zero : (b : Bool) → cond b 1 0 ≡ 0 → b ≡ false
+cond_zero : (b : Bool) → ◌≡◌ {A = ℕ} (cond b 1 0) 0 → b ≡ false
 cond_zero false none = refl
 cond_zero true none = absurd (omega arith)
 
@@ -34,12 +34,12 @@ count-none p from zero none = refl
 count-none p from (suc n) none =
     let here : p from ≡ false = none from (omega arith) (omega arith) in
     let rest : count_of p (from + 1) n ≡ 0 = count-none p (from + 1) n (λ k above below. none k (omega arith) (omega arith)) in
-    omega (arith, count-cons p from n, ap (λ (b : Bool). cond b 1 0) here, rest)
+    omega (arith, count-cons p from n, ap {B = ℕ} (λ (b : Bool). cond b 1 0) here, rest)
 
 pub count_zero : (p : ℕ → Bool) (from n : ℕ) → count_of p from n ≡ 0 → (k : ℕ) → from ≤ k → k < from + n → p k ≡ false
 count_zero p from zero none k above below = absurd (omega arith)
 count_zero p from (suc n) none k above below =
-    let front : cond (p from) 1 0 ≡ 0 = omega (arith, count-cons p from n, none) in
+    let front : ◌≡◌ {A = ℕ} (cond (p from) 1 0) 0 = omega (arith, count-cons p from n, none) in
     let rest : count_of p (from + 1) n ≡ 0 = omega (arith, count-cons p from n, none) in
     elim (cases_eq k from) [
       | inl e ↦ ap p e ∙ cond_zero (p from) front
@@ -62,7 +62,7 @@ count-shift p q from to zero same = refl
 count-shift p q from to (suc n) same =
     let here : q to ≡ p from = same from to (omega arith) (omega arith) (omega arith) in
     let rest : count_of q (to + 1) n ≡ count_of p (from + 1) n = count-shift p q (from + 1) (to + 1) n (λ i j above below is. same i j (omega arith) (omega arith) (omega arith)) in
-    omega (arith, count-cons q to n, count-cons p from n, ap (λ (b : Bool). cond b 1 0) here, rest)
+    omega (arith, count-cons q to n, count-cons p from n, ap {B = ℕ} (λ (b : Bool). cond b 1 0) here, rest)
 
 -- of the first numbers, where none passes from one end to the other
 pub count-upto : (p : ℕ → Bool) (a b : ℕ) → ((k : ℕ) → a ≤ k → k < b → p k ≡ false) → ((k : ℕ) → b ≤ k → k < a → p k ≡ false) → count_of p 0 a ≡ count_of p 0 b

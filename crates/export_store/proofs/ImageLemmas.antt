@@ -64,7 +64,9 @@ none_stored (Some page) absent = absurd (cc)
 -- images of the same pages are the same
 pub same_image : (old new : Pages) → new.size ≡ old.size → ((k : ℕ) → page_of new k ≡ page_of old k) → image_of new ≡ image_of old
 unfolding image_of
-same_image old new size same = rw (size, same_row (page_of old) (page_of new) (old.size / 4096 + 1) (λ k _. same k)) refl
+same_image old new size same =
+    ap (λ (n : ℕ). take n (in_a_row (page_of new) (n / 4096 + 1))) size
+    ∙ ap (take old.size) (same_row (page_of old) (page_of new) (old.size / 4096 + 1) (λ k _. same k))
 
 -- how long the image is
 pub length-image_of : (pages : Pages) → IsPaged pages → length (image_of pages) ≡ pages.size
@@ -121,7 +123,9 @@ image_written old new at bytes is size one within here others =
     let written : in_a_row (page_of new) count ≡ overwritten row at (length bytes) bytes =
     overwritten-in_a_row (page_of old) (page_of new) is.whole count (at / 4096) (at % 4096) bytes (omega arith) one here others
     ∙ ap (λ (k : ℕ). overwritten row k (length bytes) bytes) place in
-    rw (size, written) (take-overwritten old.size row bytes at (omega arith) (omega arith))
+    ap (λ (n : ℕ). take n (in_a_row (page_of new) (n / 4096 + 1))) size
+    ∙ ap (take old.size) written
+    ∙ take-overwritten old.size row bytes at (omega arith) (omega arith)
 
 -- where no page is held
 zeros_in_a_row : (page : ℕ → List ℕ) → ((k : ℕ) → page k ≡ zero_page) → (count : ℕ) → in_a_row page count ≡ replicate (length (in_a_row page count)) 0

@@ -73,7 +73,9 @@ image_after old new offset piece is size within written =
     let row : List ℕ = in_a_row (page_of old) count in
     let long : length row ≡ 4096 * count = length-in_a_row (page_of old) is.whole count in
     let cut : length (take old.size row) ≡ min old.size (length row) = length-take old.size row in
-    rw (size, row_after (page_of old) (page_of new) is.whole offset piece count (omega arith) written) (take-overwritten old.size row piece offset (omega arith) (omega arith))
+    ap (λ (n : ℕ). take n (in_a_row (page_of new) (n / 4096 + 1))) size
+    ∙ ap (take old.size) (row_after (page_of old) (page_of new) is.whole offset piece count (omega arith) written)
+    ∙ take-overwritten old.size row piece offset (omega arith) (omega arith)
 
 -- What a page gets of the piece, as it is found.
 module _ (offset : ℕ) (piece : List ℕ) (number begin start from end count : ℕ) (touched : has_byte_of offset (length piece) number ≡ true) (begins : begin ≡ number * 4096) (starts : start ≡ offset - begin)

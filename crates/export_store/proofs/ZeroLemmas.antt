@@ -80,7 +80,7 @@ none_if true true start end = refl
 
 pub zeroed_none : (size offset count number : ℕ) → zeroed size offset count false number None ≡ None
 unfolding zeroed
-zeroed_none size offset count number = none_if (has_byte_of offset count number) (lies_whole_in size offset count number) _ _
+zeroed_none size offset count number = none_if (has_byte_of offset count number) (lies_whole_in size offset count number) (offset - 4096 * number) (min (offset + count - 4096 * number) 4096)
 
 again_if : (touched whole : Bool) (start end : ℕ) → zeroed_if touched whole true start end (zeroed_if touched whole true start end None) ≡ zeroed_if touched whole true start end None
 again_if false whole start end = refl
@@ -89,7 +89,7 @@ again_if true true start end = refl
 
 pub zeroed_again : (size offset count number : ℕ) → zeroed size offset count true number (zeroed size offset count true number None) ≡ zeroed size offset count true number None
 unfolding zeroed
-zeroed_again size offset count number = again_if (has_byte_of offset count number) (lies_whole_in size offset count number) _ _
+zeroed_again size offset count number = again_if (has_byte_of offset count number) (lies_whole_in size offset count number) (offset - 4096 * number) (min (offset + count - 4096 * number) 4096)
 
 stored_if : (touched whole : Bool) (start end : ℕ) → unwrap_or (zeroed_if touched whole true start end None) None ≡ None
 stored_if false whole start end = refl
@@ -98,7 +98,7 @@ stored_if true true start end = refl
 
 pub zeroed_stored : (size offset count number : ℕ) → unwrap_or (zeroed size offset count true number None) None ≡ None
 unfolding zeroed
-zeroed_stored size offset count number = stored_if (has_byte_of offset count number) (lies_whole_in size offset count number) _ _
+zeroed_stored size offset count number = stored_if (has_byte_of offset count number) (lies_whole_in size offset count number) (offset - 4096 * number) (min (offset + count - 4096 * number) 4096)
 
 -- which pages are held
 held_if : (touched whole keep : Bool) (start end : ℕ) (held : Option (Option (List ℕ))) → (is_some held ≡ true → whole ≡ true → touched ≡ true)
@@ -121,7 +121,7 @@ pub held_zeroed : (size offset count : ℕ) (keep : Bool) (number : ℕ) (held :
     → is_some (zeroed size offset count keep number held) ≡ (if keep then is_some held || has_byte_of offset count number else is_some held && not (lies_whole_in size offset count number))
 unfolding zeroed
 held_zeroed size offset count keep number held within =
-    held_if (has_byte_of offset count number) (lies_whole_in size offset count number) keep _ _ held
+    held_if (has_byte_of offset count number) (lies_whole_in size offset count number) keep (offset - 4096 * number) (min (offset + count - 4096 * number) 4096) held
     (λ some whole. let below : 4096 * number < size = within some in
     let from : offset ≤ 4096 * number = grind (arith, nat_tests) in
     let to : min (4096 * number + 4096) size ≤ offset + count = grind (arith, nat_tests) in

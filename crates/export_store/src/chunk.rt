@@ -152,9 +152,10 @@ impl<A: Allocator + Copy> Chunk<A> {
         ensures here { stored_in self.new place ≡ None }
         ensures others { (k : ℕ) → k ≢ place → stored_in self.new k ≡ stored_in self.old k }
     {
-        if let Some(places) = self.kept.front_mut() {
-            places.remove(place, swept);
-        }
+        let Some(places) = self.kept.front_mut() else {
+            return;
+        };
+        places.remove(place, swept);
     }
 
     // Makes a range of a page zero.
@@ -172,9 +173,10 @@ impl<A: Allocator + Copy> Chunk<A> {
         ensures here { stored_in self.new place ≡ cleared start count (stored_in self.old place) }
         ensures others { (k : ℕ) → k ≢ place → stored_in self.new k ≡ stored_in self.old k }
     {
-        if let Some(places) = self.kept.front_mut() {
-            places.clear(alloc, place, start, count, swept);
-        }
+        let Some(places) = self.kept.front_mut() else {
+            return;
+        };
+        places.clear(alloc, place, start, count, swept);
     }
 
     // A page is zeros from now on, which are held where that is wanted.

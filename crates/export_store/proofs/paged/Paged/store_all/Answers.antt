@@ -8,8 +8,8 @@ pub loop-number-init : goal.loop-number-init
 loop-number-init g c = record {
   size = refl;
   bytes = refl;
-  held = λ k. hold_begun (is_held c.args.self.now k) (c.args.offset / 4096) c.first_absent.result k (λ from to. held_stored _ (c.first_absent.ensures.stored k from to));
-  stored = λ k. hold_begun (is_some (stored_page c.args.self.now k)) (c.args.offset / 4096) c.first_absent.result k (c.first_absent.ensures.stored k);
+  held = λ k. hold_begun (is_held c.args.self.now k) (c.args.offset / 4096) c.first_absent-number.result k (λ from to. held_stored _ (c.first_absent-number.ensures.stored k from to));
+  stored = λ k. hold_begun (is_some (stored_page c.args.self.now k)) (c.args.offset / 4096) c.first_absent-number.result k (c.first_absent-number.ensures.stored k);
 }
 
 pub loop-number-preserved : goal.loop-number-preserved

@@ -13,3 +13,7 @@ loop-number-preserved g c =
 
 pub returns : goal.returns
 returns g c = count_all c.args.self.now c.loop-number.from c.div_ceil-end.result c.loop-number.count c.loop-number.invariant.counted (omega arith) c.loop-number.invariant.begun c.in_default.ensures.none
+
+pub overflow_add-count : goal.overflow_add-count
+overflow_add-count g c =
+    omega (arith, c.loop-number.invariant.counted, c.held_in.ensures, count_le (is_held c.args.self.now) 0 (256 * c.loop-number.from), count_le (is_held c.args.self.now) (256 * c.in-Some.number) 256)

@@ -1,0 +1,23 @@
+use Rattle.std.proofs.Common.{◌≡◌, ◌∙◌, ◌+◌, ◌*◌, ◌/◌, ℕ, None, inl, inr, is_some, refl, sym, ap, arith}
+use Rattle.std.proofs.lemmas.Bool.{cases_lt}
+use Rattle.export_store.specs.Pages.{Pages, chunk_of, held_page, zeroed}
+use Rattle.export_store.proofs.TableLemmas.{used_gone, held_nowhere, held_beyond}
+use Rattle.export_store.proofs.ZeroChunkLemmas.{held_part, used_part, none_part}
+use Rattle.export_store.proofs.table.Table.zero_part.Goals as goal
+
+pub invariant_of-self : goal.invariant_of-self
+invariant_of-self g c =
+    let i = c.self.inside in
+    used_part (record { size = i.size; chunks = i.chunks.entries }) (record { size = i.size; chunks = c.zero_in-held.new.chunks.entries }) c.args.number c.pages_in-pages.result c.zero_in-held.result
+    refl c.zero_in-held.ensures.others c.pages_in-pages.ensures c.zero_in-held.ensures.count c.self.invariant c.if-held-ne0.true
+
+pub returns-then-held-ne0-clause-here : goal.returns-then-held-ne0-clause-here
+returns-then-held-ne0-clause-here g c = λ k is.
+    let i = c.self.inside in
+    let z = c.args.zeroing in
+    let size : z.size ≡ i.size = c.requires.size ∙ sym (ap (λ (p : Pages). p.size) c.self.view_is) in
+    let there = ap (λ (p : Pages). is_some (chunk_of p c.args.number)) c.self.view_is ∙ c.requires.there in
+    held_part (record { size = i.size; chunks = i.chunks.entries }) (record { size = i.size; chunks = c.zero_in-held.new.chunks.entries }) c.args.number refl c.zero_in-held.ensures.others z.offset z.count (omega (arith, c.requires.within, size)) c.requires.some z.keep there
+    (λ j at. c.zero_in-held.ensures.here j at there ∙ ap (λ (n : ℕ). zeroed n z.offset z.count z.keep j _) size) k is
+    ∙ ap (λ (n : ℕ). zeroed n z.offset z.count z.keep k _) (sym size)
+    ∙ ap (λ (p : Pages). zeroed z.size z.offset z.count z.keep k (held_page p k)) c.self.view_is
