@@ -14,6 +14,10 @@ pub not_some : (held : Option (Option (List ℕ))) → is_some held ≡ false �
 not_some None none = refl
 not_some (Some page) none = absurd (cc)
 
+pub no_chunk : (chunk : Option Chunk) → is_some chunk ≡ false → chunk ≡ None
+no_chunk None none = refl
+no_chunk (Some chunk) none = absurd (cc)
+
 -- one step of a walk over numbers, of which those between the last and the next don't matter
 module _ (f : Option (Option (List ℕ)) → Option (Option (List ℕ))) (was before after : Option (Option (List ℕ))) (q at : ℕ) (so : before ≡ (if nat_lt q at then f was else was)) where
   so_below : q < at → before ≡ f was

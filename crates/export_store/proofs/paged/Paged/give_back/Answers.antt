@@ -1,6 +1,6 @@
 use Rattle.std.proofs.Common.{◌≡◌, ◌∙◌, ◌+◌, ◌≤◌, true, false, ℕ, length, ap, arith}
 use Rattle.export_store.specs.Pages.{image_of, held_page, zeroed}
-use Rattle.export_store.proofs.ImageLemmas.{length_seen, same_image}
+use Rattle.export_store.proofs.ImageLemmas.{length_seen}
 use Rattle.export_store.proofs.ZeroLemmas.{IsPaged-zero, image_zero, held_zero}
 use Rattle.export_store.proofs.paged.Paged.give_back.Goals as goal
 
@@ -24,3 +24,6 @@ returns-clause-held g c =
     c.zero_range.ensures.zeroed in
     let size : c.zero_range.new.self.size ≡ c.self.inside.pages.size = c.zero_range.ensures.size in
     held_zero _ _ c.self.view_is c.self.invariant c.zero_range.new.self c.args.offset c.args.count c.size.result false size c.size.ensures zeros
+
+pub zero_range-requires-clause-within : goal.zero_range-requires-clause-within
+zero_range-requires-clause-within g c = omega (arith, c.requires.within, c.size.ensures, length_seen _ _ c.self.view_is c.self.invariant)

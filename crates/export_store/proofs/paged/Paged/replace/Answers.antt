@@ -1,6 +1,6 @@
-use Rattle.std.proofs.Common.{length, ap}
+use Rattle.std.proofs.Common.{length, ap, arith}
 use Rattle.export_store.proofs.TableLemmas.{on_err}
-use Rattle.export_store.proofs.ImageLemmas.{IsPaged-replace, length-replace, image_same}
+use Rattle.export_store.proofs.ImageLemmas.{length_seen, IsPaged-replace, length-replace, image_same}
 use Rattle.export_store.proofs.paged.Paged.replace.Goals as goal
 
 pub returns-in_err-put-clause-long : goal.returns-in_err-put-clause-long
@@ -18,3 +18,6 @@ pub returns-clause-long : goal.returns-clause-long
 returns-clause-long g c =
     let after = c.in_ok-put.ensures in
     length-replace _ _ c.self.view_is c.self.invariant c.put.new.self c.args.number c.args.page c.requires.whole (record { size = after.size; here = after.here; others = after.others })
+
+pub put-requires : goal.put-requires
+put-requires g c = omega (arith, c.requires.begins, length_seen _ _ c.self.view_is c.self.invariant)
