@@ -8,6 +8,3 @@ mod worker;
 pub use bell::Bell;
 pub use sleeper::{Sleeper, until};
 pub use worker::{Gate, work};
-
-#[cfg(test)]
-mod tests;

@@ -16,6 +16,3 @@ pub use runs::run;
 pub use server::Server;
 pub use session::SessionId;
 pub use ticket::{Chosen, Ticket};
-
-#[cfg(test)]
-mod tests;

@@ -110,20 +110,3 @@ pub(crate) fn put_behind<A: Allocator>(waiting: &mut VecDeque<Tags, A>, tags: Ta
         waiting.push_back_reserved(tags);
     }
 }
-
-#[cfg(test)]
-mod tests {
-    use super::*;
-
-    // No limit on the credit stands in the rules: a tag may fall below zero.
-    #[test]
-    fn credit_falls_below_zero(rt: HostRuntime) {
-        let mut tags = Tags {
-            r: Some(5),
-            l: 7,
-            p: 9,
-        };
-        credit(&mut tags, 250_000_000);
-        assert_eq!(rt; (tags.r, tags.l, tags.p), (Some(-249_999_995), 7, 9));
-    }
-}

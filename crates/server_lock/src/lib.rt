@@ -15,6 +15,3 @@ pub use turns::{
     Booked, Pass, settle, turn_arrive, turn_attach, turn_dispatch, turn_gone, turn_leave,
     turn_perform, turn_take,
 };
-
-#[cfg(test)]
-mod tests;

@@ -1,4 +1,0 @@
-use Rattle.nbd_workers.proofs.tests.holding.gone_while_held.Given as goal
-
-abbrev pub ghosts-one_worker : goal.ghosts-one_worker
-ghosts-one_worker g a = record { name = a.blank.name; parts = a.blank.parts }

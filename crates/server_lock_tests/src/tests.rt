@@ -1,0 +1,481 @@
+ghost use Rattle.std.specs.Prelude.{◌≡◌};
+
+use eligibility::{Eligibility, Heaped, Listed};
+use export_cell::Outdated;
+use export_store::Flat;
+use lone_export::Arrived;
+use nbd_commands::{Config, ExportList, ExportSettings};
+use nbd_wire::protocol::{FLUSH, READ, WRITE};
+use nbd_wire::{Request, RequestHead};
+use payload::Payload;
+use refusing::Refusing;
+use reply_box::Taken;
+use server_core::{Chosen, NotAttached, Server, SessionId, SessionRefusal};
+use server_lock::*;
+use std::alloc::{Allocator, Global};
+use std::marker::Brand;
+use std::sync::Wait;
+use std::sync::ledger::{Blank, Ledger};
+use tag_clock::{Moment, Tags};
+
+type Tried<L> = Shared<L, Flat<Global>, Heaped<Global>>;
+
+const FIRST: SessionId = SessionId {
+    export: 0,
+    number: 0,
+};
+
+const SECOND: SessionId = SessionId {
+    export: 0,
+    number: 1,
+};
+
+fn config_of<A: Allocator + Copy>(alloc: A) -> Option<Config<A>> {
+    let mut list = ExportList::new(alloc);
+    if list.add(&ExportSettings::new(b"a", 4096)).is_err() {
+        return None;
+    }
+    Config::new(list, 32).ok()
+}
+
+fn server_of<E: Eligibility<Alloc = A>, A: Allocator + Copy>(
+    alloc: A,
+) -> Option<Server<Flat<A>, E>> {
+    let Some(config) = config_of(alloc) else {
+        return None;
+    };
+    Server::new(alloc, &config).ok()
+}
+
+fn request_of<A: Allocator>(kind: u16, cookie: u64, length: u32) -> Request<A> {
+    let head = RequestHead {
+        flags: 0,
+        kind,
+        cookie,
+        offset: 0,
+        length,
+    };
+    Request::new(head, Payload::new())
+}
+
+fn write_of(alloc: Global, cookie: u64) -> Option<Request<Global>> {
+    let Ok(payload) = Payload::copied(alloc, 0, [0xde, 0xad, 0xbe, 0xef].as_slice()) else {
+        return None;
+    };
+    let head = RequestHead {
+        flags: 0,
+        kind: WRITE,
+        cookie,
+        offset: 0,
+        length: 4,
+    };
+    Some(Request::new(head, payload))
+}
+
+// A shared server, and its only pass.
+fn alone<L: Ledger>(alloc: Global, blank: Blank) -> Option<(Tried<L>, Pass<L>)>
+    requires name { blank.name ≡ L.name }
+    requires parts { blank.parts ≡ L.parts }
+    requires one { blank.parts ≡ 1 }
+{
+    let Some(server) = server_of(alloc) else {
+        return None;
+    };
+    let Ok((shared, mut passes)) = Tried::<L>::new(alloc, server, blank, 1) else {
+        return None;
+    };
+    match passes.pop() {
+        Some(pass) => Some((shared, pass)),
+        None => None,
+    }
+}
+
+// The steps of a server, where these are all its passes.
+fn settled<L: Ledger, E: Eligibility<Alloc = A>, A: Allocator + Copy>(
+    booked: Booked<L, Flat<A>, E>,
+    passes: Vec<Pass<L>, A>,
+) -> Option<u128> {
+    if passes.len() as u64 != booked.passes() {
+        return None;
+    }
+    Some(settle(booked, passes))
+}
+
+fn settled_alone<L: Ledger>(alloc: Global, shared: Tried<L>, pass: Pass<L>) -> Option<u128> {
+    let mut passes = Vec::new(alloc);
+    if passes.push(pass).is_err() {
+        return None;
+    }
+    settled(shared.end(), passes)
+}
+
+// Whether the first session's WRITE arrives.
+fn is_sent<L: Ledger, R: Wait>(
+    rt: &R,
+    alloc: Global,
+    shared: &Tried<L>,
+    pass: &mut Pass<L>,
+) -> bool {
+    let Some(request) = write_of(alloc, 1) else {
+        return false;
+    };
+    let arrived = shared.turn_arrive(rt, pass, FIRST, Moment::zero(), request);
+    arrived.ok() == accepted(0)
+}
+
+fn accepted(number: u64) -> Option<Arrived> {
+    Some(Arrived::Accepted {
+        number,
+        limit_tag: 0,
+    })
+}
+
+// The request that is chosen now, where it has this number.
+fn chosen<L: Ledger, R: Wait>(
+    rt: &R,
+    shared: &Tried<L>,
+    pass: &mut Pass<L>,
+    number: u64,
+) -> Option<Chosen> {
+    match shared.turn_dispatch(rt, pass, Moment::zero()) {
+        Some(chosen) if chosen.ticket.number() == number => Some(chosen),
+        _ => None,
+    }
+}
+
+// Whether the first session's request is held when that session goes, and is performed once.
+fn is_performed_once<L: Ledger, R: Wait>(rt: &R, shared: &Tried<L>, pass: &mut Pass<L>) -> bool {
+    let Some(chosen) = chosen(rt, shared, pass, 0) else {
+        return false;
+    };
+    if pass.held() != 1 || shared.turn_gone(rt, pass, FIRST).is_err() {
+        return false;
+    }
+    let performed = shared.turn_perform(rt, pass, chosen.ticket);
+    performed == Some(true)
+        && pass.held() == 0
+        && shared.turn_perform(rt, pass, chosen.ticket).is_none()
+}
+
+// Whether the second session's READ is performed as number 1.
+fn is_read<L: Ledger, R: Wait>(rt: &R, shared: &Tried<L>, pass: &mut Pass<L>) -> bool {
+    let request = request_of(READ, 2, 4);
+    let arrived = shared.turn_arrive(rt, pass, SECOND, Moment::zero(), request);
+    if arrived.ok() != accepted(1) {
+        return false;
+    }
+    let Some(chosen) = chosen(rt, shared, pass, 1) else {
+        return false;
+    };
+    shared.turn_perform(rt, pass, chosen.ticket) == Some(true)
+}
+
+// Whether the second session's oldest reply has what the first one wrote.
+fn is_told<L: Ledger>(
+    booked: &mut Booked<L, Flat<Global>, Heaped<Global>>,
+    pass: &mut Pass<L>,
+) -> bool {
+    let Ok(Taken::Reply(reply)) = turn_take(booked, pass, SECOND) else {
+        return false;
+    };
+    if reply.content().is_empty() {
+        return false;
+    }
+    reply.cookie() == 2
+        && reply.error() == 0
+        && reply.content().from(0) == [0xde, 0xad, 0xbe, 0xef].as_slice()
+}
+
+// Whether that is the only reply, and the first session is gone.
+fn is_all<L: Ledger>(
+    booked: &mut Booked<L, Flat<Global>, Heaped<Global>>,
+    pass: &mut Pass<L>,
+) -> bool {
+    matches!(turn_take(booked, pass, SECOND), Ok(Taken::Empty))
+        && matches!(turn_take(booked, pass, FIRST), Err(SessionRefusal::NotOpen))
+}
+
+// Whether replies are taken under one hold of the server, which nobody else gets meanwhile.
+fn are_taken<L: Ledger, R: Wait>(rt: &R, shared: &Tried<L>, pass: &mut Pass<L>) -> bool {
+    let mut held = shared.hold(rt);
+    let busy = shared.try_hold().is_none();
+    busy && is_told(&mut *held, pass) && is_all(&mut *held, pass)
+}
+
+// Whether the second session leaves, and its replies then end.
+fn leaves<L: Ledger, R: Wait>(rt: &R, shared: &Tried<L>, pass: &mut Pass<L>) -> bool {
+    let free = shared.try_hold().is_some();
+    free && shared.turn_leave(rt, pass, SECOND).is_ok()
+        && matches!(shared.turn_take(rt, pass, SECOND), Ok(Taken::End))
+        && shared.turn_gone(rt, pass, SECOND).is_ok()
+}
+
+#[derive(Clone, Copy)]
+struct Ran {
+    opened: bool,
+    written: bool,
+    read: bool,
+    taken: bool,
+    left: bool,
+    last: Option<Trace>,
+    turns: u64,
+    held: u64,
+    steps: Option<u128>,
+}
+
+fn two_sessions<L: Ledger, R: Wait>(rt: &R, alloc: Global, blank: Blank) -> Option<Ran>
+    requires name { blank.name ≡ L.name }
+    requires parts { blank.parts ≡ L.parts }
+    requires one { blank.parts ≡ 1 }
+{
+    let Some((shared, mut pass)) = alone::<L>(alloc, blank) else {
+        return None;
+    };
+    let first = shared.turn_attach(rt, &mut pass, 0) == Ok(FIRST);
+    let second = shared.turn_attach(rt, &mut pass, 0) == Ok(SECOND);
+    let sent = is_sent(rt, alloc, &shared, &mut pass);
+    let performed = is_performed_once(rt, &shared, &mut pass);
+    let read = is_read(rt, &shared, &mut pass);
+    let taken = are_taken(rt, &shared, &mut pass);
+    let left = leaves(rt, &shared, &mut pass);
+    let (last, turns, held) = (pass.last(), pass.turns(), pass.held());
+    Some(Ran {
+        opened: first && second,
+        written: sent && performed,
+        read,
+        taken,
+        left,
+        last,
+        turns,
+        held,
+        steps: settled_alone(alloc, shared, pass),
+    })
+}
+
+#[test]
+fn gone_is_still_served(rt: HostRuntime) {
+    let ran = two_sessions::<Brand, _>(&rt, rt.alloc(), Blank::new(1)).expect(&rt, "a server");
+    assert!(rt; ran.opened, "opened");
+    assert!(rt; ran.written, "written");
+    assert!(rt; ran.read, "read");
+    assert!(rt; ran.taken, "taken");
+    assert!(rt; ran.left, "left");
+    let event = EventTrace::Gone {
+        export: 0,
+        session: 1,
+    };
+    let answer = AnswerTrace::Dropped;
+    assert!(rt; ran.last == Some(Trace { event, answer }));
+    assert!(rt; (ran.turns, ran.held) == (16, 0));
+    assert!(rt; ran.steps == Some(12));
+}
+
+type Old<A> = Server<Flat<A>, Listed<A>>;
+
+// Seven counted steps: of three requests one is performed, one is in service and one waits.
+fn serves<A: Allocator + Copy>(server: &mut Old<A>) -> bool {
+    if server.attach(0) != Ok(FIRST) {
+        return false;
+    }
+    for cookie in 0..3u64 {
+        let request = request_of(FLUSH, cookie, 0);
+        if server.arrive(FIRST, Moment::zero(), request).is_err() {
+            return false;
+        }
+    }
+    let Some(chosen) = server.dispatch(Moment::zero()) else {
+        return false;
+    };
+    server.dispatch(Moment::zero()).is_some() && server.perform(chosen.ticket).is_some()
+}
+
+fn served<A: Allocator + Copy>(alloc: A) -> Option<Old<A>> {
+    let Some(mut server) = server_of(alloc) else {
+        return None;
+    };
+    if serves(&mut server) {
+        Some(server)
+    } else {
+        None
+    }
+}
+
+// Whether a server shows those steps: its count, what waits, and the requests that are found in service.
+fn is_served<A: Allocator + Copy>(server: &Old<A>) -> bool {
+    server.steps() == 7
+        && server.waiting() == 1
+        && server.find(0, 0).is_none()
+        && server.find(0, 1).is_some()
+        && server.find(0, 2).is_none()
+}
+
+// Whether the tags of what waits in such a server are those of the third of three arrivals at the first moment.
+fn has_tags<A: Allocator + Copy>(alloc: A, server: &Old<A>) -> bool {
+    let third = Tags {
+        r: None,
+        l: 0,
+        p: 2_000_000_000,
+    };
+    match server.tags(alloc, 0) {
+        Ok(told) => told.as_slice() == [(2, third)].as_slice(),
+        Err(_) => false,
+    }
+}
+
+// Whether a sweep leaves such a server as it was.
+fn is_swept<L: Ledger>(
+    alloc: Global,
+    booked: &mut Booked<L, Flat<Global>, Listed<Global>>,
+) -> bool {
+    let Ok(mut outdated) = Outdated::with_room(alloc, 4) else {
+        return false;
+    };
+    booked.sweep(0, &mut outdated);
+    is_served(booked.server()) && has_tags(alloc, booked.server())
+}
+
+// Whether such a server is as it was before it was shared, and behind that; and what is settled.
+fn opened_and_ended<L: Ledger>(alloc: Global, blank: Blank) -> Option<(bool, bool, Option<u128>)>
+    requires name { blank.name ≡ L.name }
+    requires parts { blank.parts ≡ L.parts }
+    requires three { blank.parts ≡ 3 }
+{
+    let Some(server) = served(alloc) else {
+        return None;
+    };
+    let before = is_served(&server) && has_tags(alloc, &server);
+    let made = Shared::<L, Flat<Global>, Listed<Global>>::new(alloc, server, blank, 3);
+    let Ok((shared, passes)) = made else {
+        return None;
+    };
+    let mut booked = shared.end();
+    let behind = is_swept(alloc, &mut booked);
+    Some((before, behind, settled(booked, passes)))
+}
+
+// The steps counted so far are the first pass's share, and nothing else changes.
+#[test]
+fn earlier_steps_are_settled(rt: HostRuntime) {
+    let ended = opened_and_ended::<Brand>(rt.alloc(), Blank::new(3));
+    assert!(rt; ended == Some((true, true, Some(7))));
+}
+
+type Memory<'a> = &'a Refusing<Global>;
+
+// Whether refused memory hands back the server and the blank, with which the next call succeeds; and what is settled.
+fn refused_then_opened<'a, L: Ledger>(
+    memory: Memory<'a>,
+    blank: Blank,
+) -> Option<(bool, bool, Option<u128>)>
+    requires name { blank.name ≡ L.name }
+    requires parts { blank.parts ≡ L.parts }
+    requires two { blank.parts ≡ 2 }
+{
+    let Some(server) = served(memory) else {
+        return None;
+    };
+    memory.arm(1);
+    let made = Shared::<L, Flat<Memory<'a>>, Listed<Memory<'a>>>::new(memory, server, blank, 2);
+    let Err((_, server, blank)) = made else {
+        return None;
+    };
+    let back = !memory.is_armed() && is_served(&server);
+    let made = Shared::<L, Flat<Memory<'a>>, Listed<Memory<'a>>>::new(memory, server, blank, 2);
+    let Ok((shared, passes)) = made else {
+        return None;
+    };
+    let booked = shared.end();
+    let same = is_served(booked.server());
+    Some((back, same, settled(booked, passes)))
+}
+
+#[test]
+fn refused_memory_hands_back(rt: HostRuntime) {
+    let memory = Refusing::new(rt.alloc(), 0);
+    let opened = refused_then_opened::<Brand>(&memory, Blank::new(2));
+    assert!(rt; opened == Some((true, true, Some(7))));
+}
+
+// Whether an export's 64 sessions are opened, numbered from 0 on.
+fn is_filled<L: Ledger, R: Wait>(rt: &R, shared: &Tried<L>, pass: &mut Pass<L>) -> bool {
+    for number in 0..64u64 {
+        if shared.turn_attach(rt, pass, 0) != Ok(SessionId { export: 0, number }) {
+            return false;
+        }
+    }
+    true
+}
+
+// Whether one more is refused, which the pass remembers.
+fn is_full<L: Ledger, R: Wait>(rt: &R, shared: &Tried<L>, pass: &mut Pass<L>) -> bool {
+    let event = EventTrace::Attach { export: 0 };
+    let answer = AnswerTrace::Full;
+    shared.turn_attach(rt, pass, 0) == Err(NotAttached::Full)
+        && pass.last() == Some(Trace { event, answer })
+        && pass.turns() == 65
+}
+
+// Whether there is room for another once the first is gone, with the next number.
+fn has_room_again<L: Ledger, R: Wait>(rt: &R, shared: &Tried<L>, pass: &mut Pass<L>) -> bool {
+    let next = SessionId {
+        export: 0,
+        number: 64,
+    };
+    shared.turn_gone(rt, pass, FIRST).is_ok() && shared.turn_attach(rt, pass, 0) == Ok(next)
+}
+
+// An export has 64 sessions at once. The 65th is refused, and had once another is gone.
+fn sixty_five<L: Ledger, R: Wait>(
+    rt: &R,
+    alloc: Global,
+    blank: Blank,
+) -> Option<([bool; 3], Option<u128>)>
+    requires name { blank.name ≡ L.name }
+    requires parts { blank.parts ≡ L.parts }
+    requires one { blank.parts ≡ 1 }
+{
+    let Some((shared, mut pass)) = alone::<L>(alloc, blank) else {
+        return None;
+    };
+    let told = [
+        is_filled(rt, &shared, &mut pass),
+        is_full(rt, &shared, &mut pass),
+        has_room_again(rt, &shared, &mut pass),
+    ];
+    Some((told, settled_alone(alloc, shared, pass)))
+}
+
+#[test]
+fn one_session_too_many(rt: HostRuntime) {
+    let told = sixty_five::<Brand, _>(&rt, rt.alloc(), Blank::new(1));
+    assert!(rt; told == Some(([true, true, true], Some(66))));
+}
+
+// Whether nothing is due at first, and then what waits.
+fn tells_due<L: Ledger, R: Wait>(rt: &R, shared: &Tried<L>, pass: &mut Pass<L>) -> bool {
+    if shared.turn_attach(rt, pass, 0) != Ok(FIRST) || shared.next_due(rt).is_some() {
+        return false;
+    }
+    let Some(late) = Moment::new(9) else {
+        return false;
+    };
+    let request = request_of(READ, 1, 4);
+    shared.turn_arrive(rt, pass, FIRST, late, request).is_ok() && shared.next_due(rt) == Some(late)
+}
+
+fn told_due<L: Ledger, R: Wait>(rt: &R, alloc: Global, blank: Blank) -> bool
+    requires name { blank.name ≡ L.name }
+    requires parts { blank.parts ≡ L.parts }
+    requires one { blank.parts ≡ 1 }
+{
+    let Some((shared, mut pass)) = alone::<L>(alloc, blank) else {
+        return false;
+    };
+    tells_due(rt, &shared, &mut pass)
+}
+
+// What is due next is told through the lock.
+#[test]
+fn what_is_due_is_told(rt: HostRuntime) {
+    assert!(rt; told_due::<Brand, _>(&rt, rt.alloc(), Blank::new(1)));
+}
