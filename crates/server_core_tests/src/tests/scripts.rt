@@ -91,10 +91,10 @@ const SCRIPTS: [Script; 13] = [
     ),
 ];
 
-// The numbers behind an event's name, 0 where there are fewer.
-fn numbers_of(line: &str) -> Option<[u64; 4]> {
+// The numbers of an event, 0 where there are fewer.
+fn numbers_of(words: &str) -> Option<[u64; 4]> {
     let mut numbers = [0u64; 4];
-    for (number, word) in numbers.iter_mut().zip(line.split(' ').skip(1)) {
+    for (number, word) in numbers.iter_mut().zip(words.split(' ')) {
         let Ok(told) = word.parse() else {
             return None;
         };
@@ -105,10 +105,10 @@ fn numbers_of(line: &str) -> Option<[u64; 4]> {
 
 // The event of a line: an arrival by its export, session, moment and cookie.
 fn event_of(alloc: Global, line: &str) -> Option<Event<Global>> {
-    let Some(name) = line.split(' ').next() else {
+    let Some((name, words)) = line.split_once(' ') else {
         return None;
     };
-    let Some([first, session, moment, cookie]) = numbers_of(line) else {
+    let Some([first, session, moment, cookie]) = numbers_of(words) else {
         return None;
     };
     let number = session;
