@@ -2,7 +2,7 @@
 ghost use Rattle.std.specs.Prelude.{◌≡◌};
 
 use super::*;
-use server_core::ArriveRefusal;
+use nbd_session::{Turn, offer};
 use std::marker::Brand;
 use std::thread::Threads;
 
@@ -140,16 +140,38 @@ fn is_written_and_read<L: Ledger, R: Wait>(
     shared.turn_leave(rt, pass, SECOND).is_ok() && shared.turn_gone(rt, pass, SECOND).is_ok()
 }
 
-// Whether another request of the session is refused for now.
-fn waits_for_room<L: Ledger, R: Wait>(rt: &R, shared: &Tried<L>, pass: &mut Pass<L>) -> bool {
-    match shared.turn_arrive(rt, pass, FIRST, Moment::zero(), read_of(2, 4)) {
-        Ok(_) => false,
-        Err(back) => back.refusal == ArriveRefusal::Hold && back.request.head().cookie == 2,
+// The request that is handed back to a reader of the first session, since another is under way.
+fn handed_back<L: Ledger, R: Wait>(
+    rt: &R,
+    shared: &Tried<L>,
+    pass: &mut Pass<L>,
+    gate: &HoldsUntil,
+) -> Option<Request<Global>> {
+    match offer(rt, shared, pass, FIRST, read_of(2, 4), gate) {
+        Turn::Held(request) => Some(request),
+        _ => None,
     }
 }
 
-// The server stops while a request is held and another waits for room: the held one is performed, and the session that
-// waits is gone.
+// Whether a reader that is held is handed its request back, and ended once its session is gone.
+fn is_held_until_gone<L: Ledger, R: Wait>(
+    rt: &R,
+    shared: &Tried<L>,
+    pass: &mut Pass<L>,
+    gate: &HoldsUntil,
+) -> bool {
+    let Some(request) = handed_back(rt, shared, pass, gate) else {
+        return false;
+    };
+    shared.stop();
+    if request.head().cookie != 2 || shared.turn_gone(rt, pass, FIRST).is_err() {
+        return false;
+    }
+    matches!(offer(rt, shared, pass, FIRST, request, gate), Turn::Ended)
+}
+
+// The server stops while a request is held and a reader waits for room: the held request is performed, and the reader
+// ends once its session is gone.
 fn is_stopped<L: Ledger, R: Wait>(
     rt: &R,
     shared: &Tried<L>,
@@ -159,17 +181,10 @@ fn is_stopped<L: Ledger, R: Wait>(
     if shared.turn_attach(rt, pass, 0) != Ok(FIRST) {
         return false;
     }
-    if shared
-        .turn_arrive(rt, pass, FIRST, Moment::zero(), read_of(1, 4))
-        .is_err()
-    {
+    if shared.turn_arrive(rt, pass, FIRST, Moment::zero(), read_of(1, 4)).is_err() {
         return false;
     }
-    if !gate.is_holding() || !waits_for_room(rt, shared, pass) {
-        return false;
-    }
-    shared.stop();
-    shared.turn_gone(rt, pass, FIRST).is_ok()
+    gate.is_holding() && is_held_until_gone(rt, shared, pass, gate)
 }
 
 // Which of the two a session thread does.
