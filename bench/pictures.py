@@ -52,7 +52,7 @@ def shares(figures, path):
     mine = sorted((it for it in figures if it["part"] == "timeline"), key=lambda it: it["export"])
     if not mine:
         return
-    width, height, left, top, right, bottom, wide = 860, 430, 70, 50, 30, 110, 20
+    width, height, left, top, right, bottom, wide = 860, 430, 92, 50, 30, 110, 20
     d = Drawing(width, height, "Five exports that start and stop one after another")
     rows = []
     for it in mine:
@@ -69,7 +69,7 @@ def shares(figures, path):
         d.text(left - 8, y_of(i * step) + 4, "%d k" % round(i * step / 1000), anchor="end")
     for t in range(int(seconds) + 1):
         d.text(x_of(t), height - bottom + 18, "%d s" % t, anchor="middle")
-    d.text(18, (top + height - bottom) / 2, "4 KiB reads a second", anchor="middle", turn=-90)
+    d.text(20, (top + height - bottom) / 2, "4 KiB reads a second", anchor="middle", turn=-90)
     for n, (it, rates) in enumerate(rows):
         d.curve([(x_of(i / 100), y_of(v)) for i, v in enumerate(rates) if i % 2 == 0], COLOURS[n])
         x, y = left + (n % 2) * 380, height - 68 + (n // 2) * 22
