@@ -1,12 +1,12 @@
 //! A session's place in the order of turns.
 
-use nbd_service::policy::{backlog_after, cost_of, size_of};
+use nbd_service::policy::{asks_for_turn, backlog_after, cost_of, size_of};
 use nbd_service::{RequestSize, RunningClock, Turns, has_input};
 use nbd_wire::{Request, RequestHead};
 use std::alloc::Global;
 use std::net::TcpStream;
 use std::sync::Wait;
-use std::sync::atomic::{AtomicBool, AtomicU32, Ordering};
+use std::sync::atomic::{AtomicBool, AtomicU32, AtomicU64, Ordering};
 use std::time;
 use std::time::Instant;
 use tag_clock::Clock;
@@ -27,6 +27,9 @@ pub struct TurnSeat<'a> {
     writes_long: AtomicBool,
     // For how many holds it counts as one that mostly has several requests.
     backlog: AtomicU32,
+    // What went on since its reader asked last, in units, and when that was, in nanoseconds.
+    owed: AtomicU32,
+    asked_at: AtomicU64,
 }
 
 impl<'a> TurnSeat<'a> {
@@ -41,10 +44,14 @@ impl<'a> TurnSeat<'a> {
             had_input: AtomicBool::new(false),
             writes_long: AtomicBool::new(false),
             backlog: AtomicU32::new(0),
+            owed: AtomicU32::new(0),
+            asked_at: AtomicU64::new(0),
         }
     }
 
-    /// Waits for the turn of a request and of those that are ready behind it, so many at most in all.
+    /// Waits for the turn of a request and of those that are ready behind it, so many at most in all. Some go on without it, and are
+    /// charged with the next that asks. A session that mostly has one request at a time doesn't count as one that has something at
+    /// hand: others needn't stop for it, whom it would have to wake behind each of its requests.
     pub fn wait_for_turn<R: Wait + time::Clock>(
         &self,
         rt: &R,
@@ -61,17 +68,36 @@ impl<'a> TurnSeat<'a> {
         }
         set(&self.writes_long, long);
         if self.turns.is_alone(self.export) {
+            self.owed.store(0, Ordering::SeqCst);
             return;
         }
-        let mut cost = cost_of(head);
+        let mut cost = self
+            .owed
+            .load(Ordering::SeqCst)
+            .saturating_add(cost_of(head));
         for request in ready.iter().rev().take(most.saturating_sub(1)) {
             cost = cost.saturating_add(cost_of(request.head()));
         }
-        let enters = !self.at_hand.load(Ordering::SeqCst);
-        set(&self.at_hand, true);
+        let enters = (backlog > 0 || long) && !self.at_hand.load(Ordering::SeqCst);
         let clock = RunningClock::since(rt, self.start);
+        let now = clock.now().nanoseconds();
+        if !enters
+            && !asks_for_turn(
+                cost,
+                now.saturating_sub(self.asked_at.load(Ordering::SeqCst)),
+            )
+        {
+            self.owed.store(cost, Ordering::SeqCst);
+            return;
+        }
+        if enters {
+            set(&self.at_hand, true);
+        }
         self.turns
             .wait_for_turn(rt, self.export, cost, enters, &clock);
+        self.owed.store(0, Ordering::SeqCst);
+        self.asked_at
+            .store(clock.now().nanoseconds(), Ordering::SeqCst);
     }
 
     /// Behind a hold: a session that mostly has one request at a time has nothing at hand.

@@ -52,7 +52,15 @@ yields_by bytes many = nat_le many bytes
 abbrev pub is_forgotten_by : ℕ → ℕ → Bool
 is_forgotten_by latest moment = nat_lt 1000000000 (moment - latest)
 
+-- 200 microseconds
+abbrev pub still_defers_by : ℕ → Bool
+still_defers_by passed = nat_lt passed 200000
+
 -- ---- turns
+
+-- 64 units, or a millisecond
+abbrev pub asks_for_turn_by : ℕ → ℕ → Bool
+asks_for_turn_by units passed = nat_le 64 units || nat_le 1000000 passed
 
 -- one for each 16 KiB begun, and one at least
 abbrev pub cost_by : ℕ → ℕ → ℕ

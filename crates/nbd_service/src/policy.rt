@@ -1,7 +1,7 @@
 //! Every number of the serving code, and the rules over values that its threads follow. `specs/Policy.antt` says each rule.
 ghost use Rattle.std.specs.Prelude.{◌≡◌, ◌+◌, ◌-◌, ◌*◌, ◌<◌, ◌≤◌, ◌^◌, min, option_map};
 ghost use Rattle.std.specs.Duration.{as_nanos};
-ghost use Rattle.nbd_service.specs.Policy.{accept_may_pass_by, backlog_by, batch_by, bell_by, cost_by, data_by, handshake_wait_by, holds_back_by, is_alone_by, is_forgotten_by, is_network_fault_by, is_shortage_by, is_stalled_by, keeps_by, load_by, next_skip_by, patience_by, performs_by, reads_ahead_by, short_pieces_by, size_by, suits_reader_by, yields_by, yields_behind_look_by};
+ghost use Rattle.nbd_service.specs.Policy.{accept_may_pass_by, asks_for_turn_by, backlog_by, batch_by, bell_by, cost_by, data_by, handshake_wait_by, holds_back_by, is_alone_by, is_forgotten_by, is_network_fault_by, is_shortage_by, is_stalled_by, keeps_by, load_by, next_skip_by, patience_by, performs_by, reads_ahead_by, short_pieces_by, size_by, still_defers_by, suits_reader_by, yields_by, yields_behind_look_by};
 
 use crate::request_size::{Load, RequestSize};
 use nbd_wire::RequestHead;
@@ -126,6 +126,16 @@ pub const BUSY_NS: u64 = 5_000_000;
 /// For how many nanoseconds an export still counts whose client sends long WRITEs one behind another.
 pub const LINGER_NS: u64 = 250_000;
 
+/// How many units of a session's requests may go on before it asks for a turn again, which is charged with them, and for how many
+/// nanoseconds they may: asking for each request had sessions with one at a time spend a third of their time on the lock of turns.
+pub const UNITS_A_TURN: u32 = 64;
+
+pub const TURN_NS: u64 = 1_000_000;
+
+/// For how many nanoseconds a bulk session lets interactive ones go first to the server. Without end, eight clients that send one
+/// request at a time kept eight that flood another export from 49 in 50 of their requests.
+pub const DEFERENCE_NS: u64 = 200_000;
+
 /// For how many holds with one request a session counts as one that mostly has several.
 pub const BACKLOG_HOLDS: u32 = 16;
 
@@ -220,6 +230,21 @@ pub fn backlog_after(before: u32, has_more: bool) -> u32
     } else {
         before.saturating_sub(1)
     }
+}
+
+/// Whether a session asks for a turn before requests go on that come to so many units with those since it asked last, so many
+/// nanoseconds ago.
+pub fn asks_for_turn(units: u32, passed: u64) -> bool
+    ensures { result ≡ asks_for_turn_by units passed }
+{
+    units >= UNITS_A_TURN || passed >= TURN_NS
+}
+
+/// Whether a bulk session that looks for the server for so many nanoseconds still lets interactive ones go first.
+pub fn still_defers(passed: u64) -> bool
+    ensures { result ≡ still_defers_by passed }
+{
+    passed < DEFERENCE_NS
 }
 
 /// How many milliseconds a client has for its next bytes, so many after its handshake and after its option began. 0: none.

@@ -3,7 +3,7 @@
 use crate::bells::Bells;
 use crate::interactive::InteractiveLoad;
 use crate::passes::PassPool;
-use crate::policy::{KEPT_BLOCK_BYTES, is_alone, may_read_ahead};
+use crate::policy::{KEPT_BLOCK_BYTES, is_alone, may_read_ahead, still_defers};
 use crate::running_clock::RunningClock;
 use crate::spin::SpinLadder;
 use crate::turns::Turns;
@@ -21,7 +21,7 @@ use std::sync::{Mutex, MutexGuard, Wait};
 use std::thread::{Threads, available_parallelism};
 use std::time;
 use std::time::Instant;
-use tag_clock::Moment;
+use tag_clock::{Clock, Moment};
 
 /// A server of disks in pages, while it is held.
 pub type Disks<L> = Booked<L, Paged<Global>, Heaped<Global>>;
@@ -111,7 +111,7 @@ impl<L: Ledger> Service<L> {
     }
 
     /// Holds the server, until `let_go`. Who has much to do there lets interactive sessions go first, for a while.
-    pub fn hold<R: Wait>(&self, rt: &R, is_bulk: bool) -> MutexGuard<'_, Disks<L>> {
+    pub fn hold<R: Wait + time::Clock>(&self, rt: &R, is_bulk: bool) -> MutexGuard<'_, Disks<L>> {
         if is_bulk {
             return self.look_or_wait(rt, true);
         }
@@ -128,8 +128,12 @@ impl<L: Ledger> Service<L> {
     }
 
     /// Holds the server, however long it takes.
-    fn look_or_wait<R: Wait>(&self, rt: &R, is_bulk: bool) -> MutexGuard<'_, Disks<L>> {
-        let held = match self.look_long(is_bulk) {
+    fn look_or_wait<R: Wait + time::Clock>(
+        &self,
+        rt: &R,
+        is_bulk: bool,
+    ) -> MutexGuard<'_, Disks<L>> {
+        let held = match self.look_long(rt, is_bulk) {
             Some(held) => held,
             None => self.shared.hold(rt),
         };
@@ -137,15 +141,25 @@ impl<L: Ledger> Service<L> {
         held
     }
 
-    /// The server, where it is free at one of many looks.
-    fn look_long(&self, is_bulk: bool) -> Option<MutexGuard<'_, Disks<L>>> {
+    /// The server, where it is free at one of many looks. Where that is asked for, interactive sessions go first for a while.
+    fn look_long<R: Wait + time::Clock>(
+        &self,
+        rt: &R,
+        is_bulk: bool,
+    ) -> Option<MutexGuard<'_, Disks<L>>> {
         let ladder = SpinLadder::LOCK;
+        let mut defers = is_bulk;
+        let mut began: Option<Moment> = None;
         for look in 0..ladder.looks {
-            let held = self.look(is_bulk);
+            let held = self.look(defers);
             if held.is_some() {
                 return held;
             }
-            ladder.rest_behind(look);
+            if ladder.rest_behind(look) && defers {
+                let now = self.clock(rt).now();
+                let since = *began.get_or_insert(now);
+                defers = still_defers(now.nanoseconds().saturating_sub(since.nanoseconds()));
+            }
         }
         None
     }

@@ -26,12 +26,14 @@ impl SpinLadder {
         in_a_row: 0,
     };
 
-    /// What comes behind the look of this number, which found nothing.
-    pub fn rest_behind(self, look: usize) {
+    /// What comes behind the look of this number, which found nothing. Tells whether others ran.
+    pub fn rest_behind(self, look: usize) -> bool {
         spin_loop();
-        if yields_behind_look(look, self.in_a_row) {
+        let yields = yields_behind_look(look, self.in_a_row);
+        if yields {
             let_others_run();
         }
+        yields
     }
 }
 

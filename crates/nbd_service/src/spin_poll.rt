@@ -60,7 +60,7 @@ fn has_come(peer: &TcpStream) -> bool {
         if poll(&mut socket, 0) > 0 {
             return true;
         }
-        ladder.rest_behind(look);
+        let _ = ladder.rest_behind(look);
     }
     false
 }

@@ -1,8 +1,8 @@
 use nbd_service::policy::{
-    accept_may_pass, backlog_after, batch_after, bell_of, connections_for, cost_of, data_of,
-    handshake_wait_ms, holds_back, is_alone, is_stalled, load_of, may_keep, may_read_ahead,
-    moment_after, next_skip, passes_for, patience, performs_itself, short_pieces, size_of,
-    suits_reader, yields_behind, yields_behind_look,
+    accept_may_pass, asks_for_turn, backlog_after, batch_after, bell_of, connections_for, cost_of,
+    data_of, handshake_wait_ms, holds_back, is_alone, is_stalled, load_of, may_keep,
+    may_read_ahead, moment_after, next_skip, passes_for, patience, performs_itself, short_pieces,
+    size_of, still_defers, suits_reader, yields_behind, yields_behind_look,
 };
 use nbd_service::{InteractiveLoad, Load, RequestSize, RunningClock, SpinPoll, Turns};
 use nbd_wire::RequestHead;
@@ -119,6 +119,8 @@ fn what_a_request_counts(rt: HostRuntime) {
     assert!(rt; data_of(head(WRITE, 5)) == 5 && data_of(head(TRIM, 5)) == 0);
     assert!(rt; backlog_after(3, true) == 16 && backlog_after(3, false) == 2);
     assert!(rt; backlog_after(0, false) == 0);
+    assert!(rt; asks_for_turn(64, 0) && asks_for_turn(1, 1_000_000) && !asks_for_turn(63, 999_999));
+    assert!(rt; still_defers(199_999) && !still_defers(200_000));
 }
 
 #[test]
