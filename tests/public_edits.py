@@ -29,6 +29,12 @@ LAWS = {
     "lone_export limit_tags_unrolled": "tags_by_weight",
     "nbd_base sums_fit": "one_bit_more",
     "server_table choice_of_first_requests": "one_may_be_out",
+    "turn_order given_by_weight": "head_start_not_counted",
+    "turn_order step_of_weight": "every_weight_divides",
+    "turn_order late_goes_first": "absent_late_one_waited_for",
+    "turn_order none_is_stuck": "one_goes_where_none_is_at_hand",
+    "turn_order left_alone": "left_with_one_session_more",
+    "turn_order little_is_owed": "owed_half_of_it",
 }
 
 ONE_FIELD = "it lends the one field of its type"
