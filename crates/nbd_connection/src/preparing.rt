@@ -1,13 +1,11 @@
 //! Replies with long data that a reader makes ready while its writer is busy.
 
-use crate::outlet::take_one;
-use crate::ready_replies::Ready;
 use crate::session_link::SessionLink;
 use nbd_service::policy::READY_BYTES;
 use nbd_service::{Service, Wakeups};
-use nbd_session::{Counted, put_reply};
 use nbd_wire::Reply;
 use server_lock::Pass;
+use session_turns::{ReadyReply, take_reply};
 use std::alloc::Global;
 use std::sync::Wait;
 use std::sync::ledger::Ledger;
@@ -26,11 +24,11 @@ pub fn make_ready<L: Ledger, R: Wait + time::Clock>(
         return;
     };
     let Some(reply) = take_or_serve(rt, service, link, wakeups, pass) else {
-        link.ready.give_back(rt, Ready::Text(text));
+        link.ready.give_back(rt, ReadyReply::Text(text));
         return;
     };
     link.note_taken(1);
-    if !link.ready.put(rt, ready_of(reply, text)) {
+    if !link.ready.put(rt, ReadyReply::of(reply, text, READY_BYTES)) {
         service.give_up(rt, link.session, pass);
     }
     link.replies.ring();
@@ -46,24 +44,12 @@ fn take_or_serve<L: Ledger, R: Wait + time::Clock>(
 ) -> Option<Reply<Global>> {
     let clock = service.clock(rt);
     let mut disks = service.hold(rt, link.is_bulk());
-    let mut taken = take_one(&mut *disks, pass, link.session);
-    if taken.is_none() {
+    let mut taken = take_reply(&mut *disks, pass, link.session);
+    if taken.is_err() {
         wakeups.serve_one(&mut *disks, &service.bells, pass, link.session, &clock);
-        taken = take_one(&mut *disks, pass, link.session);
+        taken = take_reply(&mut *disks, pass, link.session);
     }
     service.let_go(disks);
     wakeups.wake(&service.bells);
-    taken
-}
-
-/// The reply's text in this memory, or itself where it has more data than a text.
-fn ready_of(reply: Reply<Global>, text: Vec<u8, Global>) -> Ready {
-    if reply.content().len() > READY_BYTES {
-        return Ready::Whole(reply);
-    }
-    let mut writer = Counted::new(text);
-    match put_reply(&reply, &mut writer) {
-        Ok(()) => Ready::Text(writer.into_inner()),
-        Err(_) => Ready::Whole(reply),
-    }
+    taken.ok()
 }

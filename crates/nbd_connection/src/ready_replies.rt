@@ -1,26 +1,17 @@
 //! Replies with long data that the reader has made ready, so that one is copied while the writer sends the one before.
 
 use nbd_base::NoMemory;
-use nbd_service::policy::{READY_BYTES, READY_REPLIES, READY_TEXTS, REPLY_HEAD_BYTES};
-use nbd_wire::Reply;
+use nbd_service::policy::{READY_BYTES, READY_REPLIES, READY_TEXTS};
+use session_turns::{REPLY_HEAD_BYTES, ReadyReply};
 use std::alloc::Global;
 use std::collections::VecDeque;
 use std::sync::{Mutex, Wait};
-
-/// What a writer finds ready.
-#[derive(Drop)]
-pub enum Ready {
-    /// The text of a reply.
-    Text(Vec<u8, Global>),
-    /// A reply that is too long for one.
-    Whole(Reply<Global>),
-}
 
 /// The replies of one session that are ready.
 #[derive(Drop)]
 pub struct ReadyReplies {
     // The oldest first. Their room was obtained at the start.
-    ready: Mutex<VecDeque<Ready, Global>>,
+    ready: Mutex<VecDeque<ReadyReply<Global>, Global>>,
     // Memory for texts.
     blank: Mutex<Vec<Vec<u8, Global>, Global>>,
 }
@@ -45,7 +36,7 @@ impl ReadyReplies {
     }
 
     /// A reply is ready. False where there is no place for it.
-    pub fn put<R: Wait>(&self, rt: &R, reply: Ready) -> bool {
+    pub fn put<R: Wait>(&self, rt: &R, reply: ReadyReply<Global>) -> bool {
         let mut ready = self.ready.lock(rt);
         if ready.len() >= ready.capacity() {
             return false;
@@ -55,7 +46,7 @@ impl ReadyReplies {
     }
 
     /// The reply that has been ready longest.
-    pub fn take<R: Wait>(&self, rt: &R) -> Option<Ready> {
+    pub fn take<R: Wait>(&self, rt: &R) -> Option<ReadyReply<Global>> {
         self.ready.lock(rt).pop_front()
     }
 
@@ -64,8 +55,8 @@ impl ReadyReplies {
     }
 
     /// What was ready is sent; a text's memory is used again.
-    pub fn give_back<R: Wait>(&self, rt: &R, sent: Ready) {
-        if let Ready::Text(mut text) = sent {
+    pub fn give_back<R: Wait>(&self, rt: &R, sent: ReadyReply<Global>) {
+        if let ReadyReply::Text(mut text) = sent {
             text.clear();
             let mut blank = self.blank.lock(rt);
             if blank.len() < blank.capacity() {

@@ -1,12 +1,12 @@
 //! The thread of a connection that writes replies.
 
 use crate::outlet::Outlet;
-use crate::ready_replies::Ready;
 use crate::rules::writer_goes_on;
 use crate::session_link::SessionLink;
 use nbd_service::{Service, Wakeups};
 use server_lock::Pass;
-use session_turns::Stop;
+use session_turns::{ReadyReply, Stop};
+use std::alloc::Global;
 use std::net::Shutdown;
 use std::sync::Wait;
 use std::sync::ledger::Ledger;
@@ -149,7 +149,7 @@ fn send_ready<L: Ledger, R: Wait>(
     link: &SessionLink<'_>,
     outlet: &mut Outlet<'_>,
     pass: &mut Pass<L>,
-    ready: Ready,
+    ready: ReadyReply<Global>,
 ) -> Round {
     if !outlet.send_ready(&ready) {
         service.give_up(rt, link.session, pass);

@@ -144,9 +144,6 @@ pub const BACKLOG_HOLDS: u32 = 16;
 /// How many bytes of replies are kept before they are sent. A reply's data come to it page by page, so that it is to hold a long one.
 pub const OUTLET_BYTES: usize = 262_144;
 
-/// How many bytes come before the data of a reply.
-pub const REPLY_HEAD_BYTES: usize = 16;
-
 /// How many replies are taken in a row: twice as many as a reader hands in requests, so that it mostly takes all.
 pub const TAKEN_REPLIES: usize = 32;
 

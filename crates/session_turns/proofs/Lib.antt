@@ -1,2 +1,4 @@
 pub mod TakingLemmas
 pub mod OfferingLemmas
+pub mod OrderLemmas
+pub mod ReplyTexts

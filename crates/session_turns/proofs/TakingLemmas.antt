@@ -6,7 +6,7 @@ use Rattle.server_table.specs.declared.event.Answer.TheVariants as said
 use Rattle.server_core.specs.declared.session.SessionId.{SessionId}
 use Rattle.server_core.specs.Served.{Served}
 use Rattle.server_lock.specs.Scores.{Score}
-use Rattle.session_turns.specs.declared.held_turns.Stop.{Stop}
+use Rattle.session_turns.specs.declared.taking.Stop.{Stop}
 use Rattle.session_turns.specs.Taking.{TakeSays, Gives, Stops, Takes}
 
 -- replies were taken, and stand behind those that the list had before

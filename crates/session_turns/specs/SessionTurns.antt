@@ -1,8 +1,7 @@
--- What a turn of a session does: to its pass, and to its reader or its writer.
-use Rattle.std.specs.Prelude.{◌≡◌, ◌≢◌, ℕ, ◌+◌, ◌<◌, ◌⊎◌, List, [], Option, Some, None, ⊤}
-use Rattle.std.specs.Io.KnownBytes.{Appends}
+-- What a turn of a session does to its pass and its reader.
+use Rattle.std.specs.Prelude.{◌≡◌, ◌≢◌, ℕ, ◌+◌, ◌<◌, ◌⊎◌, Option, Some, None, ⊤}
 use Rattle.nbd_wire.specs.declared.requests.RequestHead.{RequestHead}
-use Rattle.nbd_wire.specs.Grammar.{RequestMessage, ReplyMessage, reply_text}
+use Rattle.nbd_wire.specs.Grammar.{RequestMessage, ReplyMessage}
 use Rattle.lone_export.specs.declared.refusal.Arrived.{Arrived}
 use Rattle.lone_export.specs.declared.refusal.Arrived.TheVariants as arrival
 use Rattle.server_core.specs.declared.session.SessionId.{SessionId}
@@ -12,15 +11,12 @@ use Rattle.server_lock.specs.declared.trace.EventTrace.TheVariants as event
 use Rattle.server_lock.specs.declared.trace.AnswerTrace.{AnswerTrace}
 use Rattle.server_lock.specs.declared.trace.AnswerTrace.TheVariants as answer
 use Rattle.server_lock.specs.Scores.{Score, next_count}
-use Rattle.nbd_session.specs.Streams.{Rises, WritesPart}
 use Rattle.nbd_session.specs.declared.ending.Ending.{Ending}
 use Rattle.nbd_session.specs.declared.ending.Frame.{Frame}
 use Rattle.nbd_session.specs.declared.ending.Frame.TheVariants as frames
 use Rattle.nbd_session.specs.Frames.{Stream, Nexts, IsWhole}
 use Rattle.session_turns.specs.declared.turns.Turn.{Turn}
 use Rattle.session_turns.specs.declared.turns.Turn.TheVariants.{Going, Held, Ended}
-use Rattle.session_turns.specs.declared.turns.WriteTurn.{WriteTurn}
-use Rattle.session_turns.specs.declared.turns.WriteTurn.TheVariants as writes
 
 -- ---- one turn
 
@@ -78,19 +74,6 @@ Leaves p s q = Turns p (IsLeave s) (λ a. a ≡ answer.Left) 1 q ⊎ Turns p (Is
 abbrev pub Drops : Score → SessionId → Score → Type 0
 Drops p s q = Turns p (IsGone s) (λ a. a ≡ answer.Dropped) 1 q ⊎ Turns p (IsGone s) IsRefused 0 q
 
--- ---- a reply is taken
-
--- nothing was written, and no write failed
-abbrev pub WritesNothing : Option (List ℕ) → Option (List ℕ) → ℕ → ℕ → Type 0
-WritesNothing old new before now = Appends old new [] × (now ≡ before)
-
--- the session isn't there any more; or it had left and got all its replies; or a reply could not be written. In these
--- two cases it was dropped
-abbrev pub WriteEnds : Score → SessionId → Option (List ℕ) → Option (List ℕ) → ℕ → ℕ → Score → Type 0
-WriteEnds p s old new before now q = (Turns p (IsTake s) IsRefused 0 q × WritesNothing old new before now)
-    ⊎ ((r : Score) × Turns p (IsTake s) (λ a. a ≡ answer.End) 0 r × Drops r s q × WritesNothing old new before now)
-    ⊎ ((r : Score) × (m : ReplyMessage) × Turns p (IsTake s) (IsGiven m) 1 r × Drops r s q × WritesPart old new (reply_text m) × Rises before now)
-
 -- ---- a request is offered
 
 -- it was refused since its session isn't open; or its export is worn, or no memory was there for it, and the session left
@@ -120,11 +103,3 @@ module _ {A : Type 0} where
 
   abbrev pub IsReadTurn : Stream → Stream → Score → SessionId → Turn A → Score → Type 0
   IsReadTurn old new p s turn q = (frame : Frame A) × Reads old new frame × IsHandedIn p s frame turn q
-
--- ---- a reply is taken and written
-
--- from the writer's known bytes and failures before to those after
-abbrev pub IsWriteTurn : Score → SessionId → Option (List ℕ) → Option (List ℕ) → ℕ → ℕ → WriteTurn → Score → Type 0
-IsWriteTurn p s old new before now writes.Written q = (m : ReplyMessage) × Turns p (IsTake s) (IsGiven m) 1 q × Appends old new (reply_text m) × (now ≡ before)
-IsWriteTurn p s old new before now writes.Idle q = Turns p (IsTake s) (λ a. a ≡ answer.Empty) 0 q × WritesNothing old new before now
-IsWriteTurn p s old new before now writes.Ended q = WriteEnds p s old new before now q

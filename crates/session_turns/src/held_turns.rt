@@ -1,36 +1,19 @@
 //! The turns of a session on a server that its caller holds: as many as it likes under one hold. None of them reads from the
 //! client or writes to it.
 ghost use Rattle.std.specs.Prelude.{◌≡◌, ◌<◌, IfSome, IfNone};
-ghost use Rattle.std.specs.Vec.{vec_capacity};
 ghost use Rattle.session_turns.specs.SessionTurns.{IsOffered, IsHandedIn, IsReadTurn, Leaves};
 ghost use Rattle.session_turns.specs.Offering.{MakesLeave, Offers, HandsIn, HandsInNext};
-ghost use Rattle.session_turns.specs.Taking.{Takes};
 
 use crate::turns::{Arrival, Turn};
 use eligibility::Eligibility;
 use export_store::Image;
 use nbd_session::{Frame, FrameReader, is_disc};
-use nbd_wire::{Reply, Request};
-use reply_box::Taken;
-use server_core::{ArriveRefusal, SessionId, SessionRefusal};
-use server_lock::{Booked, Pass, turn_arrive, turn_leave, turn_take};
-use std::alloc::Allocator;
+use nbd_wire::Request;
+use server_core::{ArriveRefusal, SessionId};
+use server_lock::{Booked, Pass, turn_arrive, turn_leave};
 use std::io::Read;
 use std::sync::ledger::Ledger;
 use tag_clock::Clock;
-
-/// Why no more replies were taken.
-#[derive(Clone, Copy, Debug, PartialEq, Eq, Drop)]
-pub enum Stop {
-    /// There is room for no more.
-    Full,
-    /// No more is there yet.
-    Empty,
-    /// The session has left, and got all its replies. It is to be dropped once they are written.
-    End,
-    /// The session isn't there.
-    Refused(SessionRefusal),
-}
 
 /// What was read is handed in: a request is offered; at DISC, and at what isn't a request, the session leaves.
 pub fn hand_in<L: Ledger, I: Image, E: Eligibility<Alloc = I::Alloc>, C: Clock>(
@@ -96,27 +79,6 @@ pub fn read_ready<L: Ledger, I: Image, E: Eligibility<Alloc = I::Alloc>, R: Read
     }
     let frame = reader.next();
     Some(hand_in(booked, pass, session, frame, clock))
-}
-
-/// Takes the session's oldest replies, until the list has no room for more, which never grows, or a take gives none.
-pub fn take_replies<L: Ledger, I: Image, E: Eligibility<Alloc = I::Alloc>, A: Allocator>(
-    booked: &mut Booked<L, I, E>,
-    pass: &mut Pass<L>,
-    session: SessionId,
-    replies: &mut Vec<Reply<I::Alloc>, A>,
-) -> Stop
-    ensures takes { Takes I.Alloc booked.old pass.old session replies.old.items (vec_capacity replies.old) result replies.new.items booked.new pass.new }
-    ensures room { vec_capacity replies.new ≡ vec_capacity replies.old }
-{
-    while replies.len() < replies.capacity() {
-        match turn_take(booked, pass, session) {
-            Ok(Taken::Reply(reply)) => replies.push_reserved(reply),
-            Ok(Taken::Empty) => return Stop::Empty,
-            Ok(Taken::End) => return Stop::End,
-            Err(refusal) => return Stop::Refused(refusal),
-        }
-    }
-    Stop::Full
 }
 
 /// The session leaves.

@@ -4,8 +4,16 @@
 
 mod door;
 mod held_turns;
+mod laws;
+mod ready_reply;
+mod reply_writer;
+mod taking;
 mod turns;
 
 pub use door::Door;
-pub use held_turns::{Stop, hand_in, offer_held, read_ready, take_replies};
+pub use held_turns::{hand_in, offer_held, read_ready};
+pub use laws::replies_in_order;
+pub use ready_reply::{REPLY_HEAD_BYTES, ReadyReply};
+pub use reply_writer::ReplyWriter;
+pub use taking::{Stop, take_one, take_replies, take_reply};
 pub use turns::{Arrival, Turn, WriteTurn, offer, read_turn, write_turn};

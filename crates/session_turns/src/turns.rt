@@ -1,15 +1,17 @@
 //! The turns of a session's two threads, each with a hold of the server of its own: one reads requests and hands them in,
 //! the other takes replies and writes them.
 ghost use Rattle.std.specs.Prelude.{◌≡◌};
-ghost use Rattle.session_turns.specs.SessionTurns.{number_of, IsOffered, IsReadTurn, IsWriteTurn, Drops};
+ghost use Rattle.session_turns.specs.SessionTurns.{number_of, IsOffered, IsReadTurn, Drops};
+ghost use Rattle.session_turns.specs.Writing.{IsWriteTurn};
 
 use crate::held_turns::{hand_in, offer_held};
+use crate::reply_writer::ReplyWriter;
+use crate::taking::Stop;
 use eligibility::Eligibility;
 use export_store::Image;
 use lone_export::Arrived;
-use nbd_session::{Counted, FrameReader, put_reply};
+use nbd_session::FrameReader;
 use nbd_wire::{Request, RequestHead};
-use reply_box::Taken;
 use server_core::SessionId;
 use server_lock::{Pass, Shared};
 use std::alloc::Allocator;
@@ -93,25 +95,26 @@ pub fn offer<L: Ledger, I: Image, E: Eligibility<Alloc = I::Alloc>, C: Clock, W:
     offer_held(&mut *shared.hold(rt), pass, session, request, clock)
 }
 
-/// Takes the session's oldest reply, and writes it. Where the session has left and got all its replies, or the write
-/// failed, the session is dropped.
-pub fn write_turn<L: Ledger, I: Image, E: Eligibility<Alloc = I::Alloc>, O: Write, W: Wait>(
+/// Takes the session's oldest reply, where there is room for it, and writes the replies that were taken. Where the session has left
+/// and got all of them, or a write failed, the session is dropped.
+pub fn write_turn<L: Ledger, I: Image, E: Eligibility<Alloc = I::Alloc>, O: Write + Drop, W: Wait>(
     rt: &W,
     shared: &Shared<L, I, E>,
     pass: &mut Pass<L>,
     session: SessionId,
-    writer: &mut Counted<O>,
+    replies: &mut ReplyWriter<O, I::Alloc>,
 ) -> WriteTurn
-    ensures { IsWriteTurn pass.old session (O.contents writer.old.inner) (O.contents writer.new.inner) writer.old.failures writer.new.failures result pass.new }
+    ensures { IsWriteTurn pass.old session replies.old replies.new result pass.new }
 {
-    match shared.turn_take(rt, pass, session) {
-        Ok(Taken::Reply(reply)) => match put_reply(&reply, writer) {
-            Ok(()) => WriteTurn::Written,
-            Err(_) => drop_session(rt, shared, pass, session),
-        },
-        Ok(Taken::Empty) => WriteTurn::Idle,
-        Ok(Taken::End) => drop_session(rt, shared, pass, session),
-        Err(_) => WriteTurn::Ended,
+    let stop = replies.take_one(&mut *shared.hold(rt), pass, session);
+    if replies.write().is_err() {
+        return drop_session(rt, shared, pass, session);
+    }
+    match stop {
+        Stop::Full => WriteTurn::Written,
+        Stop::Empty => WriteTurn::Idle,
+        Stop::End => drop_session(rt, shared, pass, session),
+        Stop::Refused(_) => WriteTurn::Ended,
     }
 }
 

@@ -23,6 +23,7 @@ mod ending;
 mod entering;
 mod going;
 mod held;
+mod writing;
 
 type Heap<'a> = &'a Refusing<Global>;
 
@@ -92,6 +93,14 @@ enum Came {
 type Seen = (Came, Option<Trace>);
 
 type Put = (WriteTurn, Option<Trace>);
+
+/// Replies that are written to memory.
+type Text<'a> = ReplyWriter<Vec<u8, Heap<'a>>, Heap<'a>>;
+
+/// Where one reply at a time is taken.
+fn text_of(heap: Heap<'_>) -> Option<Text<'_>> {
+    ReplyWriter::new(heap, Vec::new(heap), 1).ok()
+}
 
 /// A session of an export of 4,096 bytes whose window is 1, and the pass that makes its turns.
 #[derive(Drop)]
@@ -189,8 +198,12 @@ impl<'a, L: Ledger> Seated<'a, L> {
         self.seen(turn)
     }
 
-    fn write<R: Wait, O: Write>(&mut self, rt: &R, writer: &mut Counted<O>) -> Put {
-        let turn = write_turn(rt, &self.shared, &mut self.pass, self.session, writer);
+    fn write<R: Wait, O: Write + Drop>(
+        &mut self,
+        rt: &R,
+        replies: &mut ReplyWriter<O, Heap<'a>>,
+    ) -> Put {
+        let turn = write_turn(rt, &self.shared, &mut self.pass, self.session, replies);
         (turn, self.pass.last())
     }
 

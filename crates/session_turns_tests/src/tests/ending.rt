@@ -32,9 +32,9 @@ fn sent<'a, L: Ledger, R: Wait>(
     heap: Heap<'a>,
     one: &mut Seated<'a, L>,
     source: Source<'_>,
+    mut writer: Text<'a>,
 ) -> (Seen, Seen, Put) {
     let mut reader = FrameReader::new(heap, Counted::new(source));
-    let mut writer = Counted::new(Vec::new(heap));
     let turn = one.read(rt, &mut reader);
     let again = one.read(rt, &mut reader);
     let end = one.write(rt, &mut writer);
@@ -58,7 +58,10 @@ fn leaves<'a, L: Ledger, R: Wait>(rt: &R, heap: Heap<'a>, blank: Blank, source: 
     let Some(mut one) = opened::<L, R>(rt, heap, blank) else {
         return false;
     };
-    is_left(sent(rt, heap, &mut one, source))
+    let Some(writer) = text_of(heap) else {
+        return false;
+    };
+    is_left(sent(rt, heap, &mut one, source, writer))
 }
 
 #[test]
@@ -95,8 +98,11 @@ fn leaves_without<'a, L: Ledger, R: Wait>(rt: &R, heap: Heap<'a>, blank: Blank, 
         bytes: WRITE.as_slice(),
         fails: false,
     };
+    let Some(writer) = text_of(heap) else {
+        return false;
+    };
     heap.arm(nth);
-    let seen = sent(rt, heap, &mut one, source);
+    let seen = sent(rt, heap, &mut one, source, writer);
     if heap.is_armed() {
         seen.0 == waits(head_of(1), 0)
     } else {
@@ -135,15 +141,16 @@ fn is_dropped<'a, L: Ledger, R: Wait>(
     rt: &R,
     one: &mut Seated<'a, L>,
     reader: &mut FrameReader<&[u8], Heap<'a>>,
-    writer: &mut Counted<Sink<'a>>,
+    writer: &mut ReplyWriter<Sink<'a>, Heap<'a>>,
 ) -> bool {
     one.write(rt, writer) == (WriteTurn::Ended, gone(AnswerTrace::Dropped))
-        && one.write(rt, writer) == (WriteTurn::Ended, take(AnswerTrace::NotOpen))
+        && one.write(rt, writer) == (WriteTurn::Ended, gone(AnswerTrace::NotOpen))
         && one.read(rt, reader) == (Came::Ended, leave(AnswerTrace::NotOpen))
 }
 
 /// One write failed, and the writer has so many bytes of the READ's reply.
-fn has_written(writer: Counted<Sink<'_>>, room: usize) -> bool {
+fn has_written<'a>(replies: ReplyWriter<Sink<'a>, Heap<'a>>, room: usize) -> bool {
+    let writer = replies.into_writer();
     let failures = writer.failures();
     let Sink { taken, .. } = writer.into_inner();
     failures == 1 && Some(taken.as_slice()) == ZEROS_READ.as_slice().get(..room)
@@ -160,7 +167,9 @@ fn fails_at<'a, L: Ledger, R: Wait>(rt: &R, heap: Heap<'a>, blank: Blank, room: 
     };
     let mut reader = FrameReader::new(heap, Counted::new(READ.as_slice()));
     let taken = Vec::new(heap);
-    let mut writer = Counted::new(Sink { taken, room });
+    let Ok(mut writer) = ReplyWriter::new(heap, Sink { taken, room }, 1) else {
+        return false;
+    };
     is_served(rt, &mut one, &mut reader)
         && is_dropped(rt, &mut one, &mut reader, &mut writer)
         && has_written(writer, room)

@@ -5,8 +5,6 @@ use super::*;
 
 type Wire<'a, 'b> = FrameReader<&'b [u8], Heap<'a>>;
 
-type Text<'a> = Counted<Vec<u8, Heap<'a>>>;
-
 /// The WRITE and the READ in one piece.
 fn both(heap: Heap<'_>) -> Option<Vec<u8, Heap<'_>>> {
     let mut sent = Vec::new(heap);
@@ -103,14 +101,17 @@ fn is_held<'a, L: Ledger, R: Wait>(rt: &R, heap: Heap<'a>, blank: Blank) -> bool
         return false;
     };
     let mut reader = FrameReader::new(heap, Counted::new(sent.as_slice()));
-    let mut writer = Counted::new(Vec::new(heap));
+    let Some(mut writer) = text_of(heap) else {
+        return false;
+    };
     let went = one_goes_in(rt, &mut one, &mut reader)
         && none_goes_in(rt, &mut one, &mut writer)
         && the_other_goes_in(rt, &mut one, &mut writer)
         && it_is_answered(rt, &mut one, &mut writer)
         && it_ends(rt, &mut one, &mut reader, &mut writer)
         && it_stays_ended(rt, &mut one, &mut reader, &mut writer);
-    went && writer.into_inner().as_slice() == REPLIES.as_slice() && are_counted(heap, one)
+    went && writer.into_writer().into_inner().as_slice() == REPLIES.as_slice()
+        && are_counted(heap, one)
 }
 
 /// The pass made 17 turns, and 11 of them were steps.

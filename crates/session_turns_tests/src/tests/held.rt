@@ -10,10 +10,10 @@ type Disks<'a, L> = Booked<L, Flat<Heap<'a>>, Listed<Heap<'a>>>;
 
 /// A server whose one session has a window of 2, and the pass that makes its turns.
 #[derive(Drop)]
-struct Unshared<'a, L: Ledger> {
-    disks: Disks<'a, L>,
-    pass: Pass<L>,
-    session: SessionId,
+pub struct Unshared<'a, L: Ledger> {
+    pub disks: Disks<'a, L>,
+    pub pass: Pass<L>,
+    pub session: SessionId,
 }
 
 fn attached<'a, L: Ledger>(heap: Heap<'a>, blank: Blank) -> Option<Unshared<'a, L>>
@@ -157,21 +157,41 @@ fn are_taken<'a, L: Ledger>(heap: Heap<'a>, one: &mut Unshared<'a, L>) -> bool {
         && one.takes(heap, 3, Stop::Refused(SessionRefusal::NotOpen), b"")
 }
 
+/// The two requests are handed in and served.
+fn are_served<'a, L: Ledger>(heap: Heap<'a>, one: &mut Unshared<'a, L>) -> bool {
+    let Some(sent) = sent(heap) else {
+        return false;
+    };
+    let mut reader = FrameReader::new(heap, Counted::new(sent.as_slice()));
+    are_handed_in(one, &mut reader) && one.serve() && one.serve()
+}
+
+/// A session whose two requests are served, and whose replies are there.
+pub fn served<'a, L: Ledger>(heap: Heap<'a>, blank: Blank) -> Option<Unshared<'a, L>>
+    requires name { blank.name ≡ L.name }
+    requires parts { blank.parts ≡ L.parts }
+    requires one { blank.parts ≡ 1 }
+{
+    let Some(mut one) = attached::<L>(heap, blank) else {
+        return None;
+    };
+    if are_served(heap, &mut one) {
+        Some(one)
+    } else {
+        None
+    }
+}
+
 /// Two requests are served, and their replies taken.
 fn takes_in_a_row<'a, L: Ledger>(heap: Heap<'a>, blank: Blank) -> bool
     requires name { blank.name ≡ L.name }
     requires parts { blank.parts ≡ L.parts }
     requires one { blank.parts ≡ 1 }
 {
-    let Some(sent) = sent(heap) else {
-        return false;
-    };
-    let Some(mut one) = attached::<L>(heap, blank) else {
-        return false;
-    };
-    let mut reader = FrameReader::new(heap, Counted::new(sent.as_slice()));
-    let served = are_handed_in(&mut one, &mut reader) && one.serve() && one.serve();
-    served && are_taken(heap, &mut one)
+    match served::<L>(heap, blank) {
+        Some(mut one) => are_taken(heap, &mut one),
+        None => false,
+    }
 }
 
 #[test]
