@@ -47,7 +47,6 @@ GUARD = "it hands out the one server under the lock"
 
 # Which functions have no edit, and why.
 NONE = {
-    "export_cell Base::image": ONE_FIELD,
     "export_cell ExportCell::live": ONE_FIELD,
     "export_cell ExportCell::base": ONE_FIELD,
     "export_cell ExportCell::entries": ONE_FIELD,

@@ -17,7 +17,7 @@ if_not false x y h = refl
 within_bytes : (m n : ℕ) → (nat_lt m 4096 && nat_le n 67108864) ≡ true → n ≤ 67108864
 within_bytes m n h = grind (arith, nat_tests)
 
-drop-twice : {X : Type 0} (n : ℕ) (xs : List X) → drop 1 (drop n xs) ≡ drop (suc n) xs
+pub drop-twice : {X : Type 0} (n : ℕ) (xs : List X) → drop 1 (drop n xs) ≡ drop (suc n) xs
 drop-twice zero xs = refl
 drop-twice (suc n) [] = refl
 drop-twice (suc n) (x ∷ xs) = drop-twice n xs

@@ -14,11 +14,11 @@ pub alone-snoc : (terms : Terms) (base : Alone) (log : List KeptStep) (one : Kep
 alone-snoc terms base [] one = refl
 alone-snoc terms base (first ∷ log) one = alone-snoc terms (own_step terms base first).state log one
 
-log-snoc : (terms : Terms) (inflight : ℕ) (base : Alone) (log : List KeptStep) (one : KeptStep) → IsLog terms inflight base log → IsLogged terms inflight (alone terms base log) one → IsLog terms inflight base (log ++ one ∷ [])
+pub log-snoc : (terms : Terms) (inflight : ℕ) (base : Alone) (log : List KeptStep) (one : KeptStep) → IsLog terms inflight base log → IsLogged terms inflight (alone terms base log) one → IsLog terms inflight base (log ++ one ∷ [])
 log-snoc terms inflight base [] one is last = (last, tt)
 log-snoc terms inflight base (first ∷ log) one is last = (is.0, log-snoc terms inflight (own_step terms base first).state log one is.1 last)
 
-payload-snoc : (log : List KeptStep) (one : KeptStep) → payload_in (log ++ one ∷ []) ≡ payload_in log + payload_of one
+pub payload-snoc : (log : List KeptStep) (one : KeptStep) → payload_in (log ++ one ∷ []) ≡ payload_in log + payload_of one
 payload-snoc [] one = omega arith
 payload-snoc (first ∷ log) one = let a = payload-snoc log one in omega arith
 
@@ -134,16 +134,12 @@ cell-advance live base new one log rest payload capacity capacity' is split does
           wide = omega arith;
         }
 
--- the oldest step of a log is counted when it is made again
-pub oldest_makes : (live base new : Whole) (one : KeptStep) (log rest : List KeptStep) (payload capacity : ℕ) (counted : Bool) → IsCell live base log payload capacity → log ≡ one ∷ rest → Makes base new one counted → Makes base new one true
-oldest_makes live base new one log rest payload capacity counted is split does =
+-- the oldest step of a log may be made again
+pub oldest_logged : (live base : Whole) (one : KeptStep) (log rest : List KeptStep) (payload capacity : ℕ) → IsCell live base log payload capacity → log ≡ one ∷ rest → IsLogged base.terms base.inflight base.state one
+oldest_logged live base one log rest payload capacity is split =
     let each : IsLog live.terms live.inflight base.state (one ∷ rest) = subst (λ (l : List KeptStep). IsLog live.terms live.inflight base.state l) split is.journal.each in
-    record {
-      state = does.state;
-      told = ap (λ (t : Terms). is_counted (own_step t base.state one).answer) is.terms ∙ each.0.counted;
-      terms = does.terms;
-      inflight = does.inflight;
-    }
+    subst (λ (t : Terms). IsLogged t base.inflight base.state one) (sym is.terms)
+    (subst (λ i. IsLogged live.terms i base.state one) (sym is.inflight) each.0)
 
 -- what a reader of the cell sees of that
 pub value-advance : (live base new : Whole) (one : KeptStep) (log rest : List KeptStep) (room room' : ℕ) (counted : Bool)

@@ -1,41 +1,51 @@
 //! The export as it was before the first step of its log.
-ghost use Rattle.std.specs.Prelude.{◌≡◌, IfOk, IfErr, OnOk};
+ghost use Rattle.std.specs.Prelude.{◌≡◌, ◌<◌, ◌≤◌, ◌==◌, true, length, is_some, IfOk, IfErr, IfSome, OnOk, OnErr};
 ghost use Rattle.nbd_commands.specs.Terms.{terms_of};
 ghost use Rattle.nbd_commands.specs.Exports.{IsWithin};
-ghost use Rattle.lone_export.specs.Lone.{opening_of, MayReplay};
-ghost use Rattle.export_cell.specs.Past.{Goes};
+ghost use Rattle.export_cell.specs.Journal.{kept_step, IsLogged};
+ghost use Rattle.export_cell.specs.Based.{Follows, IsCaughtUp, IsShort, has_place, opening_based, shorter, whole_of};
 
 mod remaking;
+mod replica;
 
-use crate::late::Late;
+use crate::room::{payload_of, widen};
 use export_store::Image;
-use lone_export::{Lone, Step};
+use lone_export::Step;
 use nbd_base::NoMemory;
 use nbd_commands::ExportConfig;
 use payload::Page;
-use remaking::{made_in_place, remade};
+use replica::Replica;
+use std::collections::VecDeque;
 use std::marker::Model;
-use std::mem;
+
+/// No more steps are queued.
+const QUEUED: usize = 8192;
+
+/// The most bytes of payload in a queue: 64 MiB and the longest request.
+const QUEUED_PAYLOAD: usize = 100_663_296;
 
 /// An export as it was some steps ago.
 ///
-/// Its latest steps may be late: those of a request that comes to an export without any other are made at once, with its Perform, or where
-/// it is a READ with the step that takes its reply, which nobody looks at: so no data are read.
+/// Its latest steps may be queued: they aren't made yet, but it is as it is once they are. So a hold of the server makes a few of them, where
+/// many went into it at once.
 #[derive(Drop)]
 pub struct Base<I: Image> {
-    lone: Lone<I>,
-    late: Late<I::Alloc>,
+    replica: Replica<I>,
+    // The steps that aren't made yet, oldest first.
+    queue: VecDeque<Step<I::Alloc>, I::Alloc>,
+    // The bytes of payload in the queue.
+    payload: usize,
 }
 
 impl<I: Image> Model for Base<I> {
-    ghost use Rattle.lone_export.specs.Lone.{Whole};
-    ghost use Rattle.export_cell.specs.Past.{past_of, IsPast};
+    ghost use Rattle.export_cell.specs.Journal.{kept_log};
+    ghost use Rattle.export_cell.specs.Based.{Based, based, IsBased};
 
-    ghost Value = { Whole };
+    ghost Value = { Based };
 
-    ghost view = { λ b. past_of b.lone b.late };
+    ghost view = { λ b. based b.replica (kept_log b.queue.items) };
 
-    ghost invariant = { λ b. IsPast b.lone b.late };
+    ghost invariant = { λ b. IsBased b.replica (kept_log b.queue.items) b.payload };
 }
 
 impl<I: Image> Base<I> {
@@ -46,12 +56,13 @@ impl<I: Image> Base<I> {
         inflight: usize,
     ) -> Result<Self, NoMemory>
         requires { IsWithin 4096 inflight }
-        ensures { IfOk result (λ base. base ≡ opening_of (terms_of config.now) inflight) }
+        ensures { IfOk result (λ base. base ≡ opening_based (terms_of config.now) inflight) }
     {
-        let lone = Lone::new(alloc, config, inflight)?;
+        let replica = Replica::new(alloc, config, inflight)?;
         Ok(Base {
-            lone,
-            late: Late::Nothing,
+            replica,
+            queue: VecDeque::new(alloc),
+            payload: 0,
         })
     }
 
@@ -59,49 +70,133 @@ impl<I: Image> Base<I> {
     pub fn steps(&self) -> u64
         ensures { result ≡ self.now.state.count }
     {
-        self.lone.laws();
-        match &self.late {
-            Late::Nothing => self.lone.steps(),
-            Late::Arrived(_) => self.lone.steps() + 1,
-            Late::Picked(_) => self.lone.steps() + 2,
-            Late::Read(_) => self.lone.steps() + 3,
-            Late::Performed(_) => self.lone.steps() + 1,
-        }
+        self.replica.steps() + self.queue.len() as u64
     }
 
-    /// The bytes as they were.
-    pub fn image(&self) -> &I
-        ensures { I.bytes result.now ≡ self.now.state.image }
+    /// How many of its steps are queued: 8,192 at most, with 96 MiB of payload.
+    pub fn queued(&self) -> usize
+        ensures number { result ≡ length self.now.queue }
+        ensures short { IsShort self.now.queue }
     {
-        self.lone.image()
+        let _ = &self.payload;
+        self.queue.len()
+    }
+
+    /// The bytes as they were. None where steps are queued: they aren't there yet.
+    pub fn image(&self) -> Option<&I>
+        ensures bytes { IfSome result (λ image. I.bytes image.now ≡ self.now.state.image) }
+        ensures there { is_some result ≡ (length self.now.queue == 0) }
+    {
+        if !self.queue.is_empty() {
+            return None;
+        }
+        Some(self.replica.image())
     }
 
     /// Exchanges the pages that writes have put others in place of for an empty list.
     pub(crate) fn sweep(&mut self, outdated: &mut Vec<Page<I::Alloc>, I::Alloc>)
         ensures { self.new ≡ self.old }
     {
-        self.lone.sweep(outdated);
+        self.replica.sweep(outdated);
     }
 
-    /// Makes a step, as it was made before. Where memory is refused it comes back.
-    pub(crate) fn replay(&mut self, step: Step<I::Alloc>) -> Result<(), Step<I::Alloc>>
-        requires { MayReplay self.old step }
-        ensures ok { OnOk result (Goes {A = I.Alloc} self.old self.new step) }
+    /// Makes the oldest steps that are queued, until they came to so much work or one found no memory. Tells how much is left to be done.
+    pub(crate) fn catch_up(&mut self, most: usize) -> usize
+        ensures { IsCaughtUp most self.old self.new }
+    {
+        let mut left = most;
+        while left > 0 && self.queued() > 0 {
+            let Ok(work) = self.make_oldest() else {
+                return left;
+            };
+            left = left.saturating_sub(work);
+        }
+        left
+    }
+
+    /// One step more, which is made as it was made before: at once where none is queued and there is work left to be done, and else it is
+    /// queued behind the others. Tells how much work is left to be done then. Where memory is refused the step comes back.
+    pub(crate) fn add(&mut self, step: Step<I::Alloc>, left: usize) -> Result<usize, Step<I::Alloc>>
+        requires { IsLogged self.old.terms self.old.inflight self.old.state (kept_step step) }
+        ensures ok { IfOk result (λ more. Follows self.old self.new (kept_step step)) }
+        ensures err { IfErr result (λ back. (back ≡ step) × (whole_of self.new ≡ whole_of self.old)) }
+    {
+        if left > 0 && self.queued() == 0 {
+            return self.make(step, left);
+        }
+        self.put_off(step)
+    }
+
+    // Makes a step where none is queued.
+    fn make(&mut self, step: Step<I::Alloc>, left: usize) -> Result<usize, Step<I::Alloc>>
+        requires first { length self.old.queue ≡ 0 }
+        requires logged { IsLogged self.old.terms self.old.inflight self.old.state (kept_step step) }
+        ensures ok { IfOk result (λ more. Follows self.old self.new (kept_step step)) }
         ensures err { IfErr result (λ back. (back ≡ step) × (self.new ≡ self.old)) }
     {
-        if made_in_place(&mut self.lone, &mut self.late, &step) {
-            return Ok(());
+        let work = self.replica.work_of(&step);
+        if let Err(back) = self.replica.replay(step) {
+            return Err(back);
         }
-        let late = mem::replace(&mut self.late, Late::Nothing);
-        match remade(&mut self.lone, late, step) {
-            Ok(late) => {
-                self.late = late;
-                Ok(())
-            }
-            Err(back) => {
-                self.late = back.late;
-                Err(back.step)
+        Ok(left.saturating_sub(work))
+    }
+
+    // Queues a step behind the others; where they leave no place for it, the oldest are made. No work is left to be done then.
+    fn put_off(&mut self, step: Step<I::Alloc>) -> Result<usize, Step<I::Alloc>>
+        requires { IsLogged self.old.terms self.old.inflight self.old.state (kept_step step) }
+        ensures ok { IfOk result (λ more. Follows self.old self.new (kept_step step)) }
+        ensures err { IfErr result (λ back. (back ≡ step) × (whole_of self.new ≡ whole_of self.old)) }
+    {
+        let bytes = payload_of(&step);
+        if let Err(_) = self.make_place(bytes) {
+            return Err(step);
+        }
+        if let Err(_) = widen(&mut self.queue, 1) {
+            return Err(step);
+        }
+        self.queue.push_back_reserved(step);
+        self.payload += bytes;
+        Ok(0)
+    }
+
+    // Makes the oldest steps that are queued, until one with so many bytes of payload has its place behind the others.
+    fn make_place(&mut self, bytes: usize) -> Result<(), NoMemory>
+        requires { bytes ≤ 33554432 }
+        ensures same { whole_of self.new ≡ whole_of self.old }
+        ensures place { OnOk result (has_place bytes self.new.queue ≡ true) }
+    {
+        while !self.has_place(bytes) {
+            if let Err(error) = self.make_oldest() {
+                return Err(error);
             }
         }
+        Ok(())
+    }
+
+    // Whether a step with so many bytes of payload has its place behind those that are queued.
+    fn has_place(&self, bytes: usize) -> bool
+        requires { bytes ≤ 33554432 }
+        ensures { result ≡ has_place bytes self.now.queue }
+    {
+        self.payload + bytes <= QUEUED_PAYLOAD && self.queue.len() < QUEUED
+    }
+
+    // The oldest step that is queued is made. Tells how much work that was.
+    fn make_oldest(&mut self) -> Result<usize, NoMemory>
+        requires { 0 < length self.old.queue }
+        ensures ok { IfOk result (λ work. (self.new ≡ shorter 1 self.old) × (1 ≤ work)) }
+        ensures err { OnErr result (self.new ≡ self.old) }
+    {
+        let Some(step) = self.queue.pop_front() else {
+            unreachable!();
+        };
+        let work = self.replica.work_of(&step);
+        let bytes = payload_of(&step);
+        if let Err(step) = self.replica.replay(step) {
+            self.queue.push_front_reserved(step);
+            return Err(NoMemory);
+        }
+        self.payload -= bytes;
+        Ok(work)
     }
 }

@@ -12,6 +12,7 @@ mod trimming;
 use crate::base::Base;
 use crate::outdated::Outdated;
 use crate::refusal::{ArriveFault, NotArrived};
+use crate::work::{ALLOWANCE, allowance_of};
 use export_queue::Picked;
 use export_store::Image;
 use lone_export::{Arrived, Lone, NotArrived as NotArrivedAlone, NotAttached, Step};
@@ -37,13 +38,14 @@ pub struct ExportCell<I: Image> {
 impl<I: Image> Model for ExportCell<I> {
     ghost use Rattle.std.specs.VecDeque.{deque_capacity};
     ghost use Rattle.lone_export.specs.declared.step.StepAnswer.TheVariants.{Performed};
+    ghost use Rattle.export_cell.specs.Based.{whole_of};
     ghost use Rattle.export_cell.specs.Journal.{Cell, cell_of, kept_log, IsCell};
 
     ghost Value = { Cell };
 
-    ghost view = { λ c. cell_of c.live c.base (kept_log c.log.items) (deque_capacity c.log) };
+    ghost view = { λ c. cell_of c.live (whole_of c.base) (kept_log c.log.items) (deque_capacity c.log) };
 
-    ghost invariant = { λ c. IsCell c.live c.base (kept_log c.log.items) c.payload (deque_capacity c.log) };
+    ghost invariant = { λ c. IsCell c.live (whole_of c.base) (kept_log c.log.items) c.payload (deque_capacity c.log) };
 }
 
 impl<I: Image> ExportCell<I> {
@@ -114,6 +116,14 @@ impl<I: Image> ExportCell<I> {
         self.base.sweep(&mut outdated.base);
     }
 
+    /// Makes the oldest of the steps that are queued for the base, until they came to so much work or one found no memory. Work is counted in
+    /// pages (`work_of`), and one for each step; the last of the steps may be more than was left. Where `most` is the greatest number all are made.
+    pub fn catch_up(&mut self, most: usize)
+        ensures { self.new ≡ self.old }
+    {
+        let _ = self.work_off(most);
+    }
+
     /// Opens a session and gives its number. The oldest steps of the log go into the base, as many as have to.
     pub fn attach(&mut self) -> Result<u64, NotAttached>
         ensures step { DoesOr {A = I.Alloc} self.old.live self.new.live Step.Attach (attach_said result) }
@@ -124,7 +134,7 @@ impl<I: Image> ExportCell<I> {
         if let Err(refusal) = self.live.may_attach() {
             return Err(NotAttached::Refused(refusal));
         }
-        if let Err(_) = self.make_room(0) {
+        if let Err(_) = self.make_room(0, ALLOWANCE) {
             return Err(NotAttached::NoMemory);
         }
         match self.live.attach() {
@@ -182,7 +192,7 @@ impl<I: Image> ExportCell<I> {
         if let Err(_) = self.live.may_arrive(session) {
             return Ok(None);
         }
-        if let Err(error) = self.make_room(request.payload().len()) {
+        if let Err(error) = self.make_room(request.payload().len(), allowance_of(request.head())) {
             return Err(error);
         }
         let Ok(kept) = request.clone() else {

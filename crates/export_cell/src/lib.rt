@@ -6,8 +6,11 @@ mod cell;
 mod late;
 mod outdated;
 mod refusal;
+mod room;
+mod work;
 
 pub use base::Base;
 pub use cell::ExportCell;
 pub use outdated::Outdated;
 pub use refusal::{ArriveFault, NotArrived};
+pub use work::{allowance_of, work_of};

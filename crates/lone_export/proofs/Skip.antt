@@ -1,5 +1,5 @@
 -- A READ whose reply is taken at once, so that nobody looks at its data.
-use Rattle.std.proofs.Common.{◌≡◌, ℕ, zero, suc, ◌+◌, Bool, true, false, ◌==◌, ◌&&◌, ◌||◌, if◌then◌else◌, List, [], ◌∷◌, length, drop, slice_get, Option, Some, None, Result, Ok, Err, refl, sym, ap, ◌∙◌, arith}
+use Rattle.std.proofs.Common.{◌≡◌, ℕ, zero, suc, ◌+◌, Bool, true, false, ◌==◌, ◌&&◌, ◌||◌, if◌then◌else◌, List, [], ◌∷◌, length, drop, slice_get, Option, Some, None, option_map, Result, Ok, Err, refl, sym, ap, ◌∙◌, arith}
 use Rattle.std.proofs.lemmas.Bool.{eqb-true}
 use Rattle.std.specs.FinMap as fin
 use Rattle.nbd_base.specs.Words.{when_some}
@@ -16,7 +16,7 @@ use Rattle.reply_box.specs.declared.seat.Taken.{Taken}
 use Rattle.reply_box.specs.declared.seat.Taken.TheVariants as taking
 use Rattle.export_queue.specs.Queue.{Queue, item_held, slot_in}
 use Rattle.lone_export.specs.Alone.{Alone, Job, Moved, own_step, outstanding, moves, stays}
-use Rattle.lone_export.specs.Lone.{Whole, Does, DoesAll, is_reading, is_read_next}
+use Rattle.lone_export.specs.Lone.{Whole, Does, DoesAll, is_reading, head_at, is_read_next}
 use Rattle.lone_export.specs.Parts.{Parts, state_at, terms_at, whole_of, IsLone, Settles}
 use Rattle.lone_export.specs.declared.row.Row.{Row}
 use Rattle.lone_export.specs.declared.step.Step.TheVariants as step
@@ -111,6 +111,12 @@ module _ (A : Type 0) where
 
   pub not_reading : (p : Parts A) (n : ℕ) (w : Whole) → IsLone p → whole_of p ≡ w → None ≡ slot_in (fin.get p.queue.out n) → false ≡ is_reading w.state n
   not_reading p n w is e none = sym (ap (λ (o : Option Job). when_some o (λ job. is_read job.request) false) (no_job p n none)) ∙ ap (λ (v : Whole). is_reading v.state n) e
+
+  pub head_is : (p : Parts A) (slot n : ℕ) (row : Row A) (w : Whole) → IsLone p → whole_of p ≡ w → Some row ≡ item_held p.queue slot n → Some row.request.head ≡ head_at w.state n
+  head_is p slot n row w is e h = sym (ap (λ (o : Option Job). option_map (λ job. job.request.head) o) (found_held p slot n row (sym h))) ∙ ap (λ (v : Whole). head_at v.state n) e
+
+  pub no_head : (p : Parts A) (n : ℕ) (w : Whole) → IsLone p → whole_of p ≡ w → None ≡ slot_in (fin.get p.queue.out n) → None ≡ head_at w.state n
+  no_head p n w is e none = sym (ap (λ (o : Option Job). option_map (λ job. job.request.head) o) (no_job p n none)) ∙ ap (λ (v : Whole). head_at v.state n) e
 
   -- whether a request's reply would be the next that session s takes
   abbrev is_next : Box → ℕ → ℕ → RequestMessage → Bool

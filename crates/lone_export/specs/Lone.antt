@@ -1,7 +1,8 @@
 -- What a contract sees of a `Lone`, and what its calls answer, as steps.
-use Rattle.std.specs.Prelude.{◌≡◌, ◌⊎◌, ℕ, ◌+◌, ◌<◌, ◌≤◌, ◌^◌, ◌==◌, nat_le, ◌&&◌, Bool, true, false, not, List, [], ◌∷◌, ◌++◌, length, filter, find, if◌then◌else◌, Option, Some, None, Result, Ok, Err}
+use Rattle.std.specs.Prelude.{◌≡◌, ◌⊎◌, ℕ, ◌+◌, ◌<◌, ◌≤◌, ◌^◌, ◌==◌, nat_le, ◌&&◌, Bool, true, false, not, List, [], ◌∷◌, ◌++◌, length, filter, find, if◌then◌else◌, Option, Some, None, option_map, Result, Ok, Err}
 use Rattle.nbd_base.specs.Words.{when_some}
 use Rattle.nbd_wire.specs.Grammar.{RequestMessage}
+use Rattle.nbd_wire.specs.declared.requests.RequestHead.{RequestHead}
 use Rattle.nbd_commands.specs.Terms.{Terms}
 use Rattle.nbd_commands.specs.Verdict.{is_read, verdict_of}
 use Rattle.nbd_commands.specs.Meaning.{may_want_memory}
@@ -89,6 +90,10 @@ mark_again memory request = not (not memory && may_want_memory request)
 -- the request that is in service under this number is a READ
 abbrev pub is_reading : Alone → ℕ → Bool
 is_reading state n = when_some (find (λ job. job.number == n) state.out) (λ job. is_read job.request) false
+
+-- the head of the request that is in service under this number
+abbrev pub head_at : Alone → ℕ → Option RequestHead
+head_at state n = option_map (λ job. job.request.head) (find (λ job. job.number == n) state.out)
 
 -- it is one of session s, which has no reply that would be taken before
 abbrev pub is_read_next : Alone → ℕ → ℕ → Bool

@@ -7,7 +7,7 @@ use crate::session_link::SessionLink;
 use crate::under_way::Admitted;
 use export_cell::Outdated;
 use nbd_base::NoMemory;
-use nbd_service::policy::{OUTDATED_PAGES, performs_itself, size_of};
+use nbd_service::policy::{OUTDATED_PAGES, QUEUED_WORK, performs_itself, size_of};
 use nbd_service::{Asked, Disks, RequestSize, Service, Wakeups, prefetch};
 use nbd_session::{Counted, Frame, FrameReader};
 use nbd_wire::{Request, RequestHead};
@@ -161,6 +161,7 @@ impl<'a, 'b, R: Wait + time::Clock> RequestSource<'a, 'b, R> {
         }
         link.bytes.add(admitted);
         batch.waits = disks.server().waiting() > 0;
+        disks.catch_up(link.session.export, QUEUED_WORK);
         disks.sweep(link.session.export, &mut self.outdated);
         batch
     }

@@ -82,6 +82,10 @@ pub const STEPS_OF_A_REQUEST: usize = 4;
 /// How many pages that writes put others in place of are let go once the server isn't held any more, in the export and in its base.
 pub const OUTDATED_PAGES: usize = 256;
 
+/// How much work is done at a hold's end on the base of its export, where steps are queued for that: in pages that are written, and one for
+/// each step (`export_cell::work_of`).
+pub const QUEUED_WORK: usize = 256;
+
 /// How many bytes the READs and WRITEs of a session may come to that are under way, before its reader hands in no more.
 pub const SESSION_BYTES: u64 = 67_108_864;
 

@@ -34,8 +34,11 @@ pub fn prefetch<L: Ledger>(
     }
 }
 
+/// Where steps are queued for the base, those of the log aren't the next that go into it: then it touches nothing.
 fn touch_base(cell: &ExportCell<Paged<Global>>, most: usize) -> u64 {
-    let base = cell.base().image();
+    let Some(base) = cell.base().image() else {
+        return 0;
+    };
     let mut touched = 0u64;
     for step in cell
         .entries()

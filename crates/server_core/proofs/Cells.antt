@@ -1,5 +1,6 @@
 -- Each export of a server comes of its journal, since its cell does.
-use Rattle.std.proofs.Common.{◌≡◌, ℕ, zero, suc, ◌<◌, List, [], ◌∷◌, length, take, get_or, refl, sym, ◌∙◌, subst, arith}
+use Rattle.std.proofs.Common.{◌≡◌, ℕ, zero, suc, ◌<◌, List, [], ◌∷◌, length, take, get_or, set, refl, sym, ap, ◌∙◌, subst, arith}
+use Rattle.std.proofs.lemmas.List.{set-get_or}
 use Rattle.std.proofs.lemmas.Option.{same_Some, slice_get_within}
 use Rattle.nbd_commands.specs.Terms.{Terms}
 use Rattle.lone_export.specs.Alone.{Alone}
@@ -17,6 +18,10 @@ use Rattle.server_core.proofs.Journals.{terms_at, journal_at, live_is}
 
 abbrev whole : Terms → ℕ → Alone → Whole
 whole terms inflight state = record { terms = terms; inflight = inflight; state = state; slots = [] }
+
+-- a call that changes nothing of an export changes nothing of the others
+pub put_back : (ms : List Standing) (e : ℕ) (m m' : Standing) → m' ≡ m → m ≡ get_or ms e m → set ms e m' ≡ ms
+put_back ms e m m' same at = ap (set ms e) (same ∙ at) ∙ set-get_or ms e m
 
 -- ---- of one export
 pub comes_of_journal : (m : Kept) → IsMember m → IsJournal m.whole m.journal → ComesOfJournal (standing_of m)

@@ -135,6 +135,13 @@ impl<I: Image> Member<I> {
         self.cell.sweep(outdated);
     }
 
+    /// Makes some of the steps that are queued for its base (`ExportCell::catch_up`).
+    pub(crate) fn catch_up(&mut self, most: usize)
+        ensures { self.new ≡ self.old }
+    {
+        self.cell.catch_up(most);
+    }
+
     /// Does nothing: its contract says what is true of every member.
     pub(crate) fn kept(&self)
         ensures { ComesOfJournal self.now }

@@ -243,6 +243,17 @@ impl<I: Image, E: Eligibility<Alloc = I::Alloc>> Server<I, E> {
         self.members[export as usize].sweep(outdated);
     }
 
+    /// Makes some of the steps that are queued for an export's base, so much work at most (`ExportCell::catch_up`). Where there is no such
+    /// export nothing is done.
+    pub fn catch_up(&mut self, export: u32, most: usize)
+        ensures { self.new ≡ self.old }
+    {
+        if export as usize >= self.members.len() {
+            return;
+        }
+        self.members[export as usize].catch_up(most);
+    }
+
     /// Nothing more arrives on a session that is open. It takes no memory.
     pub fn leave(&mut self, session: SessionId) -> Result<(), SessionRefusal>
         ensures step { Stepped {A = I.Alloc} self.old (event.Leave session.export session.number) self.new (leave_says result) }

@@ -212,6 +212,13 @@ impl<L: Ledger, I: Image, E: Eligibility<Alloc = I::Alloc>> Booked<L, I, E> {
         self.server.sweep(export, outdated);
     }
 
+    /// Makes some of the steps that are queued for an export's base (`Server::catch_up`).
+    pub fn catch_up(&mut self, export: u32, most: usize)
+        ensures { self.new ≡ self.old }
+    {
+        self.server.catch_up(export, most);
+    }
+
     /// How many passes there are of its book.
     pub fn passes(&self) -> u64
         ensures { result ≡ L.parts }

@@ -334,7 +334,7 @@ fn has_tags<A: Allocator + Copy>(alloc: A, server: &Old<A>) -> bool {
     }
 }
 
-// Whether a sweep leaves such a server as it was.
+// Whether a sweep leaves such a server as it was, and its base's catching up.
 fn is_swept<L: Ledger>(
     alloc: Global,
     booked: &mut Booked<L, Flat<Global>, Listed<Global>>,
@@ -343,6 +343,7 @@ fn is_swept<L: Ledger>(
         return false;
     };
     booked.sweep(0, &mut outdated);
+    booked.catch_up(0, 1);
     is_served(booked.server()) && has_tags(alloc, booked.server())
 }
 

@@ -1,15 +1,13 @@
 //! How the log is kept short, and how it gets its room.
-ghost use Rattle.std.specs.Prelude.{◌≡◌, ◌+◌, ◌*◌, ◌<◌, ◌≤◌, min, length, OnOk, OnErr};
-ghost use Rattle.std.specs.VecDeque.{deque_capacity};
+ghost use Rattle.std.specs.Prelude.{◌≡◌, ◌+◌, ◌<◌, ◌≤◌, length, IfOk, OnOk, OnErr};
 ghost use Rattle.lone_export.specs.Calls.{to_come};
-ghost use Rattle.export_cell.specs.Journal.{kept_step, payload_of, fits, surplus, advanced_cell, trimmed_cell, HasRoom, IsAdvanced, IsTrimming};
+ghost use Rattle.export_cell.specs.Journal.{fits, surplus, advanced_cell, trimmed_cell, HasRoom, IsAdvanced, IsTrimming};
 
 use crate::cell::ExportCell;
+use crate::room::{payload_of, widen};
 use export_store::Image;
-use lone_export::{Lone, Step};
+use lone_export::Lone;
 use nbd_base::NoMemory;
-use std::alloc::Allocator;
-use std::collections::VecDeque;
 
 /// Before an attach or an arrival the log has fewer steps.
 const ENTRIES: usize = 4096;
@@ -20,10 +18,6 @@ const PAYLOAD: usize = 67_108_864;
 /// The most steps that an attach or an arrival brings, itself among them.
 const BROUGHT: usize = 4;
 
-/// The room that a log gets first. Doubled eight times it is that of 4,352 steps, in which a full log and what is to come mostly fits. In
-/// twice as much its steps would go round in twice as much memory, and more of it would have left the processor's cache.
-const FIRST_ROOM: usize = 17;
-
 /// How many steps can still come of what is there, with those of an attach or an arrival.
 fn steps_brought<I: Image>(live: &Lone<I>) -> usize
     ensures { result ≡ to_come live.now.state + 4 }
@@ -32,44 +26,17 @@ fn steps_brought<I: Image>(live: &Lone<I>) -> usize
     live.to_come() as usize + BROUGHT
 }
 
-/// The bytes of payload of a step.
-fn payload_of<A: Allocator>(step: &Step<A>) -> usize
-    ensures { result ≡ payload_of (kept_step step.now) }
-{
-    match step {
-        Step::Arrive { request, .. } => request.payload().len(),
-        _ => 0,
-    }
-}
-
-/// Room for so many elements more. Where it has to grow it at least doubles, so that the elements are seldom moved.
-fn widen<T, A: Allocator>(log: &mut VecDeque<T, A>, more: usize) -> Result<(), NoMemory>
-    ensures items { log.new.items ≡ log.old.items }
-    ensures room { OnOk result (length log.new.items + more ≤ deque_capacity log.new) }
-    ensures capacity { deque_capacity log.old ≤ deque_capacity log.new }
-    ensures doubles { OnOk result (deque_capacity log.old < length log.old.items + more → min (deque_capacity log.old * 2) 18446744073709551615 ≤ deque_capacity log.new) }
-{
-    let (room, len) = (log.capacity(), log.len());
-    if more <= room - len {
-        return Ok(());
-    }
-    let twice = room.saturating_mul(2);
-    if log.reserve(more.max(twice - len).max(FIRST_ROOM)).is_err() {
-        return Err(NoMemory);
-    }
-    Ok(())
-}
-
 impl<I: Image> ExportCell<I> {
-    // Room for a step that brings so many bytes of payload, and for all the steps that it can bring.
-    pub(super) fn make_room(&mut self, bytes: usize) -> Result<(), NoMemory>
+    // Room for a step that brings so many bytes of payload, and for all the steps that it can bring. So much of the base's work is done.
+    pub(super) fn make_room(&mut self, bytes: usize, most: usize) -> Result<(), NoMemory>
         requires { bytes ≤ 33554432 }
         ensures live { self.new.live ≡ self.old.live }
         ensures journal { OnOk result (self.new.journal ≡ (trimmed_cell bytes self.old).journal) }
         ensures room { OnOk result (HasRoom bytes self.new) }
         ensures err { OnErr result (IsAdvanced self.old.live.terms (surplus bytes self.old.journal.log) self.old.journal self.new.journal) }
     {
-        if let Err(error) = self.trim(bytes) {
+        let left = self.work_off(most);
+        if let Err(error) = self.trim(bytes, left) {
             return Err(error);
         }
         let more = steps_brought(&self.live);
@@ -79,15 +46,24 @@ impl<I: Image> ExportCell<I> {
         Ok(())
     }
 
-    // The oldest steps go into the base, as many as have to.
-    fn trim(&mut self, bytes: usize) -> Result<(), NoMemory>
+    // Some of the steps that are queued are made. Tells how much work is left to be done.
+    pub(super) fn work_off(&mut self, most: usize) -> usize
+        ensures { self.new ≡ self.old }
+    {
+        self.base.catch_up(most)
+    }
+
+    // The oldest steps go into the base, as many as have to, and so much work at most is done at once.
+    fn trim(&mut self, bytes: usize, most: usize) -> Result<(), NoMemory>
         requires { bytes ≤ 33554432 }
         ensures ok { OnOk result (self.new ≡ trimmed_cell bytes self.old) }
         ensures err { OnErr result (IsTrimming bytes self.old self.new) }
     {
+        let mut left = most;
         while !self.is_fit(bytes) {
-            if let Err(error) = self.advance() {
-                return Err(error);
+            match self.advance(left) {
+                Ok(more) => left = more,
+                Err(error) => return Err(error),
             }
         }
         Ok(())
@@ -102,21 +78,25 @@ impl<I: Image> ExportCell<I> {
         self.log.len() < ENTRIES && self.payload + bytes <= PAYLOAD
     }
 
-    // The oldest step goes into the base.
-    fn advance(&mut self) -> Result<(), NoMemory>
+    // The oldest step goes into the base. Tells how much work is left to be done then.
+    fn advance(&mut self, left: usize) -> Result<usize, NoMemory>
         requires { 0 < length self.old.journal.log }
-        ensures ok { OnOk result (self.new ≡ advanced_cell 1 self.old) }
+        ensures ok { IfOk result (λ more. self.new ≡ advanced_cell 1 self.old) }
         ensures err { OnErr result (self.new ≡ self.old) }
     {
         let Some(step) = self.log.pop_front() else {
             unreachable!();
         };
         let bytes = payload_of(&step);
-        if let Err(step) = self.base.replay(step) {
-            self.log.push_front_reserved(step);
-            return Err(NoMemory);
+        match self.base.add(step, left) {
+            Ok(more) => {
+                self.payload -= bytes;
+                Ok(more)
+            }
+            Err(step) => {
+                self.log.push_front_reserved(step);
+                Err(NoMemory)
+            }
         }
-        self.payload -= bytes;
-        Ok(())
     }
 }

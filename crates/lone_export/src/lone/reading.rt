@@ -1,13 +1,13 @@
 //! What is read of an export, and what its steps are refused for.
 ghost use Rattle.std.specs.Prelude.{◌≡◌, ◌<◌, ◌^◌, nat_le, length, ◌↔◌, IsTrue, option_map, slice_get};
 ghost use Rattle.lone_export.specs.Calls.{to_come};
-ghost use Rattle.lone_export.specs.Lone.{slot_at, MayAttach, MayArrive, Admits, IsInBounds};
+ghost use Rattle.lone_export.specs.Lone.{slot_at, head_at, MayAttach, MayArrive, Admits, IsInBounds};
 
 use crate::lone::Lone;
 use crate::refusal::{ArriveRefusal, AttachRefusal};
 use export_store::Image;
 use nbd_commands::verdict;
-use nbd_wire::Request;
+use nbd_wire::{Request, RequestHead};
 use reply_box::AdmitFault;
 
 /// The most steps that are counted by attaches and arrivals: 2^56.
@@ -47,6 +47,19 @@ impl<I: Image> Lone<I> {
         ensures { result ≡ slot_at self.now number }
     {
         self.queue.slot_of(number)
+    }
+
+    /// The head of the request that is in service under this number.
+    pub fn head_of(&self, number: u64) -> Option<RequestHead>
+        ensures { result ≡ head_at self.now.state number }
+    {
+        let Some(slot) = self.queue.slot_of(number) else {
+            return None;
+        };
+        let Some(row) = self.queue.held(slot, number) else {
+            unreachable!();
+        };
+        Some(row.request.head())
     }
 
     /// How many counted steps can still come of what is here, without another attach or arrival: a request that waits

@@ -23,10 +23,19 @@ fn skips_no_other(lone: &mut Alone) -> bool {
     !lone.skip_read(2, 0) && !lone.skip_read(1, 0) && !lone.skip_read(0, 1) && lone.steps() == 5
 }
 
+// Whether the head of the READ is told under its number, and none under another.
+fn tells_its_head(lone: &Alone) -> bool {
+    let Some(head) = lone.head_of(0) else {
+        return false;
+    };
+    head.kind == READ && head.length == 8 && lone.head_of(2).is_none()
+}
+
 #[test]
 fn a_read_is_skipped(rt: HostRuntime) -> Result<(), NoMemory> {
     let mut lone = opened(rt.alloc(), &ExportSettings::new(b"a", 8))?;
     assert!(rt; begins(rt.alloc(), &mut lone));
+    assert!(rt; tells_its_head(&lone));
     assert!(rt; skips_no_other(&mut lone));
     assert!(rt; lone.skip_read(0, 0));
     assert!(rt; (lone.steps(), lone.slot_of(0)) == (7, None));

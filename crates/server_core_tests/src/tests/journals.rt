@@ -212,6 +212,8 @@ fn sweeps<'a>(memory: Memory<'a>, server: &mut Kept<'a>) -> bool {
     };
     server.sweep(0, &mut outdated);
     server.sweep(2, &mut outdated);
+    server.catch_up(0, usize::MAX);
+    server.catch_up(2, 1);
     true
 }
 

@@ -1,5 +1,6 @@
 use Rattle.std.proofs.Common.{subst, sym, ◌<◌, ◌∙◌, ap, length, deque_capacity, refl}
 use Rattle.lone_export.specs.declared.step.Step.TheVariants.{Pick}
+use Rattle.export_cell.specs.Based.{whole_of}
 use Rattle.export_cell.specs.Journal.{Cell, kept_log, noted}
 use Rattle.export_cell.proofs.Kept.{kept_length, kept_pushed, pushed, makes}
 use Rattle.export_cell.proofs.Logs.{cell-light, room_for}
@@ -10,14 +11,14 @@ push_back_reserved-requires g c =
     let i = c.self.inside in
     let does = makes g.row.I-Alloc.Denot i.live c.pick.new.self Pick _ _ c.in-Some.ensures.step refl in
     subst (λ n. n < deque_capacity i.log) (kept_length i.log.items ∙ sym i.log.ok.0)
-    (room_for i.live c.pick.new.self i.base (kept_log i.log.items) Pick i.payload (deque_capacity i.log) c.self.invariant does refl)
+    (room_for i.live c.pick.new.self (whole_of i.base) (kept_log i.log.items) Pick i.payload (deque_capacity i.log) c.self.invariant does refl)
 
 pub invariant_of-self-2 : goal.invariant_of-self-2
 invariant_of-self-2 g c =
     let i = c.self.inside in
     let longer = c.push_back_reserved.new.self in
     let does = makes g.row.I-Alloc.Denot i.live c.pick.new.self Pick _ _ c.in-Some.ensures.step refl in
-    cell-light i.live c.pick.new.self i.base (kept_log i.log.items) (kept_log longer.items) Pick i.payload (deque_capacity i.log) (deque_capacity longer) c.self.invariant does
+    cell-light i.live c.pick.new.self (whole_of i.base) (kept_log i.log.items) (kept_log longer.items) Pick i.payload (deque_capacity i.log) (deque_capacity longer) c.self.invariant does
     (λ _. subst (λ (v : Cell). length v.live.state.out < v.live.inflight) (sym c.self.view_is) c.requires) refl refl
     (kept_pushed i.log.items longer.items Pick c.push_back_reserved.ensures.items) c.push_back_reserved.ensures.capacity
 

@@ -1,11 +1,8 @@
-use Rattle.std.proofs.Common.{◌≡◌, ◌∙◌, ℕ, List, get_or, set, sym, ap, subst}
-use Rattle.std.proofs.lemmas.List.{set-get_or}
+use Rattle.std.proofs.Common.{◌∙◌, List, sym, ap, subst}
 use Rattle.server_core.specs.Members.{Standing}
 use Rattle.server_core.specs.Served.{IsServed, served_of}
+use Rattle.server_core.proofs.Cells.{put_back}
 use Rattle.server_core.proofs.server.Server.sweep.Goals as goal
-
-put_back : (ms : List Standing) (e : ℕ) (m m' : Standing) → m' ≡ m → m ≡ get_or ms e m → set ms e m' ≡ ms
-put_back ms e m m' same at = ap (set ms e) (same ∙ at) ∙ set-get_or ms e m
 
 pub invariant_of-self : goal.invariant_of-self
 invariant_of-self g c =

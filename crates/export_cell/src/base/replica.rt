@@ -1,0 +1,134 @@
+//! An export on which steps are made that another one made before.
+ghost use Rattle.std.specs.Prelude.{◌≡◌, ◌≤◌, ◌+◌, ◌^◌, IfOk, IfErr, OnOk};
+ghost use Rattle.nbd_commands.specs.Terms.{terms_of};
+ghost use Rattle.nbd_commands.specs.Exports.{IsWithin};
+ghost use Rattle.lone_export.specs.Lone.{opening_of, MayReplay};
+ghost use Rattle.export_cell.specs.Past.{Goes};
+
+use super::remaking::{made_in_place, remade};
+use crate::late::Late;
+use crate::work::work_of;
+use export_store::Image;
+use lone_export::{Lone, Step};
+use nbd_base::NoMemory;
+use nbd_commands::ExportConfig;
+use nbd_wire::RequestHead;
+use payload::Page;
+use std::marker::Model;
+use std::mem;
+
+/// An export on which steps are made again.
+///
+/// Its latest steps may be late: those of a request that comes to an export without any other are made at once, with its Perform, or where
+/// it is a READ with the step that takes its reply, which nobody looks at: so no data are read.
+#[derive(Drop)]
+pub(super) struct Replica<I: Image> {
+    lone: Lone<I>,
+    late: Late<I::Alloc>,
+}
+
+impl<I: Image> Model for Replica<I> {
+    ghost use Rattle.lone_export.specs.Lone.{Whole};
+    ghost use Rattle.export_cell.specs.Past.{past_of, IsPast};
+
+    ghost Value = { Whole };
+
+    ghost view = { λ b. past_of b.lone b.late };
+
+    ghost invariant = { λ b. IsPast b.lone b.late };
+}
+
+impl<I: Image> Replica<I> {
+    /// An export in its opening state.
+    pub(super) fn new(
+        alloc: I::Alloc,
+        config: &ExportConfig<I::Alloc>,
+        inflight: usize,
+    ) -> Result<Self, NoMemory>
+        requires { IsWithin 4096 inflight }
+        ensures { IfOk result (λ replica. replica ≡ opening_of (terms_of config.now) inflight) }
+    {
+        let lone = Lone::new(alloc, config, inflight)?;
+        Ok(Replica {
+            lone,
+            late: Late::Nothing,
+        })
+    }
+
+    /// How many steps were counted.
+    pub(super) fn steps(&self) -> u64
+        ensures count { result ≡ self.now.state.count }
+        ensures few { result ≤ 2 ^ 58 + 3 }
+    {
+        self.lone.laws();
+        match &self.late {
+            Late::Nothing => self.lone.steps(),
+            Late::Arrived(_) => self.lone.steps() + 1,
+            Late::Picked(_) => self.lone.steps() + 2,
+            Late::Read(_) => self.lone.steps() + 3,
+            Late::Performed(_) => self.lone.steps() + 1,
+        }
+    }
+
+    /// The bytes as they were.
+    pub(super) fn image(&self) -> &I
+        ensures { I.bytes result.now ≡ self.now.state.image }
+    {
+        self.lone.image()
+    }
+
+    /// Exchanges the pages that writes have put others in place of for an empty list.
+    pub(super) fn sweep(&mut self, outdated: &mut Vec<Page<I::Alloc>, I::Alloc>)
+        ensures { self.new ≡ self.old }
+    {
+        self.lone.sweep(outdated);
+    }
+
+    /// How much work it is to make a step: one, and what the request is that it performs.
+    pub(super) fn work_of(&self, step: &Step<I::Alloc>) -> usize
+        ensures { 1 ≤ result }
+    {
+        match step {
+            Step::Perform {
+                number,
+                memory: true,
+            } => match self.head_of(*number) {
+                Some(head) => work_of(head) + 1,
+                None => 1,
+            },
+            _ => 1,
+        }
+    }
+
+    // The head of the request that is in service under this number.
+    fn head_of(&self, number: u64) -> Option<RequestHead> {
+        match &self.late {
+            Late::Picked(arrival) if number == self.lone.next_number() => {
+                Some(arrival.request.head())
+            }
+            _ => self.lone.head_of(number),
+        }
+    }
+
+    /// Makes a step, as it was made before. Where memory is refused it comes back.
+    pub(super) fn replay(&mut self, step: Step<I::Alloc>) -> Result<(), Step<I::Alloc>>
+        requires { MayReplay self.old step }
+        ensures ok { OnOk result (Goes {A = I.Alloc} self.old self.new step) }
+        ensures err { IfErr result (λ back. (back ≡ step) × (self.new ≡ self.old)) }
+    {
+        if made_in_place(&mut self.lone, &mut self.late, &step) {
+            return Ok(());
+        }
+        let late = mem::replace(&mut self.late, Late::Nothing);
+        match remade(&mut self.lone, late, step) {
+            Ok(late) => {
+                self.late = late;
+                Ok(())
+            }
+            Err(back) => {
+                self.late = back.late;
+                Err(back.step)
+            }
+        }
+    }
+}
