@@ -97,6 +97,7 @@ umount /mnt
 before=$(held)
 mount /dev/nbd0 /mnt
 rm -rf /mnt/sbin
+sync # what is deleted is free once the journal is written
 check "fstrim" fstrim /mnt
 umount /mnt
 after=$(held)
