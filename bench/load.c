@@ -17,8 +17,10 @@
  *   rate=N               requests a second of each connection, sent at fixed moments; 0: as fast as replies come (default 0)
  *   from=S until=S       seconds from the start between which requests are sent (default: all the time)
  *
- * A paced client's latency counts from the moment at which a request was planned, so a server that stalls is charged for
- * the requests that couldn't be sent meanwhile. Prints one line of JSON: an object for each CLIENTS.
+ * A paced client's latency counts from the moment at which a request was planned, and each request that was planned within
+ * the time that is measured is sent and counted, however late. So a server that stalls is charged for the requests that
+ * couldn't be sent meanwhile. Prints one line of JSON: an object for each CLIENTS, whose `waits_us` are the waits that the
+ * parts of the requests in `parts` don't pass.
  */
 #define _GNU_SOURCE
 #include <arpa/inet.h>
@@ -61,6 +63,9 @@ struct connection {
     char failure[160];
     pthread_t thread;
 };
+
+/* The parts of the requests whose waits are printed, and more of them the rarer they are. */
+static const double parts[] = {0.1, 0.25, 0.5, 0.75, 0.9, 0.95, 0.98, 0.99, 0.995, 0.998, 0.999, 0.9995, 0.9998, 0.9999};
 
 /* A request under way: when it was sent, or planned, and whether its slot is used. */
 struct slot { uint64_t at; };
@@ -279,15 +284,21 @@ static void plan(struct traffic *t, uint64_t at)
     c->under_way++;
 }
 
+/* Whether a request is still to be planned: a paced client plans all that belong to its time, also behind it. */
+static int has_plans(const struct traffic *t, uint64_t at)
+{
+    return at < t->until || (t->period && t->planned && t->planned < t->until);
+}
+
 /* Plans what is to go now. */
 static void plan_all(struct traffic *t, uint64_t at)
 {
-    if (t->out_at < t->out_count || at >= t->until || at < t->from)
+    if (t->out_at < t->out_count || !has_plans(t, at) || at < t->from)
         return;
     t->out_at = t->out_count = t->heads_count = 0;
     if (!t->planned)
         t->planned = at;
-    while (t->free_count && t->heads_count < 256 && (!t->period || t->planned <= at)) {
+    while (t->free_count && t->heads_count < 256 && (!t->period || (t->planned <= at && t->planned < t->until))) {
         plan(t, t->period ? t->planned : at);
         t->planned += t->period;
     }
@@ -316,8 +327,8 @@ static int send_some(struct traffic *t)
 static void count_reply(struct traffic *t, uint64_t slot, uint64_t at)
 {
     struct connection *c = t->c;
-    uint64_t first = started + (uint64_t)(warm * NANOS);
-    if (at >= first && at < t->end) {
+    uint64_t first = started + (uint64_t)(warm * NANOS), counts = t->period ? t->slots[slot].at : at;
+    if (counts >= first && counts < t->end) {
         c->requests++;
         c->bytes += c->clients->bytes;
         note(&c->latency, at - t->slots[slot].at);
@@ -370,7 +381,7 @@ static int exchange(struct traffic *t)
     uint64_t late = t->end + 10ull * NANOS;
     for (;;) {
         uint64_t at = now();
-        if (at >= t->until && t->out_at == t->out_count && !c->under_way)
+        if (!has_plans(t, at) && t->out_at == t->out_count && !c->under_way)
             return 0;
         if (at >= late)
             return fail(c, "no reply for 10 s, %d under way", (int)c->under_way);
@@ -381,7 +392,7 @@ static int exchange(struct traffic *t)
         uint64_t wake = late;
         if (at < t->from)
             wake = t->from;
-        else if (at < t->until && t->period && t->free_count && !sends)
+        else if (has_plans(t, at) && t->period && t->free_count && !sends)
             wake = t->planned;
         if (!t->period && !sends && c->under_way && take_in(t))
             return -1;
@@ -502,6 +513,10 @@ static void print_clients(const struct clients *k, struct connection *all, int c
            (unsigned long long)least, (unsigned long long)most);
     printf("\"mean_us\":%.1f,\"p50_us\":%.1f,\"p99_us\":%.1f,\"p999_us\":%.1f,\"most_us\":%.1f", sum.count ? (double)sum.sum / (double)sum.count / 1000 : 0.0,
            within(&sum, 0.5), within(&sum, 0.99), within(&sum, 0.999), (double)sum.most / 1000);
+    printf(",\"waits_us\":[");
+    for (size_t i = 0; i < sizeof parts / sizeof *parts; i++)
+        printf("%s%.1f", i ? "," : "", within(&sum, parts[i]));
+    printf("]");
     for (uint64_t s = 0; s < slices; s++) {
         uint64_t in_slice = 0;
         for (int i = 0; i < count; i++)

@@ -1,15 +1,16 @@
 #!/usr/bin/env python3
 """Measures NBD servers side by side, and writes all figures as JSON (README.md says what each part measures).
 
-  measure.py [--rounds N] [--seconds S] [--parts LIST] [--transports LIST] [--json FILE] SERVER..
+  measure.py [--rounds N] [--seconds S] [--parts LIST] [--transports LIST] [--peers LIST] [--json FILE] NAME=PATH..
 
-SERVER is NAME=PATH for a program nbdq, or the name of a peer: nbdkit, nbd-server, qemu-nbd. The servers are measured in
-turn, round by round, and each figure of the report is the median of its rounds.
+NAME=PATH is a program nbdq and what it is called. Beside it stand the peers that are installed: nbdkit and nbd-server, and
+qemu-nbd where --peers names it. The servers are measured in turn, round by round, and each figure of the report is the median
+of its rounds.
 """
-import argparse, json, os, platform, subprocess, sys, tempfile, time
+import argparse, json, os, platform, shutil, subprocess, sys, tempfile, time
 
 sys.path.insert(0, os.path.dirname(os.path.abspath(__file__)))
-from servers import MIB, Server, fill
+from servers import MIB, PEERS, Server, fill
 
 HERE = os.path.dirname(os.path.abspath(__file__))
 WORK = {
@@ -27,7 +28,9 @@ FLOODS = {
     "4 KiB": dict(operation="mixed", bytes=4096, depth=32),
     "128 KiB": dict(operation="mixed", bytes=131072, depth=16),
     "1 MiB": dict(operation="mixed", bytes=MIB, depth=8),
+    "TRIMs of the whole disk": dict(operation="trim", bytes=256 * MIB, depth=8),
 }
+WAITS = ("p50_us", "p99_us", "p999_us", "most_us", "waits_us")
 SMALL = dict(bytes=4096, depth=32)
 
 
@@ -101,7 +104,7 @@ def throughput(o, figures):
 
 
 def latency(o, figures):
-    """A client of one export that sends a 4 KiB read each millisecond, beside eight connections that flood another export."""
+    """A client of one export that sends a 4 KiB read each millisecond, alone and beside eight connections that flood another."""
     for transport in o.transports:
         for flood, work in FLOODS.items():
             servers = all_servers(o, tcp=transport == "tcp", exports=2)
@@ -109,9 +112,12 @@ def latency(o, figures):
                 for kind, server in servers.items():
                     clients = [server.clients(0, rate=1000)]
                     clients += [server.clients(1, connections=8, **work)] if work else []
-                    found = load(max(o.seconds, 1), clients)[0]
-                    for unit in ("p50_us", "p99_us", "p999_us", "most_us"):
-                        figures.add(server.name, found[unit], part="latency", transport=transport, flood=flood, unit=unit)
+                    of = dict(part="latency", transport=transport, flood=flood)
+                    paced, *beside = load(max(4 * o.seconds, 1), clients)
+                    for unit in WAITS:
+                        figures.add(server.name, paced[unit], **of, unit=unit)
+                    for it in beside:
+                        figures.add(server.name, it["mib_a_second"], **of, unit="flood_mib_a_second")
             stop_all(servers)
 
 
@@ -191,12 +197,26 @@ def memory(o, figures):
             server.stop()
 
 
+def processor():
+    with open("/proc/cpuinfo") as it:
+        return next((line.split(":")[1].strip() for line in it if line.startswith("model name")), platform.machine())
+
+
+def version(server):
+    """What a server says of itself."""
+    program = server.partition("=")[2] or server
+    words = [program, "-V" if server == "nbd-server" else "--version"]
+    said = subprocess.run(words, capture_output=True, text=True)
+    return (said.stdout + said.stderr).strip().split("\n")[0]
+
+
 PARTS = [throughput, latency, shares, reservations, limits, timeline, memory]
 
 
 def main():
     words = argparse.ArgumentParser(formatter_class=argparse.RawDescriptionHelpFormatter, description=__doc__)
-    words.add_argument("servers", nargs="+", metavar="SERVER")
+    words.add_argument("servers", nargs="+", metavar="NAME=PATH")
+    words.add_argument("--peers", default="nbdkit,nbd-server", help="those of nbdkit, nbd-server, qemu-nbd; 'none'")
     words.add_argument("--rounds", type=int, default=5)
     words.add_argument("--seconds", type=float, default=0.5)
     words.add_argument("--parts", default=",".join(it.__name__ for it in PARTS))
@@ -205,23 +225,27 @@ def main():
     words.add_argument("--work", default="", help="only the work whose name has one of these, as '4 KiB,depth'")
     words.add_argument("--json", default="-")
     o = words.parse_args()
+    o.servers += [it for it in o.peers.split(",") if it in PEERS and shutil.which(it)]
     o.transports, o.work = o.transports.split(","), [it for it in o.work.split(",") if it]
     o.connections = [tuple(int(n) for n in it.split("x")) for it in o.connections.split(",")]
-    figures = Figures()
+    figures, load_before = Figures(), os.getloadavg()[0]
     for part in PARTS:
         if part.__name__ in o.parts.split(","):
             print("%s: %s" % (time.strftime("%H:%M:%S"), part.__name__), file=sys.stderr)
             part(o, figures)
     about = {
         "date": time.strftime("%Y-%m-%d"),
+        "processor": processor(),
         "processors": os.cpu_count(),
         "kernel": platform.release(),
+        "servers": {it.partition("=")[0]: version(it) for it in o.servers},
         "rounds": o.rounds,
         "seconds": o.seconds,
-        "load_average": os.getloadavg()[0],
-        "figures": figures.listed(),
+        "load_before": load_before,
     }
-    text = json.dumps(about, indent=1)
+    # A figure a line, so that two runs can be compared by lines.
+    lines = ["%s: %s" % (json.dumps(key), json.dumps(value)) for key, value in about.items()]
+    text = "{\n%s,\n\"figures\": [\n%s\n]}" % (",\n".join(lines), ",\n".join(map(json.dumps, figures.listed())))
     if o.json == "-":
         print(text)
     else:

@@ -7,41 +7,8 @@ It writes shares.svg, latency.svg and throughput.svg, each of which needs its pa
 """
 import json, math, os, statistics, sys
 
-COLOURS = ["#1f6f8b", "#c8553d", "#6a994e", "#7b4b94", "#b08900", "#4a4e69"]
-FONT = 'font-family="DejaVu Sans, Helvetica, Arial, sans-serif"'
-
-
-class Drawing:
-    def __init__(self, width, height, title):
-        self.width, self.height = width, height
-        self.parts = ['<svg xmlns="http://www.w3.org/2000/svg" viewBox="0 0 %d %d" %s font-size="13">' % (width, height, FONT)]
-        self.parts.append('<rect width="100%" height="100%" fill="white"/>')
-        self.text(width / 2, 24, title, anchor="middle", size=16, bold=True)
-
-    def text(self, x, y, words, anchor="start", size=13, colour="#222", bold=False, turn=None):
-        turned = ' transform="rotate(%d %.1f %.1f)"' % (turn, x, y) if turn else ""
-        weight = ' font-weight="bold"' if bold else ""
-        form = '<text x="%.1f" y="%.1f" text-anchor="%s" font-size="%d" fill="%s"%s%s>%s</text>'
-        self.parts.append(form % (x, y, anchor, size, colour, weight, turned, words.replace("&", "&amp;").replace("<", "&lt;")))
-
-    def line(self, x1, y1, x2, y2, colour="#ccc", width=1, dash=""):
-        dashed = ' stroke-dasharray="%s"' % dash if dash else ""
-        self.parts.append('<line x1="%.1f" y1="%.1f" x2="%.1f" y2="%.1f" stroke="%s" stroke-width="%.1f"%s/>' % (x1, y1, x2, y2, colour, width, dashed))
-
-    def curve(self, points, colour):
-        path = " ".join("%.1f,%.1f" % it for it in points)
-        self.parts.append('<polyline points="%s" fill="none" stroke="%s" stroke-width="1.8"/>' % (path, colour))
-
-    def bar(self, x, y, width, height, colour):
-        self.parts.append('<rect x="%.1f" y="%.1f" width="%.1f" height="%.1f" fill="%s"/>' % (x, y, width, height, colour))
-
-    def dot(self, x, y, colour):
-        self.parts.append('<circle cx="%.1f" cy="%.1f" r="4" fill="%s"/>' % (x, y, colour))
-
-    def write(self, path):
-        with open(path, "w") as it:
-            it.write("\n".join([*self.parts, "</svg>"]) + "\n")
-
+sys.path.insert(0, os.path.dirname(os.path.abspath(__file__)))
+from drawing import COLOURS, Drawing
 
 def in_words(settings):
     return settings.replace("\n", ", ").replace(" = ", " ")
@@ -70,43 +37,54 @@ def shares(figures, path):
     for t in range(int(seconds) + 1):
         d.text(x_of(t), height - bottom + 18, "%d s" % t, anchor="middle")
     d.text(20, (top + height - bottom) / 2, "4 KiB reads a second", anchor="middle", turn=-90)
+    for n, (it, _) in enumerate(rows):
+        for word in ("reservation", "limit"):
+            if word in it["settings"]:
+                rate = float(it["settings"].split(word + " = ")[1].split()[0])
+                d.line(x_of(it["start"]), y_of(rate), x_of(it["end"]), y_of(rate), COLOURS[n], 1.2, "5 4")
+                d.text(x_of(it["end"]) + 4, y_of(rate) + (4 if word == "reservation" else -2), "its " + word, size=11, colour=COLOURS[n])
     for n, (it, rates) in enumerate(rows):
         d.curve([(x_of(i / 100), y_of(v)) for i, v in enumerate(rates) if i % 2 == 0], COLOURS[n])
-        x, y = left + (n % 2) * 380, height - 68 + (n // 2) * 22
+        x, y = left + (n % 2) * 365, height - 68 + (n // 2) * 22
         d.line(x, y - 4, x + 26, y - 4, COLOURS[n], 3)
         d.text(x + 34, y, "export %d: %s; from %d s to %d s" % (n, in_words(it["settings"]), it["start"], it["end"]))
     d.write(path)
 
 
+PARTS = (0.1, 0.25, 0.5, 0.75, 0.9, 0.95, 0.98, 0.99, 0.995, 0.998, 0.999)  # those of load.c, up to 999 of 1,000
+
+
 def latency(figures, path):
-    """A paced client's waits beside floods: half, 99 of 100 and 999 of 1,000 of them are shorter."""
-    mine = [it for it in figures if it["part"] == "latency" and it["transport"] == "unix"]
+    """How long a paced client waits beside floods, as a distribution: how many reads take longer."""
+    mine = [it for it in figures if it["part"] == "latency" and it["transport"] == "unix" and it["unit"] == "waits_us"]
     if not mine:
         return
-    servers = list(dict.fromkeys(it["server"] for it in mine))
-    floods = list(dict.fromkeys(it["flood"] for it in mine))
-    middle = {(it["server"], it["flood"], it["unit"]): statistics.median(it["values"]) for it in mine}
-    width, left, right, top, row = 860, 210, 30, 70, 24
-    height = top + len(floods) * (len(servers) * row + 26) + 70
-    d = Drawing(width, height, "How long a client waits that reads 4 KiB each millisecond")
-    low, high = 1.3, max(4.7, math.log10(max(middle.values())) + 0.1)
-    x_of = lambda us: left + (width - left - right) * (math.log10(max(us, 20)) - low) / (high - low)
-    y = top
-    for flood in floods:
-        d.text(10, y + 4, "beside nothing" if flood == "nothing" else "beside a flood of %s" % flood, bold=True)
-        y += 20
-        for n, server in enumerate(servers):
-            half, rare, rarest = (middle[server, flood, unit] for unit in ("p50_us", "p99_us", "p999_us"))
-            d.text(left - 12, y + 4, server, anchor="end", colour=COLOURS[n])
-            d.line(x_of(half), y, x_of(rarest), y, COLOURS[n], 2)
-            for us in (half, rare, rarest):
-                d.dot(x_of(us), y, COLOURS[n])
-            y += row
-        y += 6
-    for us, name in ((50, "50 us"), (100, "100 us"), (1000, "1 ms"), (10000, "10 ms")):
-        d.line(x_of(us), top, x_of(us), y, "#ddd")
-        d.text(x_of(us), y + 18, name, anchor="middle")
-    d.text(width / 2, y + 44, "dots: the median, 99 of 100 and 999 of 1,000 (a shorter line further left is better)", anchor="middle")
+    servers, floods = (list(dict.fromkeys(it[key] for it in mine)) for key in ("server", "flood"))
+    waits = {(it["server"], it["flood"]): [statistics.median(round_[i] for round_ in it["values"]) for i in range(len(PARTS))] for it in mine}
+    width, columns, left, top, wide, high = 900, 3, 70, 84, 220, 200
+    d = Drawing(width, top + math.ceil((len(floods) + 1) / columns) * (high + 80), "How long reads of 4 KiB wait, one each millisecond")
+    d.text(width / 2, 46, "alone, and beside eight connections that flood another export of the same server", anchor="middle")
+    low, most = math.log10(20), math.log10(max(1000, max(max(it) for it in waits.values()))) + 0.05
+    for n, flood in enumerate(floods):
+        x0, y0 = left + n % columns * (wide + 60), top + n // columns * (high + 80)
+        x_of = lambda part: x0 + wide * -math.log10(1 - part) / 3
+        y_of = lambda us: y0 + high - high * (math.log10(max(us, 20)) - low) / (most - low)
+        d.text(x0, y0 - 10, "alone" if flood == "nothing" else "beside " + flood, bold=True)
+        for us, name in ((20, "20 us"), (100, "100 us"), (1000, "1 ms"), (10000, "10 ms"), (100000, "100 ms"), (1000000, "1 s")):
+            if math.log10(us) <= most:
+                d.line(x0, y_of(us), x0 + wide, y_of(us))
+                d.text(x0 - 6, y_of(us) + 4, name, anchor="end", size=11)
+        for part, name in ((0, "all"), (0.9, "1 in 10"), (0.99, "1 in 100"), (0.999, "1 in 1,000")):
+            d.line(x_of(part), y0, x_of(part), y0 + high)
+            d.text(x_of(part), y0 + high + 16, name, anchor="middle", size=11)
+        d.text(x0 + wide / 2, y0 + high + 34, "so many reads wait longer", anchor="middle", size=11, colour="#666")
+        for s, server in enumerate(servers):
+            d.curve([(x_of(part), y_of(us)) for part, us in zip(PARTS, waits[server, flood])], COLOURS[s])
+    x0, y0 = left + len(floods) % columns * (wide + 60), top + len(floods) // columns * (high + 80)
+    for s, server in enumerate(servers):
+        d.line(x0, y0 + 26 * s + 16, x0 + 30, y0 + 26 * s + 16, COLOURS[s], 4)
+        d.text(x0 + 40, y0 + 26 * s + 21, server, size=15)
+    d.text(x0, y0 + 26 * len(servers) + 30, "lower is better", colour="#666")
     d.write(path)
 
 
@@ -115,29 +93,32 @@ def throughput(figures, path):
     mine = [it for it in figures if it["part"] == "throughput" and it["transport"] == "unix" and it["exports"] == 1 and it["unit"] != "processor_us"]
     if not mine:
         return
-    servers = list(dict.fromkeys(it["server"] for it in mine))
-    works = list(dict.fromkeys(it["work"] for it in mine))
+    servers, works = (list(dict.fromkeys(it[key] for it in mine)) for key in ("server", "work"))
+    unit = {it["work"]: {"a_second": "requests a second", "mib_a_second": "MiB a second"}[it["unit"]] for it in mine}
     counts = sorted({it["connections"] for it in mine})
     middle = {(it["server"], it["work"], it["connections"]): statistics.median(it["values"]) for it in mine}
-    width, each, gap, columns = 860, 190, 20, 4
-    height = 70 + 190 * math.ceil(len(works) / columns) + 30
-    d = Drawing(width, height, "Throughput by connections (the best of each picture is its full height)")
+    wide, high, gap, columns = 190, 130, 30, 4
+    width, top = 2 * 20 + columns * (wide + gap) - gap, 70
+    height = top + math.ceil(len(works) / columns) * (high + 90) + 40
+    d = Drawing(width, height, "Throughput over one, four and sixteen connections to one export")
     for w, work in enumerate(works):
-        x0, y0 = 20 + (w % columns) * (each + gap), 60 + (w // columns) * 190
-        most = max(v for (s, k, c), v in middle.items() if k == work)
-        d.text(x0, y0, work, size=12, bold=True)
-        thick = (each - 10) / (len(counts) * (len(servers) + 1))
+        x0, y0 = 20 + w % columns * (wide + gap), top + w // columns * (high + 90)
+        most = max(v for (_, it, _), v in middle.items() if it == work)
+        y_of = lambda value: y0 + 26 + high - high * value / most
+        d.text(x0, y0, work, bold=True)
+        for part in (1, 0.5):
+            d.line(x0, y_of(part * most), x0 + wide, y_of(part * most))
+        d.text(x0 + wide, y_of(most) - 4, "%s %s" % (format(round(most), ","), unit[work]), anchor="end", size=11, colour="#666")
+        thick = wide / (len(counts) * (len(servers) + 1))
         for c, count in enumerate(counts):
             for n, server in enumerate(servers):
                 value = middle.get((server, work, count), 0)
-                x = x0 + (c * (len(servers) + 1) + n) * thick
-                d.bar(x, y0 + 130 - 115 * value / most, thick * 0.9, 115 * value / most, COLOURS[n])
-            d.text(x0 + (c * (len(servers) + 1) + len(servers) / 2) * thick, y0 + 146, str(count), anchor="middle", size=11)
-        unit = "MiB/s" if "KiB" not in work.split()[1] or "4 KiB" not in work else "/s"
-        d.text(x0 + each - 10, y0 + 162, "%s %s" % (format(round(most), ","), unit), anchor="end", size=11)
+                d.bar(x0 + (c * (len(servers) + 1) + n) * thick, y_of(value), thick * 0.9, y_of(0) - y_of(value), COLOURS[n])
+            d.text(x0 + (c * (len(servers) + 1) + len(servers) / 2) * thick, y_of(0) + 16, str(count), anchor="middle", size=11)
+        d.text(x0 + wide / 2, y_of(0) + 32, "connections", anchor="middle", size=11, colour="#666")
     for n, server in enumerate(servers):
-        d.bar(20 + n * 150, height - 24, 14, 14, COLOURS[n])
-        d.text(40 + n * 150, height - 12, server)
+        d.bar(20 + n * 150, height - 34, 16, 16, COLOURS[n])
+        d.text(44 + n * 150, height - 21, server, size=15)
     d.write(path)
 
 

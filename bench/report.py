@@ -2,22 +2,33 @@
 """Writes the figures of measure.py's JSON as Markdown tables.
 
   report.py FILE.. > tables.md
+  report.py --into DOCUMENT FILE..      in the place of what stands between the lines BEGIN and END of a document
+  report.py --check DOCUMENT FILE..     whether just these tables stand there
 
 Each figure is the median of its rounds; behind ± stands half of what lies between the least and the greatest, in parts of
 100. A ratio is to the best of the peers.
 """
-import json, statistics, sys
+import contextlib, io, json, statistics, sys
+
+BEGIN = "<!-- The tables from here on are made by bench/report.py. -->"
+END = "<!-- The tables end here. -->"
 
 PEERS = ("nbdkit", "nbd-server", "qemu-nbd")
 UNITS = {"a_second": "requests a second", "mib_a_second": "MiB a second", "processor_us": "us of processor time a request"}
 
 
-def figures_of(files):
+def runs_of(files):
     found = []
     for name in files:
         with open(name) as it:
-            found += json.load(it)["figures"]
+            found.append(json.load(it))
     return found
+
+
+def about(run):
+    servers = "; ".join("%s: %s" % it for it in run["servers"].items())
+    print("%s, Linux %s, %d processors (%s). %s." % (run["date"], run["kernel"], run["processors"], run["processor"], servers))
+    print("%d rounds of %g s, the servers in turn; %.1f threads were ready to run before it began.\n" % (run["rounds"], run["seconds"], run["load_before"]))
 
 
 def middle(figure):
@@ -85,11 +96,26 @@ def throughput(figures):
 
 def latency(figures):
     for transport in ordered(figures, "transport"):
+        where = {"unix": "Unix socket", "tcp": "TCP"}[transport]
         for unit, name in (("p50_us", "Median"), ("p99_us", "99 of 100"), ("p999_us", "999 of 1,000")):
             mine = [it for it in figures if it["unit"] == unit and it["transport"] == transport]
             servers, rows = in_columns(mine, ("flood",), least_is_best=True)
-            print("### %s of a paced client's waits, in us, %s\n" % (name, {"unix": "Unix socket", "tcp": "TCP"}[transport]))
+            print("### %s of a paced client's waits, in us, %s\n" % (name, where))
             table(["Beside a flood of", *servers], rows)
+        mine = [it for it in figures if it["unit"] == "flood_mib_a_second" and it["transport"] == transport]
+        servers, rows = in_columns(mine, ("flood",))
+        print("### What the floods came to, in MiB a second, %s\n" % where)
+        table(["A flood of", *servers], rows)
+        isolation([it for it in figures if it["unit"] == "p99_us" and it["transport"] == transport], where)
+
+
+def isolation(figures, where):
+    """How many times as long 99 of 100 waits are beside each flood as alone."""
+    servers, waits = ordered(figures, "server"), {(it["server"], it["flood"]): middle(it) for it in figures}
+    floods = [it for it in ordered(figures, "flood") if it != "nothing"]
+    rows = [[flood, *(shown(waits[it, flood] / waits[it, "nothing"]) for it in servers)] for flood in floods]
+    print("### Isolation: 99 of 100 waits beside a flood, by those of the client alone, %s\n" % where)
+    table(["Beside a flood of", *servers], rows)
 
 
 def shares(figures):
@@ -121,13 +147,32 @@ PARTS = [
 ]
 
 
-def main():
-    figures = figures_of(sys.argv[1:])
+def write_all(files):
+    runs = runs_of(files)
+    for run in runs:
+        about(run)
     for title, part, write in PARTS:
-        mine = [it for it in figures if it["part"] == part]
+        mine = [it for run in runs for it in run["figures"] if it["part"] == part]
         if mine:
             print("## %s\n" % title)
             write(mine)
+
+
+def main():
+    words = sys.argv[1:]
+    if words[0] not in ("--into", "--check"):
+        return write_all(words)
+    document, tables = words[1], io.StringIO()
+    with contextlib.redirect_stdout(tables):
+        write_all(words[2:])
+    with open(document) as it:
+        old = it.read()
+    before, _, rest = old.partition(BEGIN)
+    new = before + BEGIN + "\n\n" + tables.getvalue() + END + rest.partition(END)[2]
+    if words[0] == "--check":
+        sys.exit(0 if new == old else "%s has other tables" % document)
+    with open(document, "w") as it:
+        it.write(new)
 
 
 if __name__ == "__main__":

@@ -2,6 +2,7 @@
 import os, shutil, signal, socket, struct, subprocess, tempfile, time
 
 MIB = 1 << 20
+PEERS = ("nbdkit", "nbd-server", "qemu-nbd")
 READ, WRITE, DISC, FLUSH, TRIM, ZERO = 0, 1, 2, 3, 4, 6
 NO_HOLE = 2
 

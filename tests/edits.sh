@@ -7,7 +7,10 @@
 # for each edit, and its status is 0 where all are refused.
 set -eu
 top=$(cd "$(dirname "$0")/.." && pwd)
-[ $# -gt 0 ] || set -- $(ls "$top/tests/edits")
+if [ $# = 0 ]; then
+  cd "$top/tests/edits"
+  set -- *
+fi
 
 room=$(mktemp -d)
 trap 'rm -rf "$room"' EXIT
