@@ -8,11 +8,10 @@ ghost use Rattle.export_cell.specs.Past.{Goes};
 mod remaking;
 
 use crate::late::Late;
-use export_store::Image;
+use export_store::{Image, Swept};
 use lone_export::{Lone, Step};
 use nbd_base::NoMemory;
 use nbd_commands::ExportConfig;
-use payload::Page;
 use remaking::{made_in_place, remade};
 use std::marker::Model;
 use std::mem;
@@ -76,11 +75,11 @@ impl<I: Image> Base<I> {
         self.lone.image()
     }
 
-    /// Exchanges the pages that writes have put others in place of for an empty list.
-    pub(crate) fn sweep(&mut self, outdated: &mut Vec<Page<I::Alloc>, I::Alloc>)
+    /// Exchanges what writes and zeros have put others in place of for nothing.
+    pub(crate) fn sweep(&mut self, swept: &mut Swept<I::Alloc>)
         ensures { self.new ≡ self.old }
     {
-        self.lone.sweep(outdated);
+        self.lone.sweep(swept);
     }
 
     /// Makes a step, as it was made before. Where memory is refused it comes back.
