@@ -53,6 +53,8 @@ NONE = {
     "nbd_options ExportTable::new": NO_MEMORY,
     "nbd_wire Reply::content": ONE_FIELD,
     "nbd_wire Request::payload": ONE_FIELD,
+    "payload Page::as_bytes": ONE_FIELD,
+    "payload Page::into_bytes": MADE_OF,
     "nbd_session Counted::into_inner": MADE_OF,
     "nbd_session Door::into_pass": MADE_OF,
     "reply_box ReplyBox::laws": CONTRACT_ALONE,
