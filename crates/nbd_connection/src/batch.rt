@@ -4,11 +4,10 @@ use crate::feed::Feed;
 use crate::outlet::Outlet;
 use crate::rules::joined_size;
 use crate::session_link::SessionLink;
-use crate::under_way::Admitted;
 use export_cell::Outdated;
 use nbd_base::NoMemory;
 use nbd_service::policy::{OUTDATED_PAGES, performs_itself, size_of};
-use nbd_service::{Asked, Disks, RequestSize, Service, Wakeups, prefetch};
+use nbd_service::{Asked, ByteCounts, Disks, RequestSize, Service, Wakeups, prefetch};
 use nbd_session::{Counted, Frame, FrameReader};
 use nbd_wire::{Request, RequestHead};
 use server_lock::Pass;
@@ -99,7 +98,7 @@ impl Admission {
     }
 
     /// The bytes that a hold handed in, with these, which were performed under it or not.
-    fn added_to(&self, admitted: Admitted, performed: bool) -> Admitted {
+    fn added_to(&self, admitted: ByteCounts, performed: bool) -> ByteCounts {
         match (&self.arrival, self.number()) {
             (Some(arrival), Some(_)) => admitted.with(arrival.head, performed),
             _ => admitted,
@@ -139,7 +138,7 @@ impl<'a, 'b, R: Wait + time::Clock> RequestSource<'a, 'b, R> {
             Offer::Again(request) => offer_held(disks, pass, link.session, request, clock),
         };
         let admission = Admission::of(&turn);
-        let mut admitted = Admitted::NOTHING;
+        let mut admitted = ByteCounts::NOTHING;
         let served = self.follow(disks, service, link, pass, outlet, admission, clock);
         admitted = admission.added_to(admitted, served);
         let mut batch = BatchOutcome::first(turn, admission, prefetched);

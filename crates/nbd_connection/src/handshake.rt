@@ -1,6 +1,6 @@
 //! A client's socket during its handshake, for which it has so long and no longer.
 
-use nbd_service::policy::handshake_wait_ms;
+use nbd_service::policy::{handshake_left, whole_ms};
 use std::cell::Cell;
 use std::io::{ErrorKind, Read, Write};
 use std::net::TcpStream;
@@ -29,22 +29,14 @@ impl<'a, R: time::Clock> HandshakeClock<'a, R> {
 
     fn passed_ms(&self) -> u64 {
         match &self.began {
-            Some(began) => {
-                let passed = began.elapsed(self.rt).unwrap_or(Duration::ZERO);
-                passed.as_millis().min(u128::from(u64::MAX)) as u64
-            }
+            Some(began) => whole_ms(began.elapsed(self.rt).unwrap_or(Duration::ZERO)),
             None => 0,
         }
     }
 
     /// How long the client has for its next bytes. None where its time is over.
     fn left(&self) -> Option<Duration> {
-        let passed = self.passed_ms();
-        let option = passed.saturating_sub(self.option_began.get());
-        match handshake_wait_ms(passed, option) {
-            0 => None,
-            left => Some(Duration::from_millis(left)),
-        }
+        handshake_left(self.passed_ms(), self.option_began.get())
     }
 
     /// An option was answered: the next one begins.

@@ -1,7 +1,10 @@
 //! A session's place in the order of turns.
 
-use nbd_service::policy::{asks_for_turn, backlog_after, cost_of, size_of};
-use nbd_service::{RequestSize, RunningClock, Turns, has_input};
+use nbd_service::policy::{backlog_after, size_of};
+use nbd_service::{
+    RequestSize, RunningClock, TurnStep, Turns, enters_turns, has_input, has_more,
+    leaves_behind_hold, lingers_on, turn_step, units_of,
+};
 use nbd_wire::{Request, RequestHead};
 use std::alloc::Global;
 use std::net::TcpStream;
@@ -9,7 +12,7 @@ use std::sync::Wait;
 use std::sync::atomic::{AtomicBool, AtomicU32, AtomicU64, Ordering};
 use std::time;
 use std::time::Instant;
-use tag_clock::Clock;
+use tag_clock::{Clock, Moment};
 
 /// A session's place in the order of turns. Its reader waits there before it hands requests in, while no lock is held.
 #[derive(Drop)]
@@ -50,8 +53,7 @@ impl<'a> TurnSeat<'a> {
     }
 
     /// Waits for the turn of a request and of those that are ready behind it, so many at most in all. Some go on without it, and are
-    /// charged with the next that asks. A session that mostly has one request at a time doesn't count as one that has something at
-    /// hand: others needn't stop for it, whom it would have to wake behind each of its requests.
+    /// charged with the next that asks.
     pub fn wait_for_turn<R: Wait + time::Clock>(
         &self,
         rt: &R,
@@ -60,50 +62,57 @@ impl<'a> TurnSeat<'a> {
         most: usize,
     ) {
         let long = size_of(head) == RequestSize::LongWrite;
-        let more = !ready.is_empty() || (long && self.had_input.load(Ordering::SeqCst));
+        let backlog = self.note_backlog(long, !ready.is_empty());
+        set(&self.writes_long, long);
+        if self.turns.is_alone(self.export) {
+            self.follow(rt, turn_step(true, false, 0, 0));
+            return;
+        }
+        let enters = enters_turns(backlog, long, self.at_hand.load(Ordering::SeqCst));
+        let units = units_of(self.owed.load(Ordering::SeqCst), head, ready, most);
+        let asked_at = self.asked_at.load(Ordering::SeqCst);
+        let passed = self.now(rt).nanoseconds().saturating_sub(asked_at);
+        self.follow(rt, turn_step(false, enters, units, passed));
+    }
+
+    /// For how many holds the session counts as one that mostly has several requests from this one on.
+    fn note_backlog(&self, long: bool, others_ready: bool) -> u32 {
+        let more = has_more(others_ready, long, self.had_input.load(Ordering::SeqCst));
         let before = self.backlog.load(Ordering::SeqCst);
         let backlog = backlog_after(before, more);
         if backlog != before {
             self.backlog.store(backlog, Ordering::SeqCst);
         }
-        set(&self.writes_long, long);
-        if self.turns.is_alone(self.export) {
-            self.owed.store(0, Ordering::SeqCst);
-            return;
-        }
-        let mut cost = self
-            .owed
-            .load(Ordering::SeqCst)
-            .saturating_add(cost_of(head));
-        for request in ready.iter().rev().take(most.saturating_sub(1)) {
-            cost = cost.saturating_add(cost_of(request.head()));
-        }
-        let enters = (backlog > 0 || long) && !self.at_hand.load(Ordering::SeqCst);
-        let clock = RunningClock::since(rt, self.start);
-        let now = clock.now().nanoseconds();
-        if !enters
-            && !asks_for_turn(
-                cost,
-                now.saturating_sub(self.asked_at.load(Ordering::SeqCst)),
-            )
-        {
-            self.owed.store(cost, Ordering::SeqCst);
-            return;
-        }
-        if enters {
-            set(&self.at_hand, true);
-        }
-        self.turns
-            .wait_for_turn(rt, self.export, cost, enters, &clock);
-        self.owed.store(0, Ordering::SeqCst);
-        self.asked_at
-            .store(clock.now().nanoseconds(), Ordering::SeqCst);
+        backlog
+    }
+
+    fn now<R: time::Clock>(&self, rt: &R) -> Moment {
+        RunningClock::since(rt, self.start).now()
+    }
+
+    /// Goes on, or waits for a turn.
+    fn follow<R: Wait + time::Clock>(&self, rt: &R, step: TurnStep) {
+        let owed = match step {
+            TurnStep::GoOn { owed } => owed,
+            TurnStep::Ask { units, enters } => {
+                if enters {
+                    set(&self.at_hand, true);
+                }
+                let clock = RunningClock::since(rt, self.start);
+                self.turns
+                    .wait_for_turn(rt, self.export, units, enters, &clock);
+                let asked_at = clock.now().nanoseconds();
+                self.asked_at.store(asked_at, Ordering::SeqCst);
+                0
+            }
+        };
+        self.owed.store(owed, Ordering::SeqCst);
     }
 
     /// Behind a hold: a session that mostly has one request at a time has nothing at hand.
     pub fn end_turn<R: Wait + time::Clock>(&self, rt: &R) {
-        let more = self.backlog.load(Ordering::SeqCst) > 0;
-        if !more && !self.writes_long.load(Ordering::SeqCst) {
+        let backlog = self.backlog.load(Ordering::SeqCst);
+        if leaves_behind_hold(backlog, self.writes_long.load(Ordering::SeqCst)) {
             self.leave(rt, false);
         }
     }
@@ -128,8 +137,9 @@ impl<'a> TurnSeat<'a> {
         if under_way > 0 {
             set(&self.reader_waits, true);
         } else {
-            let much = self.backlog.load(Ordering::SeqCst) > 0;
-            self.leave(rt, much && self.writes_long.load(Ordering::SeqCst));
+            let backlog = self.backlog.load(Ordering::SeqCst);
+            let long = self.writes_long.load(Ordering::SeqCst);
+            self.leave(rt, lingers_on(backlog, long));
         }
     }
 
@@ -148,8 +158,7 @@ impl<'a> TurnSeat<'a> {
     /// The session has nothing at hand.
     pub fn leave<R: Wait + time::Clock>(&self, rt: &R, lingers: bool) {
         if self.at_hand.load(Ordering::SeqCst) && self.at_hand.swap(false, Ordering::SeqCst) {
-            let now = RunningClock::since(rt, self.start).now();
-            self.turns.leave(rt, self.export, now, lingers);
+            self.turns.leave(rt, self.export, self.now(rt), lingers);
         }
     }
 

@@ -1,37 +1,8 @@
 //! How many bytes of a session's requests are under way.
 
-use nbd_service::policy::{SESSION_BYTES, data_of, holds_back};
-use nbd_wire::RequestHead;
-use nbd_wire::protocol::WRITE;
+use nbd_service::policy::holds_back;
+use nbd_service::{ByteCounts, ends_batch, fewer_bytes, more_bytes};
 use std::sync::atomic::{AtomicBool, AtomicU64, Ordering};
-
-/// The bytes that a hold handed in.
-#[derive(Clone, Copy, Debug, PartialEq, Eq, Drop)]
-pub struct Admitted {
-    /// Data that READs ask for and that WRITEs carry which weren't performed.
-    pub bytes: u64,
-    /// Of these, what WRITEs carry.
-    pub waiting: u64,
-}
-
-impl Admitted {
-    pub const NOTHING: Admitted = Admitted {
-        bytes: 0,
-        waiting: 0,
-    };
-
-    /// One more request, which was performed under its hold or not.
-    pub fn with(self, head: RequestHead, performed: bool) -> Admitted {
-        let data = data_of(head);
-        let writes = head.kind == WRITE;
-        let waiting = if writes && !performed { data } else { 0 };
-        let bytes = if writes { waiting } else { data };
-        Admitted {
-            bytes: self.bytes.saturating_add(bytes),
-            waiting: self.waiting.saturating_add(waiting),
-        }
-    }
-}
 
 /// How many bytes of a session's requests aren't written to its client, and how many of its export's WRITEs wait.
 #[derive(Drop)]
@@ -58,22 +29,15 @@ impl<'a> BytesUnderWay<'a> {
     }
 
     /// A hold handed this in.
-    pub fn add(&self, admitted: Admitted) {
-        if admitted.bytes > 0 {
-            self.bytes.fetch_add(admitted.bytes, Ordering::SeqCst);
-        }
-        if admitted.waiting > 0 {
-            self.waiting.fetch_add(admitted.waiting, Ordering::SeqCst);
-            self.all_waiting
-                .fetch_add(admitted.waiting, Ordering::SeqCst);
-        }
+    pub fn add(&self, admitted: ByteCounts) {
+        raise(&self.bytes, admitted.bytes);
+        raise(&self.waiting, admitted.waiting);
+        raise(self.all_waiting, admitted.waiting);
     }
 
     /// So many bytes of data were written to the client.
     pub fn note_written(&self, bytes: u64) {
-        if bytes > 0 {
-            self.bytes.fetch_sub(bytes, Ordering::SeqCst);
-        }
+        lower(&self.bytes, bytes);
     }
 
     /// Nothing of the session is under way: what was counted for requests that were answered with an error goes too.
@@ -84,7 +48,7 @@ impl<'a> BytesUnderWay<'a> {
         let waiting = self.waiting.load(Ordering::SeqCst);
         if waiting > 0 {
             self.waiting.store(0, Ordering::SeqCst);
-            self.all_waiting.fetch_sub(waiting, Ordering::SeqCst);
+            lower(self.all_waiting, waiting);
         }
     }
 
@@ -96,9 +60,8 @@ impl<'a> BytesUnderWay<'a> {
     }
 
     /// Whether a hold that handed this in hands in no more.
-    pub fn ends_batch(&self, admitted: Admitted) -> bool {
-        let bytes = self.bytes.load(Ordering::SeqCst);
-        bytes.saturating_add(admitted.bytes) > SESSION_BYTES
+    pub fn ends_batch(&self, admitted: ByteCounts) -> bool {
+        ends_batch(self.bytes.load(Ordering::SeqCst), admitted)
     }
 
     /// The client reads what is sent, or doesn't.
@@ -116,5 +79,23 @@ impl<'a> BytesUnderWay<'a> {
     /// The session is over: nobody waits for its client any more.
     pub fn end(&self) {
         self.over.store(true, Ordering::SeqCst);
+    }
+}
+
+/// So many bytes more are counted.
+fn raise(count: &AtomicU64, more: u64) {
+    if more > 0 {
+        let _ = count.fetch_update(Ordering::SeqCst, Ordering::SeqCst, |bytes| {
+            Some(more_bytes(bytes, more))
+        });
+    }
+}
+
+/// So many bytes fewer are counted.
+fn lower(count: &AtomicU64, fewer: u64) {
+    if fewer > 0 {
+        let _ = count.fetch_update(Ordering::SeqCst, Ordering::SeqCst, |bytes| {
+            Some(fewer_bytes(bytes, fewer))
+        });
     }
 }

@@ -1,1 +1,4 @@
 pub mod Policy
+pub mod UnderWay
+pub mod TurnSteps
+pub mod Passes

@@ -41,6 +41,10 @@ batch_by wait = if nat_lt 1000000 wait then 16 else 8
 abbrev pub next_skip_by : ℕ → ℕ
 next_skip_by skipped = if nat_lt skipped 4 then 8 else (if nat_lt 32 skipped then 64 else skipped * 2)
 
+-- none once something came
+abbrev pub skip_behind_by : ℕ → Bool → ℕ
+skip_behind_by skipped came = if came then 0 else next_skip_by skipped
+
 -- the last of so many looks in a row
 abbrev pub yields_behind_look_by : ℕ → ℕ → Bool
 yields_behind_look_by look in_a_row = nat_lt 0 in_a_row && ((look % in_a_row) == (in_a_row - 1))
@@ -66,6 +70,10 @@ asks_for_turn_by units passed = nat_le 64 units || nat_le 1000000 passed
 abbrev pub cost_by : ℕ → ℕ → ℕ
 cost_by kind length = if (kind == 0) || (kind == 1) then units_of length else 1
 
+-- within 5 milliseconds
+abbrev pub is_busy_by : ℕ → ℕ → Bool
+is_busy_by asked moment = nat_le (moment - asked) 5000000
+
 -- 16 holds more, or one fewer
 abbrev pub backlog_by : ℕ → Bool → ℕ
 backlog_by before more = if more then 16 else before - 1
@@ -75,6 +83,12 @@ backlog_by before more = if more then 16 else before - 1
 -- in milliseconds: 10 s for an option, a minute for all
 abbrev pub handshake_wait_by : ℕ → ℕ → ℕ
 handshake_wait_by passed option = min (60000 - passed) (10000 - option)
+
+-- in nanoseconds; none where no millisecond is left
+abbrev pub handshake_left_by : ℕ → ℕ → Option ℕ
+handshake_left_by passed option_began =
+    let left = handshake_wait_by passed (passed - option_began) in
+    if left == 0 then None else Some (left * 1000000)
 
 -- 600 waits of 100 milliseconds
 abbrev pub is_stalled_by : ℕ → Bool

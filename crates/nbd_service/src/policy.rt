@@ -1,7 +1,7 @@
 //! Every number of the serving code, and the rules over values that its threads follow. `specs/Policy.antt` says each rule.
-ghost use Rattle.std.specs.Prelude.{◌≡◌, ◌+◌, ◌-◌, ◌*◌, ◌<◌, ◌≤◌, ◌^◌, min, option_map};
+ghost use Rattle.std.specs.Prelude.{◌≡◌, ◌+◌, ◌-◌, ◌*◌, ◌/◌, ◌<◌, ◌≤◌, ◌^◌, min, option_map};
 ghost use Rattle.std.specs.Duration.{as_nanos};
-ghost use Rattle.nbd_service.specs.Policy.{accept_may_pass_by, asks_for_turn_by, backlog_by, batch_by, bell_by, cost_by, data_by, handshake_wait_by, holds_back_by, is_alone_by, is_forgotten_by, is_network_fault_by, is_shortage_by, is_stalled_by, keeps_by, load_by, next_skip_by, patience_by, performs_by, reads_ahead_by, short_pieces_by, size_by, still_defers_by, suits_reader_by, yields_by, yields_behind_look_by};
+ghost use Rattle.nbd_service.specs.Policy.{accept_may_pass_by, asks_for_turn_by, backlog_by, batch_by, bell_by, cost_by, data_by, handshake_left_by, handshake_wait_by, holds_back_by, is_alone_by, is_busy_by, is_forgotten_by, is_network_fault_by, is_shortage_by, is_stalled_by, keeps_by, load_by, next_skip_by, patience_by, performs_by, reads_ahead_by, short_pieces_by, size_by, skip_behind_by, still_defers_by, suits_reader_by, yields_by, yields_behind_look_by};
 
 use crate::request_size::{Load, RequestSize};
 use nbd_wire::RequestHead;
@@ -253,6 +253,31 @@ pub fn handshake_wait_ms(passed: u64, option_passed: u64) -> u64
     whole.min(option)
 }
 
+/// So long in whole milliseconds, up to the greatest number of them.
+pub fn whole_ms(passed: Duration) -> u64
+    ensures { result ≡ min (as_nanos passed / 1_000_000) (2 ^ 64 - 1) }
+{
+    passed.as_millis().min(u128::from(u64::MAX)) as u64
+}
+
+/// How long a client has for its next bytes, so many milliseconds after its handshake began and its option did. None where its time
+/// is over.
+pub fn handshake_left(passed: u64, option_began: u64) -> Option<Duration>
+    ensures { option_map as_nanos result ≡ handshake_left_by passed option_began }
+{
+    match handshake_wait_ms(passed, passed.saturating_sub(option_began)) {
+        0 => None,
+        left => Some(Duration::from_millis(left)),
+    }
+}
+
+/// Whether an export still counts as busy that asked for a turn then.
+pub fn is_busy(asked: u64, now: u64) -> bool
+    ensures { result ≡ is_busy_by asked now }
+{
+    now.saturating_sub(asked) <= BUSY_NS
+}
+
 /// Whether a write ends its session that so often waited in vain for its client.
 pub fn is_stalled(waits: u64) -> bool
     ensures { result ≡ is_stalled_by waits }
@@ -342,6 +367,14 @@ pub fn batch_after(wait: Duration) -> usize
     } else {
         BATCH
     }
+}
+
+/// In how many reads a socket isn't looked at behind a look at which something came or nothing did, and before which it wasn't in so
+/// many.
+pub fn skip_behind(skipped: u32, came: bool) -> u32
+    ensures { result ≡ skip_behind_by skipped came }
+{
+    if came { 0 } else { next_skip(skipped) }
 }
 
 /// In how many reads a socket isn't looked at, once nothing came at a look: twice as many as before it, within bounds.

@@ -36,8 +36,13 @@ pub struct LongWrite {
 }
 
 impl LongWrite {
+    ghost use Rattle.std.specs.Prelude.{◌≡◌, ◌≢◌, Some};
+
     /// When another session sent its latest.
-    fn by_another_than(&self, session: SessionId) -> Option<Moment> {
+    fn by_another_than(&self, session: SessionId) -> Option<Moment>
+        ensures own { self.now.session ≡ session → result ≡ self.now.other }
+        ensures another { self.now.session ≢ session → result ≡ Some self.now.at }
+    {
         if self.session == session {
             self.other
         } else {

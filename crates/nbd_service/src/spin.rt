@@ -1,5 +1,8 @@
 //! The spin ladder: how a thread looks for what it waits for before it sleeps, and where it lets others run.
 
+ghost use Rattle.std.specs.Prelude.{◌≡◌};
+ghost use Rattle.nbd_service.specs.Policy.{yields_behind_look_by};
+
 use crate::policy::{LOCK_LOOKS, LOCK_LOOKS_IN_A_ROW, SOCKET_LOOKS, yields_behind_look};
 use std::hint::spin_loop;
 use std::thread::yield_now;
@@ -27,7 +30,9 @@ impl SpinLadder {
     };
 
     /// What comes behind the look of this number, which found nothing. Tells whether others ran.
-    pub fn rest_behind(self, look: usize) -> bool {
+    pub fn rest_behind(self, look: usize) -> bool
+        ensures { result ≡ yields_behind_look_by look self.in_a_row }
+    {
         spin_loop();
         let yields = yields_behind_look(look, self.in_a_row);
         if yields {

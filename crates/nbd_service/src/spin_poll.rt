@@ -1,6 +1,6 @@
 //! A socket that is looked at for a while before its reader sleeps.
 
-use crate::policy::next_skip;
+use crate::policy::skip_behind;
 use crate::spin::SpinLadder;
 use libc::net::{POLLIN, poll};
 use libc::types::pollfd;
@@ -32,7 +32,7 @@ impl SpinPoll {
             return false;
         }
         let came = has_come(peer);
-        self.skipped = if came { 0 } else { next_skip(self.skipped) };
+        self.skipped = skip_behind(self.skipped, came);
         self.left = self.skipped;
         came
     }

@@ -1,6 +1,6 @@
 //! Whose turn it is among exports whose clients ask for much: the order of turns behind a lock, and the bells of those that wait.
 
-use crate::policy::{BUSY_NS, LINGER_NS, MOST_EXPORTS};
+use crate::policy::{LINGER_NS, MOST_EXPORTS, is_busy};
 use nbd_base::NoMemory;
 use nbd_commands::Config;
 use nbd_workers::Bell;
@@ -183,7 +183,7 @@ impl Turns {
         let busy = self.busy.load(Ordering::SeqCst);
         for (at, asked) in self.asked.iter().enumerate() {
             let bit = bit_of(at);
-            if busy & bit != 0 && now.saturating_sub(asked.load(Ordering::SeqCst)) > BUSY_NS {
+            if busy & bit != 0 && !is_busy(asked.load(Ordering::SeqCst), now) {
                 self.busy.fetch_and(!bit, Ordering::SeqCst);
             }
         }
