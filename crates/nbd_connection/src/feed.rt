@@ -9,9 +9,6 @@ use std::io::Read;
 use std::sync::Wait;
 use std::{io, time};
 
-/// The most bytes of a long WRITE's payload that are read at once. Where there is room for more, the next bytes begin a request.
-const LONGEST_STRETCH: usize = 65_536;
-
 /// Where the requests of a connection come from: what was read ahead, and else the socket.
 #[derive(Drop)]
 pub struct Feed<'a, 'b, R: Wait + time::Clock> {
@@ -21,8 +18,6 @@ pub struct Feed<'a, 'b, R: Wait + time::Clock> {
     piece: Option<Piece>,
     used: usize,
     poll: SpinPoll,
-    // Whether the next bytes begin a request.
-    is_between: bool,
 }
 
 impl<'a, 'b, R: Wait + time::Clock> Feed<'a, 'b, R> {
@@ -33,7 +28,6 @@ impl<'a, 'b, R: Wait + time::Clock> Feed<'a, 'b, R> {
             piece: None,
             used: 0,
             poll: SpinPoll::new(),
-            is_between: true,
         }
     }
 
@@ -90,11 +84,9 @@ impl<'a, 'b, R: Wait + time::Clock> Feed<'a, 'b, R> {
             if mine {
                 return None;
             }
-            if self.is_between {
-                self.link
-                    .seat
-                    .wait_for_pieces(self.rt, self.link.under_way());
-            }
+            self.link
+                .seat
+                .wait_for_pieces(self.rt, self.link.under_way());
             ahead.pieces.wait(self.rt, heard, None);
             self.link.seat.end_wait();
         }
@@ -104,21 +96,19 @@ impl<'a, 'b, R: Wait + time::Clock> Feed<'a, 'b, R> {
 
 impl<R: Wait + time::Clock> Read for Feed<'_, '_, R> {
     fn read(&mut self, buf: &mut [u8]) -> io::Result<usize> {
-        self.is_between = buf.len() > LONGEST_STRETCH;
         self.make_ready();
         let count = self.copy(buf);
         if count > 0 {
+            self.link.seat.end_wait();
             return Ok(count);
         }
         let mut peer = self.link.peer;
         if !self.link.is_bulk() {
             self.poll.poll(peer);
         }
-        if self.is_between {
-            self.link
-                .seat
-                .wait_for_client(self.rt, peer, self.link.under_way());
-        }
+        self.link
+            .seat
+            .wait_for_client(self.rt, peer, self.link.under_way());
         let came = peer.read(buf);
         self.link.seat.end_wait();
         self.link.interactive.rest_behind(&came, MUCH_READ_BYTES);

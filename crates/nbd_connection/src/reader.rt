@@ -35,7 +35,12 @@ pub fn read_requests<'s, E, L: Ledger, R: Wait + Sync + time::Clock>(
         let heard = link.room.heard();
         let offer = match held.take() {
             Some(request) => Offer::Again(request),
-            None => Offer::Read(source.frames.next()),
+            None => {
+                if !source.frames.is_ready() {
+                    link.seat.begin_request();
+                }
+                Offer::Read(source.frames.next())
+            }
         };
         wait_for_room(rt, link);
         let (turn, ahead) = read_on(rt, service, link, &mut source, pass, offer);

@@ -24,7 +24,8 @@ pub struct TurnSeat<'a> {
     at_hand: AtomicBool,
     // Whether its reader waits for the client, and its writer has something to do.
     reader_waits: AtomicBool,
-    // Whether more had come behind the latest request.
+    // Whether the next bytes begin a request, and whether some had come already where the latest began.
+    begins: AtomicBool,
     had_input: AtomicBool,
     // Whether that was a long WRITE.
     writes_long: AtomicBool,
@@ -44,6 +45,7 @@ impl<'a> TurnSeat<'a> {
             export,
             at_hand: AtomicBool::new(false),
             reader_waits: AtomicBool::new(false),
+            begins: AtomicBool::new(true),
             had_input: AtomicBool::new(false),
             writes_long: AtomicBool::new(false),
             backlog: AtomicU32::new(0),
@@ -117,13 +119,21 @@ impl<'a> TurnSeat<'a> {
         }
     }
 
-    /// The reader is about to wait for its client, behind whole requests, of which so many are under way.
+    /// The next bytes that are read begin a request.
+    pub fn begin_request(&self) {
+        set(&self.begins, true);
+    }
+
+    /// The reader is about to wait for its client, of whose requests so many are under way. Nobody waits for a client, nor for one that
+    /// has sent a part of a request.
     pub fn wait_for_client<R: Wait + time::Clock>(&self, rt: &R, peer: &TcpStream, under_way: u64) {
         if !self.is_waited_for() {
             return;
         }
         let has = has_input(peer);
-        set(&self.had_input, has);
+        if self.begins.load(Ordering::SeqCst) {
+            set(&self.had_input, has);
+        }
         if !has {
             self.wait_for_pieces(rt, under_way);
         }
@@ -145,6 +155,7 @@ impl<'a> TurnSeat<'a> {
 
     /// Something has come from the client.
     pub fn end_wait(&self) {
+        set(&self.begins, false);
         set(&self.reader_waits, false);
     }
 
