@@ -2,14 +2,15 @@
 
 use crate::feed::Feed;
 use crate::outlet::Outlet;
-use crate::rules::joined_size;
 use crate::session_link::SessionLink;
 use export_cell::Outdated;
 use nbd_base::NoMemory;
-use nbd_service::policy::{OUTDATED_PAGES, performs_itself, size_of};
-use nbd_service::{Asked, ByteCounts, Disks, RequestSize, Service, Wakeups, prefetch};
+use nbd_service::{Asked, Disks, Service, Wakeups, prefetch};
 use nbd_session::{Counted, Frame, FrameReader};
 use nbd_wire::{Request, RequestHead};
+use serve_policy::{
+    ByteCounts, OUTDATED_PAGES, RequestSize, joined_size, performs_itself, size_of,
+};
 use server_lock::Pass;
 use session_turns::{Arrival, Stop, Turn, hand_in, offer_held, read_ready};
 use std::alloc::Global;

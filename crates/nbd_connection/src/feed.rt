@@ -4,7 +4,7 @@ ghost use Rattle.std.specs.Prelude.{◌≤◌, length};
 use crate::read_ahead::Piece;
 use crate::session_link::SessionLink;
 use nbd_service::SpinPoll;
-use nbd_service::policy::MUCH_READ_BYTES;
+use serve_policy::MUCH_READ_BYTES;
 use std::io::Read;
 use std::sync::Wait;
 use std::{io, time};

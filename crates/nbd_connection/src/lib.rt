@@ -14,7 +14,6 @@ mod preparing;
 mod read_ahead;
 mod reader;
 mod ready_replies;
-pub mod rules;
 mod session_link;
 mod turn_seat;
 mod under_way;

@@ -3,9 +3,9 @@
 use crate::port::{Port, is_late};
 use crate::under_way::BytesUnderWay;
 use nbd_base::NoMemory;
-use nbd_service::policy::{OUTLET_BYTES, TAKEN_REPLIES, may_keep, suits_reader};
 use nbd_service::{Disks, InteractiveLoad};
 use nbd_workers::Bell;
+use serve_policy::{OUTLET_BYTES, TAKEN_REPLIES, may_keep, suits_reader};
 use server_core::SessionId;
 use server_lock::Pass;
 use session_turns::{ReadyReply, ReplyWriter, Stop};

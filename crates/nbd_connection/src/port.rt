@@ -2,8 +2,8 @@
 
 use crate::under_way::BytesUnderWay;
 use nbd_service::InteractiveLoad;
-use nbd_service::policy::{MUCH_WRITTEN_BYTES, is_stalled};
 use nbd_workers::Bell;
+use serve_policy::{MUCH_WRITTEN_BYTES, is_stalled};
 use std::io;
 use std::io::{ErrorKind, Write};
 use std::net::TcpStream;

@@ -1,9 +1,9 @@
 //! Replies with long data that a reader makes ready while its writer is busy.
 
 use crate::session_link::SessionLink;
-use nbd_service::policy::READY_BYTES;
 use nbd_service::{Service, Wakeups};
 use nbd_wire::Reply;
+use serve_policy::READY_BYTES;
 use server_lock::Pass;
 use session_turns::{ReadyReply, take_reply};
 use std::alloc::Global;

@@ -1,10 +1,8 @@
 //! A client's bytes that are read ahead by a thread of their own, while its long WRITEs are copied and performed.
 
 use nbd_base::NoMemory;
-use nbd_service::policy::{
-    ENOUGH_BLANK_PIECES, FEW_SHORT_PIECES, PIECE_BYTES, PIECES, short_pieces,
-};
 use nbd_workers::Bell;
+use serve_policy::{ENOUGH_BLANK_PIECES, FEW_SHORT_PIECES, PIECE_BYTES, PIECES, short_pieces};
 use std::alloc::Global;
 use std::collections::VecDeque;
 use std::io;

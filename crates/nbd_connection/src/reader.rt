@@ -3,12 +3,11 @@
 use crate::batch::{BatchOutcome, Offer, RequestSource};
 use crate::outlet::{FlushOutcome, Outlet};
 use crate::preparing::make_ready;
-use crate::rules::{wakes_worker, wakes_writer};
 use crate::session_link::SessionLink;
-use nbd_service::policy::{BATCH, PATIENCE_S, batch_after, load_of, size_of};
 use nbd_service::{HoldClock, Service};
 use nbd_wire::Request;
 use nbd_workers::until;
+use serve_policy::{BATCH, PATIENCE_S, batch_after, load_of, size_of, wakes_worker, wakes_writer};
 use server_lock::Pass;
 use session_turns::{Stop, Turn};
 use std::alloc::Global;

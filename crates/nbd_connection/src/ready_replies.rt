@@ -1,7 +1,7 @@
 //! Replies with long data that the reader has made ready, so that one is copied while the writer sends the one before.
 
 use nbd_base::NoMemory;
-use nbd_service::policy::{READY_BYTES, READY_REPLIES, READY_TEXTS};
+use serve_policy::{READY_BYTES, READY_REPLIES, READY_TEXTS};
 use session_turns::{REPLY_HEAD_BYTES, ReadyReply};
 use std::alloc::Global;
 use std::collections::VecDeque;

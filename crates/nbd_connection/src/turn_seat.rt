@@ -1,11 +1,11 @@
 //! A session's place in the order of turns.
 
-use nbd_service::policy::{backlog_after, size_of};
-use nbd_service::{
-    RequestSize, RunningClock, TurnStep, Turns, enters_turns, has_input, has_more,
-    leaves_behind_hold, lingers_on, turn_step, units_of,
-};
+use nbd_service::{RunningClock, Turns, has_input};
 use nbd_wire::{Request, RequestHead};
+use serve_policy::{
+    RequestSize, TurnStep, backlog_after, enters_turns, has_more, leaves_behind_hold, lingers_on,
+    size_of, turn_step, units_of,
+};
 use std::alloc::Global;
 use std::net::TcpStream;
 use std::sync::Wait;

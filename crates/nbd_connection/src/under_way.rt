@@ -1,7 +1,6 @@
 //! How many bytes of a session's requests are under way.
 
-use nbd_service::policy::holds_back;
-use nbd_service::{ByteCounts, ends_batch, fewer_bytes, more_bytes};
+use serve_policy::{ByteCounts, ends_batch, fewer_bytes, holds_back, more_bytes};
 use std::sync::atomic::{AtomicBool, AtomicU64, Ordering};
 
 /// How many bytes of a session's requests aren't written to its client, and how many of its export's WRITEs wait.

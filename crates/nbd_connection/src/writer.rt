@@ -1,9 +1,9 @@
 //! The thread of a connection that writes replies.
 
 use crate::outlet::Outlet;
-use crate::rules::writer_goes_on;
 use crate::session_link::SessionLink;
 use nbd_service::{Service, Wakeups};
+use serve_policy::writer_goes_on;
 use server_lock::Pass;
 use session_turns::{ReadyReply, Stop};
 use std::alloc::Global;

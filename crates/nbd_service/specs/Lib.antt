@@ -1,4 +1,1 @@
-pub mod Policy
-pub mod UnderWay
-pub mod TurnSteps
 pub mod Passes

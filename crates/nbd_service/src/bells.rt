@@ -1,9 +1,9 @@
 //! Where the threads of a server sleep, and who is woken by what.
 
-use crate::policy::{SESSION_BELLS, bell_of};
 use nbd_base::NoMemory;
 use nbd_commands::{Config, ExportConfig};
 use nbd_workers::Bell;
+use serve_policy::{SESSION_BELLS, bell_of};
 use server_core::{SessionId, Ticket};
 use std::alloc::Global;
 use std::sync::atomic::{AtomicBool, AtomicU64, Ordering};

@@ -1,8 +1,8 @@
 //! How many descriptors the process may have.
 
-use crate::policy::connections_for;
 use libc::types::rlimit;
 use libc::{RLIMIT_NOFILE, getrlimit};
+use serve_policy::connections_for;
 
 /// How many connections there is room for by the process's limit of descriptors (RLIMIT_NOFILE, getrlimit(2)). None where the
 /// system doesn't tell.

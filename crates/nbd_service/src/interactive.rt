@@ -1,8 +1,7 @@
 //! Interactive sessions, which ask for little at a time: those that move much let them go first.
 
-use crate::policy::{is_forgotten, yields_behind};
-use crate::request_size::Load;
 use crate::spin::let_others_run;
+use serve_policy::{Load, is_forgotten, yields_behind};
 use std::io;
 use std::sync::atomic::{AtomicBool, AtomicU64, AtomicUsize, Ordering};
 use tag_clock::Moment;

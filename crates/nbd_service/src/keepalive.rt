@@ -1,9 +1,9 @@
 //! Probes of connections over TCP whose other side may be gone.
 
-use crate::policy::{KEEPALIVE_IDLE_S, KEEPALIVE_INTERVAL_S, KEEPALIVE_PROBES};
 use libc::net::{
     IPPROTO_TCP, SO_KEEPALIVE, SOL_SOCKET, TCP_KEEPCNT, TCP_KEEPIDLE, TCP_KEEPINTVL, setsockopt,
 };
+use serve_policy::{KEEPALIVE_IDLE_S, KEEPALIVE_INTERVAL_S, KEEPALIVE_PROBES};
 use std::net::TcpStream;
 use std::os::fd::AsRawFd;
 

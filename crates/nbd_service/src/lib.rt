@@ -6,27 +6,22 @@
 #![tactic(auto)]
 
 mod bells;
-mod byte_counts;
 mod descriptors;
 mod fault;
 mod hold_clock;
 mod interactive;
 mod keepalive;
 mod passes;
-pub mod policy;
 mod prefetching;
-mod request_size;
 mod running_clock;
 mod service;
 mod spin;
 mod spin_poll;
-mod turn_step;
 mod turns;
 mod wakeups;
 mod worker_gate;
 
 pub use bells::Bells;
-pub use byte_counts::{ByteCounts, ends_batch, fewer_bytes, more_bytes};
 pub use descriptors::room_for_connections;
 pub use fault::ServeFault;
 pub use hold_clock::HoldClock;
@@ -34,14 +29,10 @@ pub use interactive::InteractiveLoad;
 pub use keepalive::keep_alive;
 pub use passes::PassPool;
 pub use prefetching::prefetch;
-pub use request_size::{Load, RequestSize};
 pub use running_clock::RunningClock;
 pub use service::{Disks, LongWrite, Service};
 pub use spin::SpinLadder;
 pub use spin_poll::{SpinPoll, has_input};
-pub use turn_step::{
-    TurnStep, enters_turns, has_more, leaves_behind_hold, lingers_on, turn_step, units_of,
-};
 pub use turns::Turns;
 pub use wakeups::{Asked, Wakeups};
 pub use worker_gate::WorkerGate;

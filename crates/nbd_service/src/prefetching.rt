@@ -1,7 +1,6 @@
 //! What the next requests of a session change is touched before they are handed in. It mostly is in no cache, and a processor waits for
 //! several such places at once, but for one after another where each is met in a request's own work.
 
-use crate::policy::STEPS_OF_A_REQUEST;
 use crate::service::Disks;
 use export_cell::ExportCell;
 use export_store::Paged;
@@ -9,6 +8,7 @@ use lone_export::Step;
 use nbd_wire::protocol::WRITE;
 use nbd_wire::{Request, RequestHead};
 use payload::PAGE;
+use serve_policy::STEPS_OF_A_REQUEST;
 use std::alloc::Global;
 use std::sync::ledger::Ledger;
 

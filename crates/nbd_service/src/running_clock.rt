@@ -1,6 +1,6 @@
 //! The clock of a server that runs.
 
-use crate::policy::moment_after;
+use serve_policy::moment_after;
 use std::time;
 use std::time::{Duration, Instant};
 use tag_clock::{Clock, Moment};

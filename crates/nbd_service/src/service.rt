@@ -3,7 +3,6 @@
 use crate::bells::Bells;
 use crate::interactive::InteractiveLoad;
 use crate::passes::PassPool;
-use crate::policy::{KEPT_BLOCK_BYTES, is_alone, may_read_ahead, still_defers};
 use crate::running_clock::RunningClock;
 use crate::spin::SpinLadder;
 use crate::turns::Turns;
@@ -12,6 +11,7 @@ use export_store::Paged;
 use nbd_base::NoMemory;
 use nbd_commands::Config;
 use nbd_options::ExportTable;
+use serve_policy::{KEPT_BLOCK_BYTES, is_alone, may_read_ahead, still_defers};
 use server_core::SessionId;
 use server_lock::{Booked, Pass, Shared};
 use std::alloc::Global;

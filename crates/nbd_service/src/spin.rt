@@ -1,9 +1,9 @@
 //! The spin ladder: how a thread looks for what it waits for before it sleeps, and where it lets others run.
 
 ghost use Rattle.std.specs.Prelude.{◌≡◌};
-ghost use Rattle.nbd_service.specs.Policy.{yields_behind_look_by};
+ghost use Rattle.serve_policy.specs.Policy.{yields_behind_look_by};
 
-use crate::policy::{LOCK_LOOKS, LOCK_LOOKS_IN_A_ROW, SOCKET_LOOKS, yields_behind_look};
+use serve_policy::{LOCK_LOOKS, LOCK_LOOKS_IN_A_ROW, SOCKET_LOOKS, yields_behind_look};
 use std::hint::spin_loop;
 use std::thread::yield_now;
 

@@ -1,9 +1,9 @@
 //! A socket that is looked at for a while before its reader sleeps.
 
-use crate::policy::skip_behind;
 use crate::spin::SpinLadder;
 use libc::net::{POLLIN, poll};
 use libc::types::pollfd;
+use serve_policy::skip_behind;
 use std::net::TcpStream;
 use std::os::fd::AsRawFd;
 

@@ -1,9 +1,9 @@
 //! Whose turn it is among exports whose clients ask for much: the order of turns behind a lock, and the bells of those that wait.
 
-use crate::policy::{LINGER_NS, MOST_EXPORTS, is_busy};
 use nbd_base::NoMemory;
 use nbd_commands::Config;
 use nbd_workers::Bell;
+use serve_policy::{LINGER_NS, MOST_EXPORTS, is_busy};
 use std::alloc::Global;
 use std::sync::atomic::{AtomicU64, Ordering};
 use std::sync::{Mutex, Wait};

@@ -1,12 +1,13 @@
-use nbd_service::policy::{
-    accept_may_pass, asks_for_turn, backlog_after, batch_after, bell_of, connections_for, cost_of,
-    data_of, handshake_wait_ms, holds_back, is_alone, is_stalled, load_of, may_keep,
-    may_read_ahead, moment_after, next_skip, passes_for, patience, performs_itself, short_pieces,
-    size_of, still_defers, suits_reader, yields_behind, yields_behind_look,
-};
-use nbd_service::{InteractiveLoad, Load, RequestSize, RunningClock, SpinPoll, Turns};
+use nbd_service::{InteractiveLoad, RunningClock, SpinPoll, Turns};
 use nbd_wire::RequestHead;
 use nbd_wire::protocol::{READ, TRIM, WRITE};
+use serve_policy::{
+    Load, RequestSize, accept_may_pass, asks_for_turn, backlog_after, batch_after, bell_of,
+    connections_for, cost_of, data_of, handshake_wait_ms, holds_back, is_alone, is_stalled,
+    load_of, may_keep, may_read_ahead, moment_after, next_skip, passes_for, patience,
+    performs_itself, short_pieces, size_of, still_defers, suits_reader, yields_behind,
+    yields_behind_look,
+};
 use std::alloc::Global;
 use std::io::Write;
 use std::net::TcpStream;

@@ -2,10 +2,10 @@
 
 use crate::serving::serve_on;
 use nbd_commands::Config;
-use nbd_service::policy::CONNECTIONS;
 use nbd_service::{ServeFault, room_for_connections};
 use nbd_session::Counted;
 use nbdq_cli::{Ending, Outcome, ServeTask, read_offer};
+use serve_policy::CONNECTIONS;
 use std::alloc::Global;
 use std::fs::{Files, remove_file};
 use std::io;

@@ -1,8 +1,8 @@
 //! Where threads that have served a client wait for the next one.
 
 use nbd_base::NoMemory;
-use nbd_service::policy::IDLE_THREADS;
 use nbd_workers::Bell;
+use serve_policy::IDLE_THREADS;
 use std::alloc::Global;
 use std::net::TcpStream;
 use std::sync::atomic::{AtomicBool, Ordering};

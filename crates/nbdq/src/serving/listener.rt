@@ -3,7 +3,7 @@
 use super::idle_threads::IdleThreads;
 use nbd_base::NoMemory;
 use nbd_service::keep_alive;
-use nbd_service::policy::accept_may_pass;
+use serve_policy::accept_may_pass;
 use std::alloc::Global;
 use std::io;
 use std::io::ErrorKind;

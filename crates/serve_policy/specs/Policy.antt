@@ -1,0 +1,145 @@
+-- The rules over values that the threads of a server follow. Data are counted in bytes, times in nanoseconds.
+use Rattle.std.specs.Prelude.{ℕ, ◌+◌, ◌-◌, ◌*◌, ◌%◌, min, Bool, true, false, ◌&&◌, ◌||◌, ◌==◌, nat_lt, nat_le, if◌then◌else◌, Option, Some, None}
+use Rattle.turn_order.specs.Flows.{units_of}
+use Rattle.serve_policy.specs.declared.request_size.RequestSize.{RequestSize}
+use Rattle.serve_policy.specs.declared.request_size.RequestSize.TheVariants as sizes
+use Rattle.serve_policy.specs.declared.request_size.Load.{Load}
+use Rattle.serve_policy.specs.declared.request_size.Load.TheVariants as loads
+
+-- ---- requests
+
+-- a READ of more than 16 KiB, a WRITE of 64 KiB or more, or neither
+abbrev pub size_by : ℕ → ℕ → RequestSize
+size_by kind length =
+    if (kind == 0) && nat_lt 16384 length then sizes.LongRead
+    else (if (kind == 1) && nat_lt 65535 length then sizes.LongWrite else sizes.Short)
+
+abbrev pub is_long : RequestSize → Bool
+is_long sizes.Nothing = false
+is_long sizes.Short = false
+is_long sizes.LongRead = true
+is_long sizes.LongWrite = true
+
+-- long data, or several requests at a time
+abbrev pub load_by : RequestSize → Bool → Load
+load_by next more = if more then loads.Bulk else (if is_long next then loads.Bulk else loads.Interactive)
+
+-- a reader performs all but READs of long data
+abbrev pub performs_by : RequestSize → Bool
+performs_by sizes.Nothing = false
+performs_by sizes.Short = true
+performs_by sizes.LongRead = false
+performs_by sizes.LongWrite = true
+
+-- 8 requests under one hold, 16 behind a wait of more than a millisecond
+abbrev pub batch_by : ℕ → ℕ
+batch_by wait = if nat_lt 1000000 wait then 16 else 8
+
+-- ---- who goes first
+
+-- twice as many reads, 8 at least and 64 at most
+abbrev pub next_skip_by : ℕ → ℕ
+next_skip_by skipped = if nat_lt skipped 4 then 8 else (if nat_lt 32 skipped then 64 else skipped * 2)
+
+-- none once something came
+abbrev pub skip_behind_by : ℕ → Bool → ℕ
+skip_behind_by skipped came = if came then 0 else next_skip_by skipped
+
+-- the last of so many looks in a row
+abbrev pub yields_behind_look_by : ℕ → ℕ → Bool
+yields_behind_look_by look in_a_row = nat_lt 0 in_a_row && ((look % in_a_row) == (in_a_row - 1))
+
+abbrev pub yields_by : ℕ → ℕ → Bool
+yields_by bytes many = nat_le many bytes
+
+-- more than a second ago
+abbrev pub is_forgotten_by : ℕ → ℕ → Bool
+is_forgotten_by latest moment = nat_lt 1000000000 (moment - latest)
+
+-- 200 microseconds
+abbrev pub still_defers_by : ℕ → Bool
+still_defers_by passed = nat_lt passed 200000
+
+-- ---- turns
+
+-- 64 units, or a millisecond
+abbrev pub asks_for_turn_by : ℕ → ℕ → Bool
+asks_for_turn_by units passed = nat_le 64 units || nat_le 1000000 passed
+
+-- one for each 16 KiB begun, and one at least
+abbrev pub cost_by : ℕ → ℕ → ℕ
+cost_by kind length = if (kind == 0) || (kind == 1) then units_of length else 1
+
+-- within 5 milliseconds
+abbrev pub is_busy_by : ℕ → ℕ → Bool
+is_busy_by asked moment = nat_le (moment - asked) 5000000
+
+-- 16 holds more, or one fewer
+abbrev pub backlog_by : ℕ → Bool → ℕ
+backlog_by before more = if more then 16 else before - 1
+
+-- ---- silent clients, and what is under way
+
+-- in milliseconds: 10 s for an option, a minute for all
+abbrev pub handshake_wait_by : ℕ → ℕ → ℕ
+handshake_wait_by passed option = min (60000 - passed) (10000 - option)
+
+-- in nanoseconds; none where no millisecond is left
+abbrev pub handshake_left_by : ℕ → ℕ → Option ℕ
+handshake_left_by passed option_began =
+    let left = handshake_wait_by passed (passed - option_began) in
+    if left == 0 then None else Some (left * 1000000)
+
+-- 600 waits of 100 milliseconds
+abbrev pub is_stalled_by : ℕ → Bool
+is_stalled_by waits = nat_le 600 waits
+
+abbrev pub data_by : ℕ → ℕ → ℕ
+data_by kind length = if (kind == 0) || (kind == 1) then length else 0
+
+-- more than 64 MiB of the session, or 256 MiB of its export's waiting WRITEs
+abbrev pub holds_back_by : ℕ → ℕ → ℕ → Bool
+holds_back_by under_way session waiting = nat_lt 0 under_way && (nat_lt 67108864 session || nat_lt 268435456 waiting)
+
+-- ---- faults of accept(2), by the numbers of errno(3)
+
+abbrev pub is_shortage_by : ℕ → Bool
+is_shortage_by n = (n == 12) || (n == 23) || (n == 24) || (n == 105)
+
+abbrev pub is_network_fault_by : ℕ → Bool
+is_network_fault_by n =
+    ((n == 1) || (n == 71) || (n == 92) || (n == 95)) || ((n == 64) || (n == 100) || (n == 101)) || (n == 112) || (n == 113)
+
+abbrev pub accept_may_pass_by : ℕ → Bool
+accept_may_pass_by n = is_shortage_by n || is_network_fault_by n
+
+-- ---- reading ahead
+
+abbrev pub reads_ahead_by : ℕ → Bool
+reads_ahead_by processors = nat_le 4 processors
+
+-- no other, or more than 20 milliseconds ago
+abbrev pub is_alone_by : Option ℕ → ℕ → Bool
+is_alone_by None moment = true
+is_alone_by (Some latest) moment = nat_lt 20000000 (moment - latest)
+
+-- two end the reading ahead
+abbrev pub short_pieces_by : ℕ → ℕ → ℕ
+short_pieces_by before bytes =
+    if bytes == 0 then 2 else (if nat_lt bytes 16384 then min (before + 1) 18446744073709551615 else 0)
+
+-- ---- replies
+
+abbrev pub keeps_by : ℕ → Bool
+keeps_by unsent = nat_lt unsent 4
+
+-- 128 KiB, and within the 256 KiB of the outlet together with what isn't sent
+abbrev pub suits_reader_by : ℕ → ℕ → Bool
+suits_reader_by bytes unsent = nat_le bytes 131072 && nat_lt unsent (262144 - bytes)
+
+-- a second, and without end where nothing is under way
+abbrev pub patience_by : ℕ → Option ℕ
+patience_by under_way = if under_way == 0 then None else Some 1000000000
+
+abbrev pub bell_by : ℕ → ℕ
+bell_by session = session % 64

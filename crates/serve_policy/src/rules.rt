@@ -1,0 +1,38 @@
+//! What the threads of a connection decide by values.
+ghost use Rattle.std.specs.Prelude.{◌≡◌, ◌≢◌, ◌&&◌, ◌||◌, not};
+
+use crate::request_size::RequestSize;
+
+/// The size of all requests that a hold handed in, behind one more. Nothing where they aren't of one size.
+pub fn joined_size(before: RequestSize, next: RequestSize) -> RequestSize
+    ensures same { before ≡ next → result ≡ before }
+    ensures other { before ≢ next → result ≡ RequestSize.Nothing }
+{
+    if before == next {
+        before
+    } else {
+        RequestSize::Nothing
+    }
+}
+
+/// Whether a reader wakes its writer behind a hold: long data is to be read, or not all replies are taken and written.
+pub fn wakes_writer(reads_long: bool, is_written: bool) -> bool
+    ensures { result ≡ (reads_long || not is_written) }
+{
+    reads_long || !is_written
+}
+
+/// Whether a reader wakes a worker behind a hold: something waits, and its writer won't choose it, since it isn't woken for long data
+/// or is kept from it by a client that doesn't read.
+pub fn wakes_worker(waits: bool, reads_long: bool, is_unread: bool) -> bool
+    ensures { result ≡ (waits && (is_unread || not reads_long)) }
+{
+    waits && (is_unread || !reads_long)
+}
+
+/// Whether a writer goes on by itself: something waits, and this round wasn't for nothing.
+pub fn writer_goes_on(waits: bool, wrote: bool, performed: bool) -> bool
+    ensures { result ≡ (waits && (wrote || performed)) }
+{
+    waits && (wrote || performed)
+}
