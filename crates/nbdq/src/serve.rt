@@ -5,7 +5,7 @@ use nbd_commands::Config;
 use nbd_service::policy::CONNECTIONS;
 use nbd_service::{ServeFault, room_for_connections};
 use nbd_session::Counted;
-use nbdq_cli::{Ending, Outcome, ServeTask, read_offer};
+use nbdq_cli::{Ending, Outcome, ServeTask, read_offer, write_warnings};
 use std::alloc::Global;
 use std::fs::{Files, remove_file};
 use std::io;
@@ -63,6 +63,7 @@ fn serve_listeners<R: Print + Eprint + AllocGlobal + Wait + Threads + Sync + Clo
     tcp: Option<TcpListener>,
     unix: Option<UnixListener>,
 ) -> Ending {
+    warn(rt, config);
     if let Some(room) = room_for_connections() {
         if room < CONNECTIONS {
             let _ = eprintln!(rt;
@@ -80,6 +81,17 @@ fn serve_listeners<R: Print + Eprint + AllocGlobal + Wait + Threads + Sync + Clo
         },
         Err(ServeFault::NoMemory) => Ending::Ran(Outcome::NoMemory),
         Err(ServeFault::Listen) => Ending::CannotListen,
+    }
+}
+
+/// Says what is odd in a configuration, and legal. Where memory is refused or standard error fails, it serves all the same.
+fn warn<R: Eprint + AllocGlobal>(rt: &R, config: &Config<Global>) {
+    let mut text = Vec::new(rt.alloc());
+    if write_warnings(config, &mut text).is_err() {
+        return;
+    }
+    if let Ok(text) = String::from_utf8(text) {
+        let _ = rt.eprint(text);
     }
 }
 
