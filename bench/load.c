@@ -10,7 +10,7 @@
  *   at=unix:PATH         or tcp:ADDRESS:PORT
  *   export=NAME          the export that GO asks for (default: the server's first)
  *   connections=N        each has a thread of its own (default 1)
- *   operation=WORD       read, write, mixed (connections in turn), trim, zero, zero-keep, flush (default read)
+ *   operation=WORD       read, write, mixed (connections in turn), trim, zero, zero-keep, flush, cache (default read)
  *   bytes=N              of each request (default 4096)
  *   depth=N              requests under way at a time (default 1)
  *   order=WORD           random or sequential, in steps of `bytes` (default random)
@@ -42,7 +42,7 @@
 #include <unistd.h>
 
 enum { FINE = 64, BUCKETS = 40 * FINE, MOST_CLIENTS = 64, MOST_PACED = 4096, MOST_SLICES = 20000, PIECE = 1 << 20, NANOS = 1000000000 };
-enum { READ = 0, WRITE = 1, DISC = 2, FLUSH = 3, TRIM = 4, ZERO = 6 };
+enum { READ = 0, WRITE = 1, DISC = 2, FLUSH = 3, TRIM = 4, CACHE = 5, ZERO = 6 };
 
 /* Latencies in nanoseconds, by buckets of 1 part in 64. */
 struct latency { uint64_t count, sum, most, buckets[BUCKETS]; };
@@ -415,6 +415,7 @@ static int begin(struct connection *c)
               : !strcmp(word, "mixed") ? c->index & 1
               : !strcmp(word, "trim")  ? TRIM
               : !strcmp(word, "flush") ? FLUSH
+              : !strcmp(word, "cache") ? CACHE
                                        : ZERO;
     c->flags = !strcmp(word, "zero-keep") ? 2 : 0;
     c->socket = dial(c->clients->at);

@@ -39,6 +39,9 @@ size = $size
 name = "seen"
 size = 1048576
 read_only = true
+[[export]]
+name = "large"
+size = 1099511627776
 TOML
 "$program" serve --tcp "127.0.0.1:$port" --unix "$folder/socket" < "$folder/disks.toml" > "$folder/said" &
 server=$!
@@ -85,6 +88,9 @@ for kind in tcp unix; do
   fi
   check "$kind nbdinfo" nbdinfo "$(uri disk)"
   check "$kind nbdinfo of a list" nbdinfo --list "$(uri '')"
+  check "$kind nbdinfo finds CACHE" nbdinfo --can cache "$(uri disk)"
+  check "$kind nbdinfo finds CACHE on a disk that is read-only" nbdinfo --can cache "$(uri seen)"
+  check "$kind nbdinfo of a disk of 1 TiB" test "$(nbdinfo --size "$(uri large)")" = 1099511627776
   check "$kind an unknown export is refused" not nbdinfo "$(uri nothing)"
   for connections in 1 4; do
     check "$kind nbdcopy to the disk, $connections connections" nbdcopy --connections=$connections "$folder/sent" "$(uri disk)"
@@ -100,6 +106,8 @@ for kind in tcp unix; do
   check "$kind qemu-io patterns" qemu-io -f raw \
     -c "write -P 0xaa 0 64k" -c "read -P 0xaa 0 64k" -c "write -z 4k 8k" -c "read -P 0 4k 8k" \
     -c "discard 32k 16k" -c "read -P 0 32k 16k" -c "write -f -P 0x55 1000 100" -c "read -P 0x55 1000 100" -c flush "$(uri disk)"
+  check "$kind qemu-io at the end of a disk of 1 TiB" qemu-io -f raw \
+    -c "write -P 0x77 1099511624704 3072" -c "discard 1099511627000 100" -c "read -P 0x77 1099511627100 676" -c "read -P 0 1099511620000 4k" "$(uri large)"
   check "$kind a write to a disk that is read-only is refused" not qemu-io -f raw -c "write 0 512" "$(uri seen)"
   check "$kind fio verify, 4 KiB at depth 16" fio --name=verify --ioengine=nbd "--uri=$(uri disk)" --rw=randrw --verify=crc32c \
     --bs=4k --size=32m --io_size=32m --iodepth=16 --output-format=terse

@@ -38,7 +38,7 @@ flushing cookie = record { head = record { flags = 0; kind = 3; cookie = cookie;
 
 -- a request of no known type
 abbrev pub unknown : ℕ → RequestMessage
-unknown cookie = record { head = record { flags = 0; kind = 5; cookie = cookie; offset = 0; length = 0 }; payload = [] }
+unknown cookie = record { head = record { flags = 0; kind = 7; cookie = cookie; offset = 0; length = 0 }; payload = [] }
 
 abbrev pub writing : ℕ → ℕ → List ℕ → RequestMessage
 writing cookie length bytes = record { head = record { flags = 0; kind = 1; cookie = cookie; offset = 0; length = length }; payload = bytes }

@@ -26,7 +26,7 @@ not_refused exports e h =
     let b = passed (is_outside 255 (length e.name)) BadName _ h in
     let c = passed (is_name_taken exports e.name) RepeatedName _ b.1 in
     let d = passed (nat_lt 4096 (option_map_or length e.description 0)) BadDescription _ c.1 in
-    let s = passed (is_outside 268435456 e.size) BadSize _ d.1 in
+    let s = passed (is_outside 1099511627776 e.size) BadSize _ d.1 in
     let r = passed (nat_lt 1000000 e.reservation) BadReservation _ s.1 in
     let l = passed (nat_lt 1000000 e.limit) BadLimit _ r.1 in
     let w = passed (is_outside 1000000 e.weight) BadWeight _ l.1 in
@@ -37,7 +37,7 @@ not_refused exports e h =
     record {
       name = within 255 (length e.name) b.0;
       description = not_above 4096 _ d.0;
-      size = within 268435456 e.size s.0;
+      size = within 1099511627776 e.size s.0;
       rates = record {
         reservation = not_above 1000000 e.reservation r.0;
         limit = not_above 1000000 e.limit l.0;

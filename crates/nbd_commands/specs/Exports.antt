@@ -28,7 +28,7 @@ pub record IsWithin (most n : ℕ) : Type 0 where
 pub record IsExport (e : Export) : Type 0 where
   pub name : IsWithin 255 (length e.name)
   pub description : option_map_or length e.description 0 ≤ 4096
-  pub size : IsWithin 268435456 e.size
+  pub size : IsWithin 1099511627776 e.size
   pub rates : AreRates e.reservation e.limit e.weight
   pub depth : IsWithin 4096 e.depth
   pub window : IsWithin 4096 e.window
@@ -36,7 +36,7 @@ pub record IsExport (e : Export) : Type 0 where
 
 -- the transmission flags of an export
 abbrev pub flags_of : Export → ℕ
-flags_of e = if e.read_only then 0x010f else 0x016d
+flags_of e = if e.read_only then 0x050f else 0x056d
 
 -- what a server offers, in order, and how many of its requests may be out at once
 pub record Offer : Type 0 where

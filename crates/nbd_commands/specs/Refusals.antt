@@ -23,7 +23,7 @@ is_name_taken exports name = list_any (λ e. bytes_eq e.name name) exports
 -- of the numbers of an export
 abbrev pub number_refusal : Export → Option Refusal
 number_refusal e =
-    if is_outside 268435456 e.size then Some BadSize
+    if is_outside 1099511627776 e.size then Some BadSize
     else (if nat_lt 1000000 e.reservation then Some BadReservation
     else (if nat_lt 1000000 e.limit then Some BadLimit
     else (if is_outside 1000000 e.weight then Some BadWeight

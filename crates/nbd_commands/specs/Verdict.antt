@@ -18,6 +18,9 @@ is_flush m = m.head.kind == 3
 abbrev pub is_trim : RequestMessage → Bool
 is_trim m = m.head.kind == 4
 
+abbrev pub is_cache : RequestMessage → Bool
+is_cache m = m.head.kind == 5
+
 abbrev pub is_write_zeroes : RequestMessage → Bool
 is_write_zeroes m = m.head.kind == 6
 
@@ -32,7 +35,7 @@ is_past_end size m = nat_lt size (m.head.offset + m.head.length)
 -- ---- why a request is refused, by an export of this size
 
 abbrev pub is_unknown_type : RequestMessage → Bool
-is_unknown_type m = not (is_read m || is_write m || is_flush m || is_trim m || is_write_zeroes m)
+is_unknown_type m = not (is_read m || is_write m || is_flush m || is_trim m || is_cache m || is_write_zeroes m)
 
 abbrev pub has_unknown_flag : RequestMessage → Bool
 has_unknown_flag m = not (has_known_flags m)
@@ -44,7 +47,7 @@ abbrev pub is_too_long_read : RequestMessage → Bool
 is_too_long_read m = is_read m && nat_lt 33554432 m.head.length
 
 abbrev pub has_invalid_range : ℕ → RequestMessage → Bool
-has_invalid_range size m = (is_read m || is_trim m) && is_past_end size m
+has_invalid_range size m = (is_read m || is_trim m || is_cache m) && is_past_end size m
 
 abbrev pub has_no_space : ℕ → RequestMessage → Bool
 has_no_space size m = (is_write m || is_write_zeroes m) && is_past_end size m

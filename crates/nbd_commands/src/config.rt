@@ -24,11 +24,13 @@ const SEND_WRITE_ZEROES: u16 = 1 << 6;
 
 const CAN_MULTI_CONN: u16 = 1 << 8;
 
+const SEND_CACHE: u16 = 1 << 10;
+
 const MAX_NAME: usize = 255;
 
 const MAX_DESCRIPTION: usize = 4096;
 
-const MAX_SIZE: u64 = 268_435_456;
+const MAX_SIZE: u64 = 1_099_511_627_776;
 
 const MAX_RATE: u64 = 1_000_000;
 
@@ -190,9 +192,15 @@ impl<A: Allocator + Copy> ExportConfig<A> {
         ensures { result ≡ flags_of self.now }
     {
         if self.read_only {
-            HAS_FLAGS | READ_ONLY | SEND_FLUSH | SEND_FUA | CAN_MULTI_CONN
+            HAS_FLAGS | READ_ONLY | SEND_FLUSH | SEND_FUA | CAN_MULTI_CONN | SEND_CACHE
         } else {
-            HAS_FLAGS | SEND_FLUSH | SEND_FUA | SEND_TRIM | SEND_WRITE_ZEROES | CAN_MULTI_CONN
+            HAS_FLAGS
+                | SEND_FLUSH
+                | SEND_FUA
+                | SEND_TRIM
+                | SEND_WRITE_ZEROES
+                | CAN_MULTI_CONN
+                | SEND_CACHE
         }
     }
 }

@@ -71,7 +71,7 @@ fn sizes_and_rates_come_next(rt: HostRuntime) {
         [
             (
                 ExportSettings {
-                    size: 268_435_457,
+                    size: 1_099_511_627_777,
                     ..b
                 },
                 Refusal::BadSize,
@@ -187,7 +187,7 @@ fn a_server_offers_what_was_added(rt: HostRuntime) {
     assert_eq!(rt; list.add(&first), Ok(()));
     let second = ExportSettings {
         read_only: true,
-        ..ExportSettings::new(b"second", 19)
+        ..ExportSettings::new(b"second", 1_099_511_627_776)
     };
     assert_eq!(rt; list.add(&second), Ok(()));
     let Ok(config) = Config::new(list, 8) else {
@@ -203,7 +203,7 @@ fn a_server_offers_what_was_added(rt: HostRuntime) {
     assert_eq!(rt; one.description().unwrap_or(b"none"), b"".as_slice());
     assert_eq!(rt;
         (one.size(), one.is_read_only(), one.flags()),
-        (17, false, 0x016d)
+        (17, false, 0x056d)
     );
     assert_eq!(rt; (one.reservation(), one.limit(), one.weight()), (3, 5, 7));
     assert_eq!(rt; (one.depth(), one.window()), (11, 13));
@@ -218,7 +218,7 @@ fn a_server_offers_what_was_added(rt: HostRuntime) {
     assert!(rt; two.description().is_none());
     assert_eq!(rt;
         (two.size(), two.is_read_only(), two.flags()),
-        (19, true, 0x010f)
+        (1_099_511_627_776, true, 0x050f)
     );
     assert_eq!(rt; (two.reservation(), two.limit(), two.weight()), (0, 0, 1));
     assert_eq!(rt; (two.depth(), two.window()), (1024, 256));

@@ -2,7 +2,7 @@ ghost use Rattle.std.specs.Prelude.{◌≡◌, ◌||◌};
 ghost use Rattle.nbd_commands.specs.Verdict.{is_write, is_trim, is_write_zeroes, is_past_end, is_unknown_type, has_unknown_flag, is_too_long_read, has_invalid_range, has_no_space, refusal_at, verdict_at, error_of};
 
 use nbd_wire::protocol::{
-    EINVAL, ENOSPC, EPERM, FLUSH, FUA, NO_HOLE, READ, TRIM, WRITE, WRITE_ZEROES,
+    CACHE, EINVAL, ENOSPC, EPERM, FLUSH, FUA, NO_HOLE, READ, TRIM, WRITE, WRITE_ZEROES,
 };
 use nbd_wire::{MAX_PAYLOAD, Request};
 use std::alloc::Allocator;
@@ -29,7 +29,7 @@ pub enum RequestRefusal {
     /// READ of more than 32 MiB.
     #[error("too long a range")]
     TooLong,
-    /// READ or TRIM past the end.
+    /// READ, TRIM or CACHE past the end.
     #[error("invalid range")]
     InvalidRange,
     /// WRITE or WRITE_ZEROES past the end.
@@ -56,8 +56,10 @@ impl RequestRefusal {
 fn is_unknown_type<A: Allocator>(request: &Request<A>) -> bool
     ensures { result ≡ is_unknown_type request.now }
 {
-    let kind = request.head().kind;
-    !(kind == READ || kind == WRITE || kind == FLUSH || kind == TRIM || kind == WRITE_ZEROES)
+    !matches!(
+        request.head().kind,
+        READ | WRITE | FLUSH | TRIM | CACHE | WRITE_ZEROES
+    )
 }
 
 // The flags that may be set are the lowest bits, so that one comparison tells of a higher one.
@@ -98,7 +100,7 @@ fn has_invalid_range<A: Allocator>(size: u64, request: &Request<A>) -> bool
     ensures { result ≡ has_invalid_range size request.now }
 {
     let kind = request.head().kind;
-    (kind == READ || kind == TRIM) && is_past_end(size, request)
+    (kind == READ || kind == TRIM || kind == CACHE) && is_past_end(size, request)
 }
 
 fn has_no_space<A: Allocator>(size: u64, request: &Request<A>) -> bool

@@ -23,7 +23,7 @@ pub enum Refusal {
     RepeatedName,
     #[error("the description is over 4,096 bytes long")]
     BadDescription,
-    #[error("the size isn't between 1 and 268,435,456")]
+    #[error("the size isn't between 1 and 1,099,511,627,776")]
     BadSize,
     #[error("the reservation isn't between 0 and 1,000,000")]
     BadReservation,

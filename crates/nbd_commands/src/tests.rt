@@ -56,6 +56,18 @@ fn told(read_only: bool, kind: u16, flags: u16, offset: u64, length: u32) -> u32
     verdict(&info, &request)
 }
 
+// Of a request that brings nothing, on an export of 1 TiB.
+fn told_of_a_tebibyte(kind: u16, offset: u64, length: u32) -> u32
+    requires { kind ≢ 1 }
+{
+    let request: Request<Global> = asked(kind, 0, offset, length);
+    let info = ExportInfo {
+        size: 1_099_511_627_776,
+        read_only: false,
+    };
+    verdict(&info, &request)
+}
+
 #[test]
 fn the_first_case_that_fits_gives_the_error(rt: HostRuntime) {
     for (kind, flags, offset, length, error) in [
@@ -70,7 +82,11 @@ fn the_first_case_that_fits_gives_the_error(rt: HostRuntime) {
         (0, 2, 0, 1, 22),
         (6, 3, 0, 1, 0),
         (6, 4, 0, 1, 22),
-        (5, 0, 0, 1, 22),
+        (5, 0, 0, 1, 0),
+        (5, 1, 4092, 4, 0),
+        (5, 0, 4092, 5, 22),
+        (5, 2, 0, 1, 22),
+        (7, 0, 0, 1, 22),
         (0, 0, 0, 33_554_433, 22),
     ] {
         assert_eq!(rt;
@@ -81,6 +97,34 @@ fn the_first_case_that_fits_gives_the_error(rt: HostRuntime) {
     }
     assert_eq!(rt; told(true, 4, 0, 0, 3), 1);
     assert_eq!(rt; told(true, 0, 0, 0, 3), 0);
+    assert_eq!(rt; told(true, 5, 0, 0, 3), 0);
+}
+
+#[test]
+fn no_range_of_a_large_export_wraps(rt: HostRuntime) {
+    for (kind, past) in [(0, 22), (4, 22), (5, 22), (6, 28)] {
+        for (offset, length, error) in [
+            (1_099_511_627_772, 4, 0),
+            (1_099_511_627_773, 4, past),
+            (1_099_511_627_776, 0, 0),
+            (1_099_511_627_777, 0, past),
+            (u64::MAX, 1, past),
+        ] {
+            let well = told_of_a_tebibyte(kind, offset, length) == error;
+            assert!(rt; well, "type {kind} at {offset}");
+        }
+    }
+    for (kind, past) in [(4, 22), (5, 22), (6, 28)] {
+        for (offset, error) in [
+            (1_095_216_660_481, 0),
+            (1_095_216_660_482, past),
+            (18_446_744_069_414_584_321, past),
+            (u64::MAX, past),
+        ] {
+            let well = told_of_a_tebibyte(kind, offset, u32::MAX) == error;
+            assert!(rt; well, "4 GiB of type {kind} at {offset}");
+        }
+    }
 }
 
 #[test]
@@ -131,6 +175,7 @@ fn wants(kind: u16, flags: u16) -> bool {
 fn some_requests_want_memory(rt: HostRuntime) -> Result<(), NoMemory> {
     assert!(rt; wants(0, 1) && wants(6, 2) && wants(6, 3));
     assert!(rt; !wants(3, 0) && !wants(4, 2) && !wants(6, 0) && !wants(6, 1));
+    assert!(rt; !wants(5, 0) && !wants(5, 1));
     let write = write_of(rt.alloc(), 0, 0, &[1])?;
     assert!(rt; may_want_memory(&write));
     Ok(())
@@ -155,6 +200,7 @@ fn read_after_changes<A: Allocator + Copy>(alloc: A) -> Result<Payload<A>, NoMem
     let _ = insist(&mut image, &asked(4, 0, 1, 2));
     let _ = insist(&mut image, &asked(6, 2, 4, 1));
     let _ = insist(&mut image, &asked(6, 4, 0, 1));
+    let _ = insist(&mut image, &asked(5, 0, 0, 5));
     Ok(insist(&mut image, &asked(0, 0, 0, 5)).content)
 }
 

@@ -76,14 +76,14 @@ fn values_and_defaults_are_read(rt: HostRuntime) -> Result<(), FileError> {
 #[test]
 fn every_value_may_be_written(rt: HostRuntime) -> Result<(), FileError> {
     let text = b"export = [{window = 4096, depth = 1, weight = 0x10, limit = 1_000_000, \
-reservation = 1, read_only = false, size = 268435456, description = \"\", \"name\" = \"\\u00e9\"}]";
+reservation = 1, read_only = false, size = 1099511627776, description = \"\", \"name\" = \"\\u00e9\"}]";
     let config = read(rt.alloc(), text)?;
     let [a] = config.exports() else {
         assert!(rt; false, "one export");
         return Ok(());
     };
     assert_eq!(rt; config.inflight(), 32);
-    assert_eq!(rt; (a.name(), a.size()), (b"\xc3\xa9".as_slice(), 268_435_456));
+    assert_eq!(rt; (a.name(), a.size()), (b"\xc3\xa9".as_slice(), 1_099_511_627_776));
     assert_eq!(rt; a.description(), Some(b"".as_slice()));
     assert_eq!(rt;
         (a.reservation(), a.limit(), a.weight()),
@@ -192,7 +192,7 @@ fn values_follow_in_order(rt: HostRuntime) -> Result<(), AllocError> {
             ("name = \"a\"\nsize = 0", 4),
             ("name = \"b\"\nsize = 0\nlimit = 1000001", 5),
             ("name = \"b\"\nsize = -1", 5),
-            ("name = \"b\"\nsize = 268435457", 5),
+            ("name = \"b\"\nsize = 1099511627777", 5),
             (
                 "name = \"b\"\nsize = 1\nreservation = 1000001\nweight = 0",
                 6,

@@ -15,11 +15,11 @@ const STARTTLS: u32 = 5;
 fn exports<A: Allocator + Copy>(alloc: A) -> Result<ExportTable<A>, NoMemory> {
     let description: &[u8] = b"d1";
     let mut table = ExportTable::new(alloc);
-    if table.push(b"a", None, 4096, 0x016d).is_err() {
-        table.push(b"a", None, 4096, 0x016d)?;
+    if table.push(b"a", None, 4096, 0x056d).is_err() {
+        table.push(b"a", None, 4096, 0x056d)?;
     }
-    if table.push(b"bb", Some(description), 8192, 0x010f).is_err() {
-        table.push(b"bb", Some(description), 8192, 0x010f)?;
+    if table.push(b"bb", Some(description), 8192, 0x050f).is_err() {
+        table.push(b"bb", Some(description), 8192, 0x050f)?;
     }
     Ok(table)
 }
@@ -92,7 +92,7 @@ fn tells_in_its_own_order_and_once(rt: HostRuntime) -> Result<(), NoMemory> {
         Attached::Given,
     )?;
     let want =
-        b"\0\x03\xe8\x89\x04\x55\x65\xa9\0\0\0\x07\0\0\0\x03\0\0\0\x0c\0\0\0\0\0\0\0\0\x10\0\x01\x6d\
+        b"\0\x03\xe8\x89\x04\x55\x65\xa9\0\0\0\x07\0\0\0\x03\0\0\0\x0c\0\0\0\0\0\0\0\0\x10\0\x05\x6d\
         \0\x03\xe8\x89\x04\x55\x65\xa9\0\0\0\x07\0\0\0\x03\0\0\0\x03\0\x01a\
         \0\x03\xe8\x89\x04\x55\x65\xa9\0\0\0\x07\0\0\0\x03\0\0\0\x0e\0\x03\0\0\0\x01\0\0\x10\0\x02\0\0\0\
         \0\x03\xe8\x89\x04\x55\x65\xa9\0\0\0\x07\0\0\0\x01\0\0\0\0";
@@ -113,7 +113,7 @@ fn describes_before_the_block_size(rt: HostRuntime) -> Result<(), NoMemory> {
         Attached::Other,
     )?;
     let want =
-        b"\0\x03\xe8\x89\x04\x55\x65\xa9\0\0\0\x06\0\0\0\x03\0\0\0\x0c\0\0\0\0\0\0\0\0\x20\0\x01\x0f\
+        b"\0\x03\xe8\x89\x04\x55\x65\xa9\0\0\0\x06\0\0\0\x03\0\0\0\x0c\0\0\0\0\0\0\0\0\x20\0\x05\x0f\
         \0\x03\xe8\x89\x04\x55\x65\xa9\0\0\0\x06\0\0\0\x03\0\0\0\x04\0\x02d1\
         \0\x03\xe8\x89\x04\x55\x65\xa9\0\0\0\x06\0\0\0\x03\0\0\0\x0e\0\x03\0\0\0\x01\0\0\x10\0\x02\0\0\0\
         \0\x03\xe8\x89\x04\x55\x65\xa9\0\0\0\x06\0\0\0\x01\0\0\0\0";
@@ -133,7 +133,7 @@ fn full_export_is_refused_by_policy_alone(rt: HostRuntime) -> Result<(), NoMemor
     assert_eq!(rt; end, None);
     let (text, end) = answer(rt.alloc(), &table, GO, b"\0\0\0\x01a\0\0", Always.attach(0))?;
     let want =
-        b"\0\x03\xe8\x89\x04\x55\x65\xa9\0\0\0\x07\0\0\0\x03\0\0\0\x0c\0\0\0\0\0\0\0\0\x10\0\x01\x6d\
+        b"\0\x03\xe8\x89\x04\x55\x65\xa9\0\0\0\x07\0\0\0\x03\0\0\0\x0c\0\0\0\0\0\0\0\0\x10\0\x05\x6d\
         \0\x03\xe8\x89\x04\x55\x65\xa9\0\0\0\x07\0\0\0\x01\0\0\0\0";
     assert_eq!(rt; text.as_slice(), want.as_slice());
     assert_eq!(rt; end, Some(HaggleEnd::Entered(0)));
@@ -189,7 +189,7 @@ fn refuses_by_a_reply_without_data(rt: HostRuntime) -> Result<(), NoMemory> {
 fn enters_by_name(rt: HostRuntime) -> Result<(), NoMemory> {
     let table = exports(rt.alloc())?;
     let (text, end) = answer(rt.alloc(), &table, EXPORT_NAME, b"a", Attached::Given)?;
-    assert_eq!(rt; text.as_slice(), b"\0\0\0\0\0\0\x10\0\x01\x6d".as_slice());
+    assert_eq!(rt; text.as_slice(), b"\0\0\0\0\0\0\x10\0\x05\x6d".as_slice());
     assert_eq!(rt; end, Some(HaggleEnd::Entered(0)));
     let (text, end) = answer(rt.alloc(), &table, EXPORT_NAME, b"zz", Attached::Given)?;
     assert!(rt; text.is_empty());
@@ -249,7 +249,7 @@ fn table_tells_its_exports(rt: HostRuntime) -> Result<(), NoMemory> {
     assert_eq!(rt; table.name(1), b"bb".as_slice());
     assert_eq!(rt; table.description(1), Some(b"d1".as_slice()));
     assert_eq!(rt; table.size(0), 4096);
-    assert_eq!(rt; table.flags(0), 0x016d);
+    assert_eq!(rt; table.flags(0), 0x056d);
     Ok(())
 }
 

@@ -43,7 +43,7 @@ const REFUSALS: [(&str, &str); 37] = [
     ("export a size=0 ro ro\n---\n", "line 1 refused\n"),
     ("export a size=0\nexport\n---\n", "line 1 C5\n"),
     ("export a size=18446744073709551615\n---\n", "line 1 C5\n"),
-    ("export a size=268435457\n---\n", "line 1 C5\n"),
+    ("export a size=1099511627777\n---\n", "line 1 C5\n"),
     ("export a size=1 r=1000001\n---\n", "line 1 C6\n"),
     ("export a size=1 l=1000001\n---\n", "line 1 C6\n"),
     ("export a size=1 w=0\n---\n", "line 1 C7\n"),

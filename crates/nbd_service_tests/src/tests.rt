@@ -6,7 +6,7 @@ use nbd_service::policy::{
 };
 use nbd_service::{InteractiveLoad, Load, RequestSize, RunningClock, SpinPoll, Turns};
 use nbd_wire::RequestHead;
-use nbd_wire::protocol::{READ, TRIM, WRITE};
+use nbd_wire::protocol::{CACHE, FLUSH, READ, TRIM, WRITE};
 use std::alloc::Global;
 use std::io::Write;
 use std::net::TcpStream;
@@ -58,6 +58,7 @@ fn how_much_a_session_asks_for(rt: HostRuntime) {
     assert!(rt; size(WRITE, 65_535) == RequestSize::Short);
     assert!(rt; size(WRITE, 65_536) == RequestSize::LongWrite);
     assert!(rt; size(TRIM, 1_048_576) == RequestSize::Short);
+    assert!(rt; size(CACHE, 4_294_967_295) == RequestSize::Short);
     assert!(rt; load_of(RequestSize::Short, false) == Load::Interactive);
     assert!(rt; load_of(RequestSize::Short, true) == Load::Bulk);
     assert!(rt; load_of(RequestSize::LongRead, false) == Load::Bulk);
@@ -116,7 +117,9 @@ fn what_a_request_counts(rt: HostRuntime) {
     assert!(rt; cost_of(head(READ, 0)) == 1 && cost_of(head(READ, 16_384)) == 1);
     assert!(rt; cost_of(head(WRITE, 16_385)) == 2 && cost_of(head(WRITE, 1_048_576)) == 64);
     assert!(rt; cost_of(head(TRIM, 1_048_576)) == 1);
+    assert!(rt; cost_of(head(CACHE, 4_294_967_295)) == 1 && cost_of(head(FLUSH, 0)) == 1);
     assert!(rt; data_of(head(WRITE, 5)) == 5 && data_of(head(TRIM, 5)) == 0);
+    assert!(rt; data_of(head(CACHE, 5)) == 0 && data_of(head(FLUSH, 0)) == 0);
     assert!(rt; backlog_after(3, true) == 16 && backlog_after(3, false) == 2);
     assert!(rt; backlog_after(0, false) == 0);
     assert!(rt; asks_for_turn(64, 0) && asks_for_turn(1, 1_000_000) && !asks_for_turn(63, 999_999));

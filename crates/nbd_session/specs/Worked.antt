@@ -23,7 +23,7 @@ enters = octets 21 0x0000000349484156454f5054000000010000000161
 
 -- the size of `a`, and its transmission flags
 abbrev pub entered : List ℕ
-entered = octets 10 0x0000000000001000016d
+entered = octets 10 0x0000000000001000056d
 
 -- a WRITE of de ad be ef to the last four bytes
 abbrev pub write_of_the_end : List ℕ

@@ -10,6 +10,8 @@ pub const DISC: u16 = 2;
 pub const FLUSH: u16 = 3;
 /// Command type: the client doesn't need the bytes of a range any more.
 pub const TRIM: u16 = 4;
+/// Command type: the client is about to read a range.
+pub const CACHE: u16 = 5;
 /// Command type: the bytes of a range are to be zero.
 pub const WRITE_ZEROES: u16 = 6;
 

@@ -16,7 +16,7 @@ const WRITTEN: &[u8] = b"inflight 8\n\
 1 8192 ro r=0 l=0 w=1 depth=1024 window=256 bb\n";
 
 /// What the example is changed to, and the line that refuses it.
-const REFUSED: [(&[u8], &[u8]); 9] = [
+const REFUSED: [(&[u8], &[u8]); 10] = [
     (b"", b"C3 top\n"),
     (
         b"inflight = 8\n[[export]]\nname = \"a\"\nsize = 4096\nlimit = 10\n[[export]]\nname = \"bb\"\nsize = 0\nread_only = true\n",
@@ -25,6 +25,10 @@ const REFUSED: [(&[u8], &[u8]); 9] = [
     (
         b"inflight = 8\n[[export]]\nname = \"a\"\nsize = 4096\nlimit = 10\n[[export]]\nname = \"a\"\nsize = 8192\nread_only = true\n",
         b"C4 export 1\n",
+    ),
+    (
+        b"inflight = 8\n[[export]]\nname = \"a\"\nsize = 4096\nlimit = 10\n[[export]]\nname = \"bb\"\nsize = 1099511627777\nread_only = true\n",
+        b"C5 export 1\n",
     ),
     (
         b"inflight = 8\n[[export]]\nname = \"a\"\nsize = 4096\nlimit = 10\nreservation = 11\n[[export]]\nname = \"bb\"\nsize = 8192\nread_only = true\n",
@@ -61,12 +65,12 @@ fn what_is_configured_is_written(rt: HostRuntime) {
 #[test]
 fn names_and_numbers_are_written_as_they_are(rt: HostRuntime) {
     let text =
-        b"[[export]]\nname = \"a b \\u00e9\"\nsize = 0x10\nreservation = 3\nlimit = 1_000\nweight = 7\ndepth = 1\nwindow = 4096\ndescription = \"d\"\n";
+        b"[[export]]\nname = \"a b \\u00e9\"\nsize = 0x100_0000_0000\nreservation = 3\nlimit = 1_000\nweight = 7\ndepth = 1\nwindow = 4096\ndescription = \"d\"\n";
     let (outcome, output) = checked(rt.alloc(), text);
     assert_eq!(rt; outcome, Outcome::Done);
     assert_eq!(rt;
         output.as_slice(),
-        b"inflight 32\n0 16 rw r=3 l=1000 w=7 depth=1 window=4096 a b \xc3\xa9\n".as_slice()
+        b"inflight 32\n0 1099511627776 rw r=3 l=1000 w=7 depth=1 window=4096 a b \xc3\xa9\n".as_slice()
     );
 }
 
