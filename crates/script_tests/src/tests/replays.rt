@@ -86,7 +86,7 @@ const SHIFTS: [Row; 7] = [
     ),
 ];
 
-const QUEUES: [Row; 5] = [
+const QUEUES: [Row; 6] = [
     (
         "as many as the depth wait",
         "export a size=4096 depth=2\n---\nattach 0\narrive 0 0 0 1 0 0 0 4\narrive 0 0 0 2 0 0 0 4\narrive 0 0 0 3 0 0 0 4\ndispatch 0\narrive 0 0 0 4 0 0 0 4\ntake 0 0\n",
@@ -109,8 +109,13 @@ const QUEUES: [Row; 5] = [
     ),
     (
         "refused requests are told, and one past the end changes no byte",
-        "export a size=4\nexport b size=4 ro\n---\nattach 0\nattach 1\narrive 0 0 0 1 1 0 1 4 01020304\narrive 0 0 0 2 0 0 0 4\ndispatch 0\nperform 0 0\ntake 0 0\ntake 0 0\narrive 1 0 0 18446744073709551615 1 0 0 0\ntake 1 0\narrive 0 0 0 7 5 0 0 0\n",
+        "export a size=4\nexport b size=4 ro\n---\nattach 0\nattach 1\narrive 0 0 0 1 1 0 1 4 01020304\narrive 0 0 0 2 0 0 0 4\ndispatch 0\nperform 0 0\ntake 0 0\ntake 0 0\narrive 1 0 0 18446744073709551615 1 0 0 0\ntake 1 0\narrive 0 0 0 7 7 0 0 0\n",
         "session 0\nsession 0\nanswered 28\naccepted 0 0\nexport 0 request 0 weight\nperformed\nreply 1 28 -\nreply 2 0 00000000\nanswered 1\nreply 18446744073709551615 1 -\nanswered 22\nsteps 11\n",
+    ),
+    (
+        "CACHE is accepted at the end of a large export, and refused past it",
+        "export a size=1099511627776 l=10\n---\nattach 0\narrive 0 0 0 1 5 1 1099511627775 1\narrive 0 0 0 2 5 0 1099511627775 2\narrive 0 0 0 3 5 2 0 1\ndispatch 0\nperform 0 0\ntake 0 0\ntake 0 0\ntake 0 0\n",
+        "session 0\naccepted 0 0\nanswered 22\nanswered 22\nexport 0 request 0 weight\nperformed\nreply 2 22 -\nreply 3 22 -\nreply 1 0 -\nsteps 9\n",
     ),
 ];
 
