@@ -83,7 +83,10 @@ reservation = 1, read_only = false, size = 1099511627776, description = \"\", \"
         return Ok(());
     };
     assert_eq!(rt; config.inflight(), 32);
-    assert_eq!(rt; (a.name(), a.size()), (b"\xc3\xa9".as_slice(), 1_099_511_627_776));
+    assert_eq!(rt;
+        (a.name(), a.size()),
+        (b"\xc3\xa9".as_slice(), 1_099_511_627_776)
+    );
     assert_eq!(rt; a.description(), Some(b"".as_slice()));
     assert_eq!(rt;
         (a.reservation(), a.limit(), a.weight()),
