@@ -59,6 +59,8 @@ NONE = {
     "nbd_options ExportTable::new": NO_MEMORY,
     "nbd_wire Reply::content": ONE_FIELD,
     "nbd_wire Request::payload": ONE_FIELD,
+    "payload Page::as_bytes": ONE_FIELD,
+    "payload Page::into_bytes": MADE_OF,
     "nbd_session Counted::into_inner": MADE_OF,
     "session_turns Door::into_pass": MADE_OF,
     "session_turns ReplyWriter::into_writer": MADE_OF,

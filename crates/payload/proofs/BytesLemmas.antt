@@ -6,10 +6,6 @@ use Rattle.payload.specs.Bytes.{range_of, overwritten}
 pub length-range_of : (image : List ℕ) (offset count : ℕ) → offset + count ≤ length image → length (range_of image offset count) ≡ count
 length-range_of image offset count within = grind (arith, length-take, length-drop)
 
--- a range of so many bytes ends within the image
-pub range_within : (image : List ℕ) (offset count : ℕ) → 0 < count → length (range_of image offset count) ≡ count → offset + count ≤ length image
-range_within image offset count some is = grind (arith, length-take, length-drop)
-
 -- as long as it was
 pub length-overwritten : (image : List ℕ) (offset count : ℕ) (bytes : List ℕ) → offset + count ≤ length image → length bytes ≡ count → length (overwritten image offset count bytes) ≡ length image
 length-overwritten image offset count bytes within same = grind (arith, length-append, length-take, length-drop)

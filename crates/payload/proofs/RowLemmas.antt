@@ -1,7 +1,7 @@
 -- Pages in a row: how long they are, and a range that lies in one of them.
-use Rattle.std.proofs.Common.{◌≡◌, ℕ, zero, suc, ◌+◌, ◌-◌, ◌*◌, ◌/◌, ◌%◌, ◌<◌, ◌≤◌, List, [], ◌∷◌, ◌++◌, length, take, get_or, refl, sym, ap, subst, ◌∙◌, arith, rules, length-append}
+use Rattle.std.proofs.Common.{◌≡◌, ℕ, zero, suc, ◌+◌, ◌-◌, ◌*◌, ◌/◌, ◌%◌, ◌<◌, ◌≤◌, List, [], ◌∷◌, ◌++◌, length, take, drop, get_or, refl, sym, ap, subst, ◌∙◌, arith, rules, length-append}
 use Rattle.std.specs.List.{concat}
-use Rattle.std.proofs.lemmas.List.{places, same_lists, length-replicate, append-nil, take_all}
+use Rattle.std.proofs.lemmas.List.{places, same_lists, drop-take, length-replicate, append-nil, take_all}
 use Rattle.std.proofs.lemmas.List.Folds.{concat-append}
 use Rattle.std.proofs.lemmas.List.Elements.{All-append}
 use Rattle.payload.specs.Bytes.{range_of, overwritten}
@@ -44,18 +44,6 @@ range_in_page (page ∷ pages) whole (suc number) start n d below within =
 pub range_of-page : (page : List ℕ) → length page ≡ 4096 → range_of page 0 4096 ≡ page
 range_of-page page whole = take_all 4096 page (omega (arith, whole))
 
--- a range that is the one page there is
-pub only_page : (pages : List (List ℕ)) (page bytes : List ℕ) (start end : ℕ) → IsRange pages start end → pages ≡ page ∷ [] → start ≡ 0 → end ≡ 4096 → range_of (concat pages) start (end - start) ≡ bytes → page ≡ bytes
-only_page pages page bytes start end is one first last view =
-    let whole : length page ≡ 4096 = (subst AreWhole one is.whole) 0 [] (omega arith) in
-    let width : 4096 ≡ end - start = omega arith in
-    sym (range_of-page page whole)
-    ∙ ap (λ (list : List ℕ). range_of list 0 4096) (sym (append-nil page))
-    ∙ ap (λ (ps : List (List ℕ)). range_of (concat ps) 0 4096) (sym one)
-    ∙ ap (λ (from : ℕ). range_of (concat pages) from 4096) (sym first)
-    ∙ ap (λ (n : ℕ). range_of (concat pages) start n) width
-    ∙ view
-
 -- where a byte of a payload lies
 module _ (pages : List (List ℕ)) (start end : ℕ) (is : IsRange pages start end) (bytes : List ℕ) (view : range_of (concat pages) start (end - start) ≡ bytes) where
   pub length-payload : length bytes ≡ end - start
@@ -93,11 +81,10 @@ whole_over page bytes start count is long fits all =
 pub take-range_of : (bytes : List ℕ) (at m n : ℕ) → n ≤ m → take n (range_of bytes at m) ≡ range_of bytes at n
 take-range_of bytes at m n within = same_lists _ _ (search (rules, places)) (λ k d h. grind (arith, places))
 
--- the next bytes behind those that came
-pub take-next : (bytes : List ℕ) (at n : ℕ) → take at bytes ++ range_of bytes at n ≡ take (at + n) bytes
-take-next bytes at n = same_lists _ _ (search (rules, places)) (λ k d h. grind (arith, places))
-
--- a page before which nothing lies
-pub nothing_before : (begun rest : List ℕ) → length begun + length rest ≡ 4096 → length rest ≡ 4096 → begun ++ rest ≡ rest
-nothing_before [] rest long whole = refl
-nothing_before (byte ∷ begun) rest long whole = absurd (omega (arith, long, whole))
+-- what lies behind a start, of bytes that have these at their front
+pub behind_start : (bytes front : List ℕ) (start end : ℕ) → take (length front) bytes ≡ front → length front ≡ end → start ≤ end → range_of bytes start (end - start) ≡ drop start front
+behind_start bytes front start end is long within =
+    let whole : start + (end - start) ≡ length front = omega (arith, long, within) in
+    sym (drop-take start (end - start) bytes)
+    ∙ ap (λ (count : ℕ). drop start (take count bytes)) whole
+    ∙ ap (λ (list : List ℕ). drop start list) is

@@ -1,4 +1,3 @@
 pub mod Bytes
 pub mod Rows
-pub mod Kept
 pub mod Payload

@@ -2,9 +2,9 @@ ghost use Rattle.std.specs.Prelude.{◌≡◌, ◌+◌, ◌<◌, ◌≤◌, ◌%
 ghost use Rattle.std.specs.List.{concat};
 ghost use Rattle.payload.specs.Rows.{AreWhole};
 
-use crate::block::pages_of_block;
-use crate::page::{PAGE, Page};
+use crate::page::{PAGE, Page, zeros};
 use crate::payload::Payload;
+use bytes::Bytes;
 use nbd_base::NoMemory;
 use std::alloc::Allocator;
 use std::marker::Model;
@@ -43,30 +43,6 @@ impl<A: Allocator + Copy> Model for Growing<A> {
     ghost invariant = { λ growing. IsGrown growing.pages.items growing.last.items growing.room growing.start growing.end };
 }
 
-// The page of which these are the beginning and the rest.
-fn next_page<A: Allocator>(alloc: A, begun: &[u8], rest: &[u8]) -> Result<Page<A>, NoMemory>
-    requires { length begun.now + length rest.now ≡ 4096 }
-    ensures bytes { IfOk result (λ page. page ≡ begun.now ++ rest.now) }
-    ensures whole { IfOk result (λ page. length page ≡ 4096) }
-{
-    match rest.as_array::<4096>() {
-        Some(whole) => Page::holding(alloc, *whole),
-        None => Page::holding(alloc, joined(begun, rest)),
-    }
-}
-
-// The bytes of a page, of which these are the beginning and the rest.
-#[inline(never)]
-fn joined(begun: &[u8], rest: &[u8]) -> [u8; 4096]
-    requires { length begun.now + length rest.now ≡ 4096 }
-    ensures { result ≡ begun.now ++ rest.now }
-{
-    let mut bytes = [0; 4096];
-    bytes[..begun.len()].copy_from_slice(begun);
-    bytes[begun.len()..].copy_from_slice(rest);
-    bytes
-}
-
 // How many bytes become pages together, once so many pages came: those of 16 pages where these are a whole group of the image's,
 // which then share a block, and else those of one. So an image never holds pages of two blocks in one group: the next block that
 // is written there takes the places of all of them.
@@ -81,67 +57,49 @@ fn room_for(first: usize, came: usize, whole: usize) -> usize
     }
 }
 
-// The beginning of pages and the rest become pages.
-fn fill_up<A: Allocator + Copy>(
-    alloc: A,
-    pages: &mut Vec<Page<A>, A>,
-    last: &mut Vec<u8, A>,
-    rest: &[u8],
-    room: usize,
-) -> Result<(), NoMemory>
-    requires room { length last.old.items + length rest.now ≡ room }
-    requires paged { room % 4096 ≡ 0 }
-    requires whole { AreWhole pages.old.items }
-    ensures whole { OnOk result (AreWhole pages.new.items) }
-    ensures bytes { OnOk result (concat pages.new.items ≡ (concat pages.old.items ++ last.old.items) ++ rest.now) }
-    ensures none_begun { OnOk result (last.new.items ≡ []) }
-{
-    if room == PAGE {
-        let page = next_page(alloc, last.as_slice(), rest)?;
-        pages.push(page)?;
-        last.clear();
-        return Ok(());
-    }
-    last.extend_from_slice(rest)?;
-    let block = mem::replace(last, Vec::new(alloc));
-    let mut more = pages_of_block(alloc, block)?;
-    pages.append(&mut more)?;
-    Ok(())
-}
-
-// Appends bytes to the beginning of pages that have room for more.
+// Appends bytes to the beginning of pages, which gets memory for all of these with its first byte.
 fn begin<A: Allocator>(last: &mut Vec<u8, A>, bytes: &[u8], room: usize) -> Result<(), NoMemory>
-    requires { length last.old.items + length bytes.now < room }
+    requires { length last.old.items + length bytes.now ≤ room }
     ensures { OnOk result (last.new.items ≡ last.old.items ++ bytes.now) }
 {
     if !bytes.is_empty() {
-        last.reserve(room - last.len())?;
+        last.reserve_exact(room - last.len())?;
         last.extend_from_slice(bytes)?;
+    }
+    Ok(())
+}
+
+// The bytes of a block become pages, which share it.
+fn cut<A: Allocator>(block: Bytes<A>, pages: &mut Vec<Page<A>, A>) -> Result<(), NoMemory>
+    requires paged { length block % 4096 ≡ 0 }
+    requires whole { AreWhole pages.old.items }
+    ensures whole { OnOk result (AreWhole pages.new.items) }
+    ensures bytes { OnOk result (concat pages.new.items ≡ concat pages.old.items ++ block) }
+{
+    let mut left = block;
+    while !left.is_empty() {
+        let page = left.split_to(PAGE)?;
+        pages.push(Page::of(page))?;
     }
     Ok(())
 }
 
 // The pages, and those that begin with the bytes of the last where there are any.
 fn closed<A: Allocator + Copy>(
-    alloc: A,
     mut pages: Vec<Page<A>, A>,
     mut last: Vec<u8, A>,
-    room: usize,
 ) -> Result<Vec<Page<A>, A>, NoMemory>
     requires whole { AreWhole pages.items }
-    requires begun { length last.items < room }
-    requires paged { room % 4096 ≡ 0 }
     ensures whole { IfOk result (λ all. AreWhole all.items) }
     ensures bytes { IfOk result (λ all. take (length (concat pages.items ++ last.items)) (concat all.items)
         ≡ concat pages.items ++ last.items) }
 {
-    if last.is_empty() {
-        return Ok(pages);
+    let behind = last.len() % PAGE;
+    if behind > 0 {
+        last.extend_from_slice(&zeros()[behind..])?;
     }
-    let all = last.len().div_ceil(PAGE) * PAGE;
-    let zeros: Page<A> = Page::zeros();
-    let rest = &zeros.as_slice()[..all - last.len()];
-    fill_up(alloc, &mut pages, &mut last, rest, all)?;
+    let block = Bytes::from_vec(last)?;
+    cut(block, &mut pages)?;
     Ok(pages)
 }
 
@@ -154,13 +112,14 @@ impl<A: Allocator + Copy> Growing<A> {
         let first = (offset / 4096) as usize;
         let start = (offset % 4096) as usize;
         let whole = start.saturating_add(count) / PAGE;
-        let pages = Vec::with_capacity(alloc, whole)?;
-        let last = Vec::from_elem(alloc, 0, start)?;
+        let room = room_for(first, 0, whole);
+        let mut last = Vec::new(alloc);
+        begin(&mut last, &zeros()[..start], room)?;
         Ok(Growing {
             alloc,
-            pages,
+            pages: Vec::new(alloc),
             last,
-            room: room_for(first, 0, whole),
+            room,
             start,
             end: start,
             first,
@@ -211,7 +170,9 @@ impl<A: Allocator + Copy> Growing<A> {
         let mut left = bytes;
         while room - last.len() <= left.len() {
             let (rest, behind) = left.split_at(room - last.len());
-            fill_up(alloc, &mut pages, &mut last, rest, room)?;
+            begin(&mut last, rest, room)?;
+            let block = Bytes::from_vec(mem::replace(&mut last, Vec::new(alloc)))?;
+            cut(block, &mut pages)?;
             room = room_for(first, pages.len(), whole);
             left = behind;
         }
@@ -246,13 +207,13 @@ impl<A: Allocator + Copy> Growing<A> {
             alloc,
             pages,
             last,
-            room,
+            room: _,
             start,
             end,
             first: _,
             whole: _,
         } = self;
-        let pages = closed(alloc, pages, last, room)?;
+        let pages = closed(pages, last)?;
         Payload::among(alloc, pages, start, end)
     }
 }

@@ -1,14 +1,14 @@
-//! What a WRITE carries and a READ answers: bytes that lie in pages, which requests, replies and images hold together.
+//! What a WRITE carries and a READ answers: bytes in one piece or in pages, which requests, replies and images hold together.
 //!
 //! Offsets and counts are in bytes.
 #![tactic(auto)]
 
-mod block;
 mod growing;
 mod page;
 mod payload;
-mod row;
+mod pieces;
 
 pub use growing::Growing;
 pub use page::{PAGE, Page};
 pub use payload::Payload;
+pub use pieces::Pieces;

@@ -5,41 +5,64 @@ ghost use Rattle.payload.specs.Rows.{AreWhole};
 
 use crate::growing::Growing;
 use crate::page::{PAGE, Page, put};
-use crate::row::Row;
+use crate::pieces::Pieces;
+use bytes::Bytes;
 use nbd_base::NoMemory;
 use std::alloc::{AllocError, Allocator};
 use std::marker::Model;
 use std::sync::Arc;
 
-/// What a WRITE carries or a READ answers: bytes that don't change, a range of pages in a row. A clone is one more owner of
-/// the pages, and copies no byte.
+// Where the bytes of a payload are.
+#[derive(Drop)]
+enum Kept<A: Allocator> {
+    // They are a page.
+    Whole(Page<A>),
+    // In one piece, which isn't a page.
+    Piece(Bytes<A>),
+    // In pages in a row, from one of their bytes on before an end.
+    Several(Arc<Vec<Page<A>, A>, A>, usize, usize),
+}
+
+/// What a WRITE carries or a READ answers: bytes that don't change, in one piece or in pages in a row. A clone is one more owner
+/// of them, and copies none.
 #[derive(Drop)]
 pub struct Payload<A: Allocator> {
-    row: Row<A>,
-    start: usize,
-    end: usize,
+    kept: Kept<A>,
 }
 
 impl<A: Allocator> Model for Payload<A> {
-    ghost use Rattle.std.specs.Prelude.{ℕ, List, ◌-◌};
-    ghost use Rattle.std.specs.List.{concat};
-    ghost use Rattle.payload.specs.Bytes.{range_of};
-    ghost use Rattle.payload.specs.Rows.{IsRange};
-    ghost use Rattle.payload.specs.Payload.{pages_of};
+    ghost use Rattle.std.specs.Prelude.{ℕ, List};
+    ghost use Rattle.payload.specs.Payload.{bytes_of, IsKept};
 
     ghost Value = { List ℕ };
 
-    ghost view = { λ payload. range_of (concat (pages_of payload.row)) payload.start (payload.end - payload.start) };
+    ghost view = { λ payload. bytes_of payload.kept };
 
-    ghost invariant = { λ payload. IsRange (pages_of payload.row) payload.start payload.end };
+    ghost invariant = { λ payload. IsKept payload.kept };
 }
 
 impl<A: Allocator> Payload<A> {
+    ghost use Rattle.payload.specs.Payload.{IsLaidOut};
+
     /// No bytes. It takes no memory.
     pub fn new() -> Payload<A>
         ensures { result ≡ [] }
     {
-        Payload::of(Page::zeros(), 0, 0)
+        Payload::in_one_piece(Bytes::new())
+    }
+
+    /// These bytes. It takes no memory. Where there are 4,096 they are a page, and an image may hold it with what they are a
+    /// slice of.
+    pub fn in_one_piece(bytes: Bytes<A>) -> Payload<A>
+        ensures { result ≡ bytes }
+    {
+        if bytes.len() == PAGE {
+            let kept = Kept::Whole(Page::of(bytes));
+            return Payload { kept };
+        }
+        Payload {
+            kept: Kept::Piece(bytes),
+        }
     }
 
     /// A range of a page.
@@ -47,12 +70,10 @@ impl<A: Allocator> Payload<A> {
         requires { start + count ≤ 4096 }
         ensures { result ≡ range_of page start count }
     {
-        let _whole = page.as_slice();
-        Payload {
-            row: Row::One(page),
-            start,
-            end: start + count,
-        }
+        let mut bytes = page.into_bytes();
+        bytes.advance(start);
+        bytes.truncate(count);
+        Payload::in_one_piece(bytes)
     }
 
     /// The bytes of pages in a row, from one on before an end.
@@ -67,15 +88,31 @@ impl<A: Allocator> Payload<A> {
         requires within { end ≤ length (concat pages.items) }
         ensures { IfOk result (λ payload. payload ≡ range_of (concat pages.items) start (end - start)) }
     {
-        let row = Row::Several(Arc::new(alloc, pages)?);
-        Ok(Payload { row, start, end })
+        let pages = Arc::new(alloc, pages)?;
+        Ok(Payload {
+            kept: Kept::Several(pages, start, end),
+        })
+    }
+
+    /// How the bytes lie.
+    pub fn pieces(&self) -> Pieces<'_, A>
+        ensures { IsLaidOut result self.now }
+    {
+        match &self.kept {
+            Kept::Whole(page) => Pieces::One(page.as_bytes()),
+            Kept::Piece(bytes) => Pieces::One(bytes),
+            Kept::Several(pages, start, end) => Pieces::Pages(pages.as_slice(), *start, *end),
+        }
     }
 
     /// How many bytes there are.
     pub fn len(&self) -> usize
         ensures { result ≡ length self.now }
     {
-        self.end - self.start
+        match self.pieces() {
+            Pieces::One(bytes) => bytes.len(),
+            Pieces::Pages(_, start, end) => end - start,
+        }
     }
 
     /// Whether there are none.
@@ -85,19 +122,23 @@ impl<A: Allocator> Payload<A> {
         self.len() == 0
     }
 
-    /// The bytes from one on, as far as they lie in one page.
+    /// The bytes from one on, as far as they lie in one piece.
     pub fn from(&self, at: usize) -> &[u8]
         requires { at < length self.now }
         ensures some { 0 < length result.now }
         ensures within { at + length result.now ≤ length self.now }
         ensures bytes { result.now ≡ range_of self.now at (length result.now) }
     {
-        let end = self.end;
-        let place = self.start + at;
-        let page = &self.row.pages()[place / PAGE];
-        let begin = place % PAGE;
-        let count = (end - place).min(PAGE - begin);
-        &page.as_slice()[begin..begin + count]
+        match self.pieces() {
+            Pieces::One(bytes) => &bytes.as_slice()[at..],
+            Pieces::Pages(pages, start, end) => {
+                let place = start + at;
+                let page = &pages[place / PAGE];
+                let begin = place % PAGE;
+                let count = (end - place).min(PAGE - begin);
+                &page.as_slice()[begin..begin + count]
+            }
+        }
     }
 
     /// The page of the 4,096 bytes from one on, where they are a page.
@@ -105,13 +146,18 @@ impl<A: Allocator> Payload<A> {
         requires { at + 4096 ≤ length self.now }
         ensures { IfSome result (λ page. page.now ≡ range_of self.now at 4096) }
     {
-        // No place is past the greatest usize, since the end is one.
-        let _end = self.end;
-        let place = self.start + at;
+        if let Kept::Whole(page) = &self.kept {
+            let _whole = page.as_slice();
+            return Some(page);
+        }
+        let Pieces::Pages(pages, start, _) = self.pieces() else {
+            return None;
+        };
+        let place = start + at;
         if place % PAGE != 0 {
             return None;
         }
-        Some(&self.row.pages()[place / PAGE])
+        Some(&pages[place / PAGE])
     }
 
     /// The page that these bytes are, where they have one whole page alone. Else they come back. No count of owners changes.
@@ -120,10 +166,13 @@ impl<A: Allocator> Payload<A> {
         ensures whole { IfOk result (λ page. length page ≡ 4096) }
         ensures back { IfErr result (λ back. back ≡ self) }
     {
-        let Payload { row, start, end } = self;
-        match row {
-            Row::One(page) if start == 0 && end == PAGE => Ok(page),
-            row => Err(Payload { row, start, end }),
+        let Payload { kept } = self;
+        match kept {
+            Kept::Whole(page) => {
+                let _whole = page.as_slice();
+                Ok(page)
+            }
+            kept => Err(Payload { kept }),
         }
     }
 
@@ -150,8 +199,8 @@ impl<A: Allocator + Copy> Payload<A> {
     {
         let start = (offset % 4096) as usize;
         if bytes.len() <= PAGE - start {
-            let page = Page::zeros().with(alloc, start, bytes)?;
-            return Ok(Payload::of(page, start, bytes.len()));
+            let bytes = Bytes::copy_from_slice(alloc, bytes)?;
+            return Ok(Payload::in_one_piece(bytes));
         }
         let mut growing = Growing::new(alloc, offset, bytes.len())?;
         growing.append(bytes)?;
@@ -183,8 +232,7 @@ impl<A: Allocator + Copy> Payload<A> {
         self.copied_over(alloc, page, start, from, count)
     }
 
-    // The same by a copy. It isn't made a part of its caller, which would zero its bytes even where none are copied.
-    #[inline(never)]
+    // The same by a copy.
     fn copied_over(
         &self,
         alloc: A,
@@ -200,7 +248,7 @@ impl<A: Allocator + Copy> Payload<A> {
     {
         // No place is past the greatest usize, since the length is one.
         let _len = self.len();
-        let mut bytes = page.copy();
+        let mut bytes = Vec::from_slice(alloc, page.as_slice())?;
         let mut done = 0;
         while done < count {
             let part = self.from(from + done);
@@ -208,7 +256,8 @@ impl<A: Allocator + Copy> Payload<A> {
             put(&mut bytes, start + done, &part[..n]);
             done += n;
         }
-        Page::holding(alloc, bytes)
+        let bytes = Bytes::from_vec(bytes)?;
+        Ok(Page::of(bytes))
     }
 }
 
@@ -216,11 +265,13 @@ impl<A: Allocator> Clone for Payload<A> {
     ghost is_clone = { λ payload copy. copy ≡ payload };
 
     fn clone(&self) -> Result<Payload<A>, AllocError> {
-        let row = self.row.share()?;
-        Ok(Payload {
-            row,
-            start: self.start,
-            end: self.end,
-        })
+        let kept = match &self.kept {
+            Kept::Whole(page) => Kept::Whole(page.clone()?),
+            Kept::Piece(bytes) => Kept::Piece(bytes.clone()?),
+            Kept::Several(pages, start, end) => {
+                Kept::Several(Arc::try_clone(pages)?, *start, *end)
+            }
+        };
+        Ok(Payload { kept })
     }
 }

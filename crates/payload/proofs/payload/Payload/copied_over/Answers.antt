@@ -22,5 +22,5 @@ loop-done-preserved g c =
       upto = upto;
       bytes = c.put.ensures
           ∙ ap (λ (page : List ℕ). overwritten page (c.args.start + done) (length (take n part)) (take n part)) c.loop-done.invariant.bytes
-          ∙ rw (long, next) (overwritten-next c.args.page.now c.args.self.now c.args.start c.args.from done n (omega (arith, upto, c.copy-bytes.ensures.whole, c.requires.fits)) (omega (arith, upto, c.requires.within)));
+          ∙ rw (long, next) (overwritten-next c.args.page.now c.args.self.now c.args.start c.args.from done n (omega (arith, upto, ap length c.in_ok-bytes.ensures.items, c.as_slice.ensures.whole, c.requires.fits)) (omega (arith, upto, c.requires.within)));
     }

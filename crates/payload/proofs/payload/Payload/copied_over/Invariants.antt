@@ -5,7 +5,7 @@ use Rattle.payload.proofs.payload.Payload.copied_over.Given as goal
 abbrev pub invariant-loop-done : goal.invariant-loop-done
 invariant-loop-done g l = record {
   upto : l.done ≤ l.count;
-  bytes : l.bytes ≡ overwritten l.page l.start l.done (range_of l.self l.from l.done);
+  bytes : l.bytes.items ≡ overwritten l.page l.start l.done (range_of l.self l.from l.done);
 }
 
 abbrev pub decreases-loop-done : goal.decreases-loop-done
