@@ -5,6 +5,7 @@ ghost use Rattle.nbd_wire.specs.Pieces.{IsFirst, IsBehind, Takes, Gathers};
 use crate::fault::{FeedFault, WireFault};
 use crate::protocol::WRITE;
 use crate::requests::{Request, RequestHead, read_head};
+use bytes::Bytes;
 use payload::Payload;
 use std::alloc::Allocator;
 
@@ -115,7 +116,7 @@ fn behind_head<A: Allocator + Copy>(
     ensures { IsFirst (head_text head ++ rest.now) result }
 {
     if head.kind != WRITE {
-        return Ok(Some(Request::new(head, Payload::new())));
+        return Ok(Some(Request::of_bytes(head, Bytes::new())));
     }
     let count = head.length as usize;
     if rest.len() < count {

@@ -1,6 +1,7 @@
 ghost use Rattle.std.specs.Prelude.{◌≡◌, ◌≢◌, ◌++◌, [], OnOk, OnErr};
 ghost use Rattle.nbd_wire.specs.Grammar.{reply_head_text, reply_text};
 
+use bytes::Bytes;
 use nbd_base::NoMemory;
 use payload::Payload;
 use std::alloc::Allocator;
@@ -40,6 +41,13 @@ impl<A: Allocator> Reply<A> {
         }
     }
 
+    /// The same with content in one piece.
+    pub fn of_bytes(cookie: u64, content: Bytes<A>) -> Reply<A>
+        ensures { result ≡ record { error = 0; cookie = cookie; content = content } }
+    {
+        Reply::done(cookie, Payload::in_one_piece(content))
+    }
+
     /// A reply without content: an error of the NBD protocol's "Error values", or 0.
     pub fn bare(error: u32, cookie: u64) -> Reply<A>
         ensures { result ≡ record { error = error; cookie = cookie; content = [] } }
@@ -66,7 +74,7 @@ impl<A: Allocator> Reply<A> {
         self.cookie
     }
 
-    /// What a READ brings; empty beside an error.
+    /// What a READ brings; empty beside an error. `Payload::pieces` gives it as `Bytes`, in one piece or page by page.
     pub fn content(&self) -> &Payload<A>
         ensures { result.now ≡ self.now.content }
     {

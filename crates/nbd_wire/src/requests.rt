@@ -5,6 +5,7 @@ ghost use Rattle.nbd_wire.specs.Grammar.{head_text, IsHead, IsTooLong, IsRequest
 use crate::fault::WireFault;
 use crate::fields::{u16_at, u32_at, u64_at};
 use crate::protocol::WRITE;
+use bytes::Bytes;
 use payload::Payload;
 use std::alloc::{AllocError, Allocator};
 use std::marker::Model;
@@ -55,6 +56,14 @@ impl<A: Allocator> Request<A> {
         Request { head, payload }
     }
 
+    /// A request of a head and a payload in one piece that belong together.
+    pub fn of_bytes(head: RequestHead, payload: Bytes<A>) -> Request<A>
+        requires { IsRequest (record { head = head; payload = payload }) }
+        ensures { result ≡ record { head = head; payload = payload } }
+    {
+        Request::new(head, Payload::in_one_piece(payload))
+    }
+
     /// All of the request but its payload.
     pub fn head(&self) -> RequestHead
         ensures value { result ≡ self.now.head }
@@ -73,7 +82,7 @@ impl<A: Allocator> Request<A> {
         (head, payload)
     }
 
-    /// What a WRITE writes; empty for any other request.
+    /// What a WRITE writes; empty for any other request. `Payload::pieces` gives it as `Bytes`, in one piece or page by page.
     pub fn payload(&self) -> &Payload<A>
         ensures value { result.now ≡ self.now.payload }
         ensures fits { IsRequest self.now }

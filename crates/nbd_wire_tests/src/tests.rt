@@ -1,7 +1,8 @@
+use bytes::Bytes;
 use nbd_base::NoMemory;
 use nbd_wire::protocol::{DISC, READ, WRITE};
 use nbd_wire::*;
-use payload::Payload;
+use payload::{Payload, Pieces};
 use refusing::Refusing;
 use std::alloc::{AllocError, Allocator, Global};
 
@@ -98,6 +99,26 @@ fn replies(rt: HostRuntime) {
     let texts =
         b"\x67\x44\x66\x98\0\0\0\x1c\0\0\0\0\0\0\0\x02\x67\x44\x66\x98\0\0\0\0\0\0\0\0\0\0\0\x04\xde\xad\xbe\xef";
     assert!(rt; out.as_slice() == texts.as_slice());
+}
+
+// Whether a payload is these bytes in one piece.
+fn is_one_piece<A: Allocator>(payload: &Payload<A>, bytes: &[u8]) -> bool {
+    match payload.pieces() {
+        Pieces::One(piece) => piece.as_slice() == bytes,
+        Pieces::Pages(..) => false,
+    }
+}
+
+#[test]
+fn messages_of_bytes(rt: HostRuntime) {
+    let bytes: Bytes = Bytes::from_static(b"\xde\xad\xbe\xef");
+    let copy = bytes.clone().expect(&rt, "memory");
+    let request = Request::of_bytes(WRITE_HEAD, bytes);
+    assert!(rt; request.head() == WRITE_HEAD);
+    assert!(rt; is_one_piece(request.payload(), b"\xde\xad\xbe\xef"));
+    let reply = Reply::of_bytes(4, copy);
+    assert!(rt; (reply.error(), reply.cookie()) == (0, 4));
+    assert!(rt; is_one_piece(reply.content(), b"\xde\xad\xbe\xef"));
 }
 
 #[test]

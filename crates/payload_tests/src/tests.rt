@@ -1,5 +1,6 @@
+use bytes::Bytes;
 use nbd_base::NoMemory;
-use payload::{Growing, PAGE, Page, Payload};
+use payload::{Growing, PAGE, Page, Payload, Pieces};
 use refusing::Refusing;
 use std::alloc::Allocator;
 use std::test::Fail;
@@ -94,6 +95,75 @@ fn a_payload_of_one_page_is_that_page(rt: HostRuntime) -> Result<(), Fail> {
     let part = Payload::copied(alloc, 1, b"a")?;
     assert!(rt; part.into_page().is_err());
     Ok(())
+}
+
+// Whether these bytes are a range of those of so many pages.
+fn lies_in_pages<A: Allocator + Copy>(
+    alloc: A,
+    payload: &Payload<A>,
+    bytes: &[u8],
+    count: usize,
+) -> bool {
+    let Pieces::Pages(pages, start, end) = payload.pieces() else {
+        return false;
+    };
+    let mut all = Vec::new(alloc);
+    for page in pages {
+        if all.extend_from_slice(page.as_bytes()).is_err() {
+            return false;
+        }
+    }
+    pages.len() == count && all.as_slice().get(start..end) == Some(bytes)
+}
+
+// Whether these bytes lie in one piece.
+fn lies_in_one_piece<A: Allocator>(payload: &Payload<A>, bytes: &[u8]) -> bool {
+    match payload.pieces() {
+        Pieces::One(piece) => piece.as_slice() == bytes,
+        Pieces::Pages(..) => false,
+    }
+}
+
+#[test]
+fn a_payload_tells_how_it_lies(rt: HostRuntime) {
+    let alloc = rt.alloc();
+    let bytes = numbers(alloc, 10_000).expect(&rt, "memory");
+    let bytes = bytes.as_slice();
+    let several = Payload::copied(alloc, 4_095, bytes).expect(&rt, "memory");
+    assert!(rt; lies_in_pages(alloc, &several, bytes, 4));
+    let short = Payload::copied(alloc, 4_000, &bytes[..96]).expect(&rt, "memory");
+    assert!(rt; lies_in_one_piece(&short, &bytes[..96]));
+    let page = Payload::copied(alloc, 0, &bytes[..4_096]).expect(&rt, "memory");
+    assert!(rt; lies_in_one_piece(&page, &bytes[..4_096]));
+}
+
+#[test]
+fn bytes_are_a_payload(rt: HostRuntime) {
+    let alloc = rt.alloc();
+    let bytes = numbers(alloc, 10_000).expect(&rt, "memory");
+    let piece = Bytes::copy_from_slice(alloc, bytes.as_slice()).expect(&rt, "memory");
+    let payload = Payload::in_one_piece(piece);
+    assert!(rt; lies_in_one_piece(&payload, bytes.as_slice()));
+    assert!(rt; payload.len() == 10_000);
+    assert!(rt; Some(payload.from(4_000)) == bytes.get(4_000..));
+    assert!(rt; payload.page_at(4_096).is_none());
+    let page = payload
+        .put_over(alloc, &Page::zeros(), 0, 100, 4_096)
+        .expect(&rt, "memory");
+    assert!(rt; Some(page.as_slice()) == bytes.get(100..4_196));
+    assert!(rt; payload.into_page().is_err());
+}
+
+#[test]
+fn bytes_of_a_page_are_that_page(rt: HostRuntime) {
+    let alloc = rt.alloc();
+    let bytes = numbers(alloc, 4_096).expect(&rt, "memory");
+    let page = Page::of(Bytes::copy_from_slice(alloc, bytes.as_slice()).expect(&rt, "memory"));
+    assert!(rt; page.as_bytes().as_slice() == bytes.as_slice());
+    let payload = Payload::in_one_piece(page.into_bytes());
+    assert!(rt; payload.page_at(0).is_some());
+    let same = payload.into_page().ok().expect(&rt, "a page");
+    assert!(rt; same.as_slice() == bytes.as_slice());
 }
 
 #[test]
