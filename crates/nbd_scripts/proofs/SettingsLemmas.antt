@@ -5,7 +5,7 @@ use Rattle.std.specs.Borrow.{Bor}
 use Rattle.std.proofs.lemmas.List.{drop_more}
 use Rattle.std.proofs.Math.ListN.{drop_of_length-le}
 use Rattle.nbd_scripts.specs.declared.fault.LineFault.TheVariants.{Form}
-use Rattle.nbd_scripts.specs.Lines.{texts_of}
+use Rattle.nbd_text.specs.Fields.{texts_of}
 use Rattle.nbd_scripts.specs.Settings.{Settings, with_setting, with_settings}
 use Rattle.nbd_scripts.specs.Head.{Plan, export_line}
 

@@ -10,8 +10,9 @@ use Rattle.nbd_scripts.specs.declared.replay_line.ReplayLine.{ReplayLine}
 use Rattle.nbd_scripts.specs.declared.replay_line.ReplayLine.TheVariants as asked
 use Rattle.nbd_scripts.specs.declared.verbs.Verb.{Verb}
 use Rattle.nbd_scripts.specs.declared.verbs.Verb.TheVariants as verbs
-use Rattle.nbd_scripts.specs.Numbers.{number_below}
-use Rattle.nbd_scripts.specs.Lines.{fields_in, is_comment, lines_in, only}
+use Rattle.nbd_text.specs.Numbers.{number_below}
+use Rattle.nbd_text.specs.Fields.{fields_in}
+use Rattle.nbd_scripts.specs.Lines.{is_comment, lines_in, only}
 use Rattle.nbd_scripts.specs.Steps.{◌>>=◌}
 use Rattle.nbd_scripts.specs.Verbs.{verb_of}
 

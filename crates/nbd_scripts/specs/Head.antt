@@ -8,8 +8,9 @@ use Rattle.nbd_commands.specs.declared.settings.Refusal.TheVariants.{BadInflight
 use Rattle.nbd_scripts.specs.declared.fault.LineFault.{LineFault}
 use Rattle.nbd_scripts.specs.declared.fault.LineFault.TheVariants.{Form, Value}
 use Rattle.nbd_scripts.specs.declared.fault.LineFault.TheVariants as fault
-use Rattle.nbd_scripts.specs.Numbers.{number_below}
-use Rattle.nbd_scripts.specs.Lines.{fields_in, is_comment, lines_in, only, Begins}
+use Rattle.nbd_text.specs.Numbers.{number_below}
+use Rattle.nbd_text.specs.Fields.{fields_in}
+use Rattle.nbd_scripts.specs.Lines.{is_comment, lines_in, only, Begins}
 use Rattle.nbd_scripts.specs.Settings.{export_said}
 use Rattle.nbd_scripts.specs.Steps.{◌>>=◌, fault_in}
 

@@ -5,7 +5,6 @@ pub mod Faults
 pub mod Head
 pub mod Heads
 pub mod Lines
-pub mod Numbers
 pub mod Output
 pub mod Replayed
 pub mod Scripts

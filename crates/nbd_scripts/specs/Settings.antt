@@ -2,7 +2,7 @@
 use Rattle.std.specs.Prelude.{ℕ, ◌+◌, ◌^◌, ◌==◌, Bool, true, if◌then◌else◌, List, [], ◌∷◌, length, take, drop, codes, Option, Some, None, unwrap_or, option_map, position}
 use Rattle.std.specs.Str.{bytes_eq}
 use Rattle.nbd_commands.specs.Exports.{Export, plain_export}
-use Rattle.nbd_scripts.specs.Numbers.{number_below}
+use Rattle.nbd_text.specs.Numbers.{number_below}
 use Rattle.nbd_scripts.specs.Steps.{◌>>=◌}
 
 -- those that are written so far, behind the size

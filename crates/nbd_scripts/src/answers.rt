@@ -3,8 +3,8 @@
 ghost use Rattle.std.specs.Prelude.{◌≡◌, ◌++◌, OnOk};
 ghost use Rattle.nbd_scripts.specs.Answers.{line_of, reply_line, picked_line, word_of_phase};
 
-use crate::writing::or_no_memory;
 use nbd_base::NoMemory;
+use nbd_text::or_no_memory;
 use nbd_wire::Reply;
 use server_table::Answer;
 use std::alloc::Allocator;

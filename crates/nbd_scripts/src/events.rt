@@ -4,16 +4,17 @@ ghost use Rattle.std.specs.Prelude.{◌≡◌, true, false, [], ◌∷◌, IfOk,
 ghost use Rattle.std.specs.Option.{ok_or};
 ghost use Rattle.nbd_scripts.specs.Bodies.{IsBody};
 ghost use Rattle.nbd_scripts.specs.Faults.{IsMissed};
-ghost use Rattle.nbd_scripts.specs.Lines.{texts_of};
+ghost use Rattle.nbd_text.specs.Fields.{texts_of};
 ghost use Rattle.nbd_scripts.specs.Events.{arrival_of, asked_by, brings_payload, event_of, export_of, head_read, line_asks, moment_of, pair_of, payload_of, request_of, Takes};
 
 use crate::body::Body;
 use crate::fault::LineFault;
-use crate::lines::{fields_of, first_line, is_comment, only};
+use crate::lines::{first_line, is_comment, only};
 use crate::numbers::{half_word, moment, number, word};
 use crate::replay_line::ReplayLine;
 use crate::verbs::{Verb, verb_of};
 use hex::FromHexError;
+use nbd_text::fields_of;
 use nbd_wire::protocol::WRITE;
 use nbd_wire::{MAX_PAYLOAD, Request, RequestHead};
 use payload::Payload;

@@ -2,16 +2,17 @@
 
 ghost use Rattle.std.specs.Prelude.{◌≡◌, Ok, OnOk, IfOk, IfErr};
 ghost use Rattle.nbd_scripts.specs.Faults.{IsRefused};
-ghost use Rattle.nbd_scripts.specs.Lines.{texts_of};
+ghost use Rattle.nbd_text.specs.Fields.{texts_of};
 ghost use Rattle.nbd_scripts.specs.Head.{export_line, fields_said, inflight_line, no_plan, offered, plan_after};
 ghost use Rattle.nbd_scripts.specs.Heads.{plan_of, IsHead};
 
 use crate::body::Body;
 use crate::fault::LineFault;
-use crate::lines::{fields_of, first_line, is_comment, only};
+use crate::lines::{first_line, is_comment, only};
 use crate::numbers::number;
 use crate::settings::export_said;
 use nbd_commands::{Config, DEFAULT_INFLIGHT, ExportList, Refusal, is_inflight};
+use nbd_text::fields_of;
 use std::alloc::Allocator;
 
 /// What reading the head of a script gives.

@@ -23,7 +23,7 @@ pub use conversation::talk_script;
 pub use outcome::Outcome;
 pub use reading::read_whole;
 pub use replaying::replay_script;
-pub use writing::{or_no_memory, tell_text};
+pub use writing::tell_text;
 
 #[cfg(test)]
 mod tests;

@@ -1,13 +1,13 @@
-//! The lines of a script, and the fields of a line.
+//! The lines of a script.
 
-ghost use Rattle.std.specs.Prelude.{◌≡◌, ◌==◌, ◌<◌, length, position, IfOk, IfErr};
+ghost use Rattle.std.specs.Prelude.{◌≡◌, ◌==◌, ◌<◌, length, position, IfErr};
 ghost use Rattle.std.specs.Option.{option_copied};
 ghost use Rattle.std.specs.Result.{result_ok};
 ghost use Rattle.std.specs.List.{before_first, after_first};
-ghost use Rattle.nbd_scripts.specs.Lines.{fields_in, is_comment, is_feed, only, texts_of};
+ghost use Rattle.nbd_text.specs.Fields.{texts_of};
+ghost use Rattle.nbd_scripts.specs.Lines.{is_comment, is_feed, only};
 
 use crate::fault::LineFault;
-use std::alloc::{AllocError, Allocator};
 
 /// The line at the front, and the bytes behind it.
 pub fn first_line(bytes: &[u8]) -> (&[u8], &[u8])
@@ -27,15 +27,6 @@ pub fn place_of(sought: u8, bytes: &[u8]) -> Option<usize>
     ensures { result ≡ position (λ byte. byte == sought) bytes.now }
 {
     bytes.iter().position(|byte| *byte == sought)
-}
-
-/// The fields of a line, which one or more spaces part.
-pub fn fields_of<A: Allocator>(alloc: A, line: &[u8]) -> Result<Vec<&[u8], A>, AllocError>
-    ensures { IfOk result (λ fields. texts_of fields.items ≡ fields_in line.now) }
-{
-    line.split(|byte| *byte == b' ')
-        .filter(|field| !field.is_empty())
-        .collect(alloc)
 }
 
 /// Whether a line begins with `#`.

@@ -1,9 +1,8 @@
 //! The numbers of a script.
 
-ghost use Rattle.std.specs.Prelude.{◌≡◌, ◌≤◌, ◌+◌, ◌-◌, ◌*◌, ◌^◌, true, IsNone, OnSome, IfSome};
-ghost use Rattle.std.specs.Char.{is_ascii_digit};
+ghost use Rattle.std.specs.Prelude.{◌≡◌, ◌^◌};
 ghost use Rattle.std.specs.Option.{ok_or};
-ghost use Rattle.nbd_scripts.specs.Numbers.{number_below};
+ghost use Rattle.nbd_text.specs.Numbers.{number_below};
 
 use crate::fault::LineFault;
 use tag_clock::Moment;
@@ -12,29 +11,7 @@ use tag_clock::Moment;
 pub fn number(digits: &[u8]) -> Result<u64, LineFault>
     ensures { result ≡ ok_or (number_below (2 ^ 64) digits.now) LineFault.Form }
 {
-    if digits.is_empty() {
-        return Err(LineFault::Form);
-    }
-    let mut value = 0u64;
-    for &digit in digits {
-        let Some(next) = with_digit(value, digit) else {
-            return Err(LineFault::Form);
-        };
-        value = next;
-    }
-    Ok(value)
-}
-
-/// The value with one more digit behind it, if it is one and 64 bits hold it.
-fn with_digit(value: u64, digit: u8) -> Option<u64>
-    ensures digit { OnSome result (is_ascii_digit digit ≡ true) }
-    ensures value { IfSome result (λ next. next ≡ value * 10 + (digit - 48)) }
-    ensures none { IsNone result → is_ascii_digit digit ≡ true → 2 ^ 64 ≤ value * 10 + (digit - 48) }
-{
-    if !digit.is_ascii_digit() {
-        return None;
-    }
-    value.checked_mul(10)?.checked_add(u64::from(digit - b'0'))
+    nbd_text::number(digits).ok_or(LineFault::Form)
 }
 
 /// A number that fits 32 bits.

@@ -5,9 +5,10 @@ ghost use Rattle.nbd_scripts.specs.Told.{CountsWrite, refusal_line, TellsRefusal
 
 use crate::fault::LineFault;
 use crate::outcome::Outcome;
-use crate::writing::{or_no_memory, tell_text};
+use crate::writing::tell_text;
 use nbd_base::NoMemory;
 use nbd_session::Counted;
+use nbd_text::or_no_memory;
 use std::alloc::Allocator;
 use std::io::Write;
 

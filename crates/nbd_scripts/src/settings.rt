@@ -2,7 +2,7 @@
 
 ghost use Rattle.std.specs.Prelude.{◌≡◌, None, Some, IsNone, IsSome, OnOk, OnErr, IfOk, IfErr, option_map};
 ghost use Rattle.nbd_commands.specs.Refusals.{asked};
-ghost use Rattle.nbd_scripts.specs.Lines.{texts_of};
+ghost use Rattle.nbd_text.specs.Fields.{texts_of};
 ghost use Rattle.nbd_scripts.specs.Settings.{export_said, key_and_value, no_settings, number_once, settled, with_setting, with_settings, with_value};
 ghost use Rattle.nbd_scripts.specs.Heads.{settings_of};
 

@@ -3,10 +3,10 @@
 ghost use Rattle.std.specs.Prelude.{◌≡◌, ◌++◌, OnOk};
 ghost use Rattle.nbd_scripts.specs.Waiting.{number_text, reservation_word, rest_text, tag_line, tags_text, waiting_text};
 
-use crate::writing::or_no_memory;
 use eligibility::Heaped;
 use export_store::Paged;
 use nbd_base::NoMemory;
+use nbd_text::or_no_memory;
 use server_core::{NoTags, Server};
 use std::alloc::Allocator;
 use std::io::Write;

@@ -1,8 +1,9 @@
 //! Scripts that are refused, the first line that is, want of memory, and writes that fail.
 
-use crate::{Outcome, or_no_memory, read_whole, replay_script, talk_script, tell_text};
+use crate::{Outcome, read_whole, replay_script, talk_script, tell_text};
 use nbd_base::NoMemory;
 use nbd_session::Counted;
+use nbd_text::or_no_memory;
 use refusing::Refusing;
 use std::alloc::Global;
 use std::io;

@@ -1,13 +1,11 @@
 //! Writing a text, and what is written of it where a write fails.
 
-ghost use Rattle.std.specs.Prelude.{◌≡◌, ◌≢◌, ◌⊎◌, IsOk, IsErr, OnOk, OnErr};
+ghost use Rattle.std.specs.Prelude.{◌≡◌, ◌≢◌, ◌⊎◌};
 ghost use Rattle.nbd_session.specs.Streams.{Rises};
 ghost use Rattle.nbd_scripts.specs.Told.{Writes};
 
 use crate::outcome::Outcome;
-use nbd_base::NoMemory;
 use nbd_session::{Counted, WriteFailed, put};
-use std::io;
 use std::io::Write;
 
 /// Writes a text, and answers `well` where all of it is written.
@@ -20,16 +18,5 @@ pub fn tell_text<W: Write>(text: &[u8], well: Outcome, output: &mut Counted<W>) 
     match put(output, text) {
         Ok(()) => well,
         Err(WriteFailed) => Outcome::WriteFailed,
-    }
-}
-
-/// What a write to a vector came to. A vector refuses one only for want of memory.
-pub fn or_no_memory(written: io::Result<()>) -> Result<(), NoMemory>
-    ensures ok { OnOk written (IsOk result) }
-    ensures err { OnErr written (IsErr result) }
-{
-    match written {
-        Ok(()) => Ok(()),
-        Err(_) => Err(NoMemory),
     }
 }

@@ -7,8 +7,9 @@ ghost use Rattle.nbdq_cli.specs.Checked.{disk_text, export_line, inflight_line, 
 use nbd_base::NoMemory;
 use nbd_commands::{Config, ExportConfig};
 use nbd_config::{FileError, FileRefusal, Place, read_config};
-use nbd_scripts::{Outcome, or_no_memory, read_whole, tell_text};
+use nbd_scripts::{Outcome, read_whole, tell_text};
 use nbd_session::Counted;
+use nbd_text::or_no_memory;
 use std::alloc::{Allocator, Global};
 use std::io::{Read, Write};
 

@@ -1,5 +1,5 @@
 use Rattle.std.proofs.Common.{◌≡◌, [], sym, ◌∙◌, None, rules}
-use Rattle.nbd_scripts.specs.Lines.{texts_of}
+use Rattle.nbd_text.specs.Fields.{texts_of}
 use Rattle.nbd_scripts.specs.Heads.{settings_of}
 use Rattle.nbd_scripts.specs.Settings.{no_settings, with_settings}
 use Rattle.nbd_scripts.proofs.SettingsLemmas.{settings_more, settings_missed, settings_end}

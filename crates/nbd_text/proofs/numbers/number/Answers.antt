@@ -1,17 +1,15 @@
-use Rattle.std.proofs.Common.{◌^◌, Option, refl, sym, ◌∙◌, ap, ℕ, rules}
+use Rattle.std.proofs.Common.{◌^◌, refl, sym, ◌∙◌, rules}
 use Rattle.std.specs.Prelude.{IfSome, ◌≤◌}
-use Rattle.std.specs.Option.{ok_or}
-use Rattle.nbd_scripts.specs.Numbers.{written_number}
-use Rattle.nbd_scripts.specs.declared.fault.LineFault.TheVariants.{Form}
-use Rattle.nbd_scripts.proofs.NumberLemmas.{written_whole, number_end, number_more, number_too_great, below_fits, below_great}
-use Rattle.nbd_scripts.proofs.numbers.number.Goals as goal
+use Rattle.nbd_text.specs.Numbers.{written_number}
+use Rattle.nbd_text.proofs.NumberLemmas.{written_whole, number_end, number_more, number_too_great, below_fits, below_great}
+use Rattle.nbd_text.proofs.numbers.number.Goals as goal
 
 pub returns-in_default : goal.returns-in_default
 returns-in_default c =
     let digits = c.args.digits.now in
     let great = number_too_great digits c.loop-digit.digit-index c.loop-digit.value (2 ^ 64) c.loop-digit-test.true (c.in_default.ensures.none refl) in
     let written : IfSome (written_number digits) (λ n. 2 ^ 64 ≤ n) = rw (written_whole digits (sym c.is_empty.ensures ∙ c.if-is_empty.false), sym c.loop-digit.invariant.so_far) great in
-    ap (λ (n : Option ℕ). ok_or n Form) (sym (below_great (2 ^ 64) (written_number digits) written))
+    sym (below_great (2 ^ 64) (written_number digits) written)
 
 pub loop-digit-preserved : goal.loop-digit-preserved
 loop-digit-preserved c = record {
@@ -28,4 +26,4 @@ returns c =
     written_whole digits (sym c.is_empty.ensures ∙ c.if-is_empty.false)
     ∙ sym c.loop-digit.invariant.so_far
     ∙ number_end digits c.loop-digit.digit-index c.loop-digit.value c.loop-digit-test.false in
-    ap (λ (n : Option ℕ). ok_or n Form) (sym (below_fits (2 ^ 64) c.loop-digit.value (written_number digits) written c.loop-digit.invariant.fits))
+    sym (below_fits (2 ^ 64) c.loop-digit.value (written_number digits) written c.loop-digit.invariant.fits)

@@ -1,6 +1,6 @@
 use Rattle.std.proofs.Common.{◌≡◌, ◌<◌, ◌^◌, drop}
-use Rattle.nbd_scripts.specs.Numbers.{number_behind}
-use Rattle.nbd_scripts.proofs.numbers.number.Given as goal
+use Rattle.nbd_text.specs.Numbers.{number_behind}
+use Rattle.nbd_text.proofs.numbers.number.Given as goal
 
 abbrev pub invariant-loop-digit : goal.invariant-loop-digit
 invariant-loop-digit l = record {

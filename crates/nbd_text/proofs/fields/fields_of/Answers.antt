@@ -1,8 +1,8 @@
 use Rattle.std.proofs.Common.{rules, tests, not, ◌==◌, length, ℕ, List}
 use Rattle.std.proofs.lemmas.Iterator.Consumers.{YieldsList-at, YieldsList-from_filter, map_from_collect}
 use Rattle.std.proofs.lemmas.Iterator.Splits.{YieldsList-from_slice_split}
-use Rattle.nbd_scripts.specs.Lines.{is_space}
-use Rattle.nbd_scripts.proofs.lines.fields_of.Goals as goal
+use Rattle.nbd_text.specs.Fields.{is_space}
+use Rattle.nbd_text.proofs.fields.fields_of.Goals as goal
 
 pub returns : goal.returns
 returns g c =

@@ -1,4 +1,4 @@
--- The numbers of a script.
+-- Numbers in decimal digits.
 use Rattle.std.specs.Prelude.{ℕ, ◌+◌, ◌-◌, ◌*◌, if◌then◌else◌, List, [], ◌∷◌, Option, Some, None, nat_lt}
 use Rattle.std.specs.Char.{is_ascii_digit}
 
