@@ -6,7 +6,7 @@ use Rattle.nbd_wire.proofs.pieces.behind_head.Goals as goal
 
 pub returns-then-head-ne-WRITE : goal.returns-then-head-ne-WRITE
 returns-then-head-ne-WRITE g c =
-    subst (λ (q : RequestMessage). IsFirst (head_text c.args.head ++ c.args.rest.now) (Ok (Some q))) (sym c.new-then-head-ne-WRITE.ensures)
+    subst (λ (q : RequestMessage). IsFirst (head_text c.args.head ++ c.args.rest.now) (Ok (Some q))) (sym c.of_bytes.ensures)
     (plain_first c.args.head c.args.rest.now c.new.result c.requires.fits c.requires.short c.if-head-ne-WRITE.true c.new.ensures)
 
 pub returns-in-Ok : goal.returns-in-Ok
