@@ -1,0 +1,8 @@
+use Rattle.std.proofs.Common.{◌≡◌, ◌++◌, drop}
+use Rattle.std.specs.List.{flat_map}
+use Rattle.nbd_control.specs.Stats.{server_field}
+use Rattle.nbd_control.proofs.stats.put_server_fields.Given as goal
+
+-- what is put so far and what is left are the whole
+abbrev pub invariant-loop-figure : goal.invariant-loop-figure
+invariant-loop-figure g l = l.text.items ++ flat_map (server_field l.server) (drop l.figure-index l.figures) ≡ l.fn.text.items ++ flat_map (server_field l.server) l.figures

@@ -1,0 +1,3 @@
+mod commands;
+mod measures;
+mod texts;

@@ -1,0 +1,141 @@
+//! Lines, and what they ask for.
+
+use nbd_control::{Command, CommandError, Name, read_command};
+use refusing::Refusing;
+use std::alloc::Global;
+use std::str;
+
+/// Lines, and what each asks for; of a refused one the cause.
+const LINES: [(&[u8], &str); 46] = [
+    (b"stats", "stats"),
+    (b"  stats  ", "stats"),
+    (b"stats prometheus", "metrics"),
+    (b"stats   prometheus ", "metrics"),
+    (b"sessions", "sessions"),
+    (b"stop", "stop"),
+    (b"stop now", "stop now"),
+    (b"retune a 0 0 1", "retune [a] 0 0 1"),
+    (
+        b"retune a 1000000 1000000 1000000",
+        "retune [a] 1000000 1000000 1000000",
+    ),
+    (b"  retune   a  007 10  2  ", "retune [a] 7 10 2"),
+    (b"retune \"a\" 1 2 3", "retune [a] 1 2 3"),
+    (b"retune \"a b\" 1 2 3", "retune [a b] 1 2 3"),
+    (b"retune 'a \\ b' 1 2 3", "retune [a \\ b] 1 2 3"),
+    (
+        b"retune \"a\\\"\\\\\\n\\u00e9\" 1 2 3",
+        "retune [a\"\\\n\xc3\xa9] 1 2 3",
+    ),
+    (b"retune \"\"\"a\"\"\" 1 2 3", "retune [a] 1 2 3"),
+    (b"retune \"\" 1 2 3", "retune [] 1 2 3"),
+    (b"retune a\"b 1 2 3", "retune [a\"b] 1 2 3"),
+    (b"retune \xc3\xa9 1 2 3", "retune [\xc3\xa9] 1 2 3"),
+    (b"drop a 0", "drop [a] 0"),
+    (
+        b"drop \"a b\" 18446744073709551615",
+        "drop [a b] 18446744073709551615",
+    ),
+    (b"", "UnknownCommand"),
+    (b"   ", "UnknownCommand"),
+    (b"stat", "UnknownCommand"),
+    (b"STATS", "UnknownCommand"),
+    (b"stats\tprometheus", "UnknownCommand"),
+    (b"stats json", "UnknownCommand"),
+    (b"stop later", "UnknownCommand"),
+    (b"stats prometheus now", "FieldCount"),
+    (b"stop now now", "FieldCount"),
+    (b"sessions a", "FieldCount"),
+    (b"retune", "FieldCount"),
+    (b"retune   ", "FieldCount"),
+    (b"retune a 1 2", "FieldCount"),
+    (b"retune a 1 2 3 4", "FieldCount"),
+    (b"drop a", "FieldCount"),
+    (b"drop \"a\"", "FieldCount"),
+    (b"retune a x 2 3", "NotANumber"),
+    (b"retune a 1 -2 3", "NotANumber"),
+    (b"drop a 18446744073709551616", "NotANumber"),
+    (b"retune \"a 1 2 3", "BadQuotes"),
+    (b"retune \"a\"1 2 3", "BadQuotes"),
+    (b"retune \"\\q\" 1 2 3", "BadQuotes"),
+    (b"retune \xff 1 2 3", "NotUtf8"),
+    (b"retune a 1000001 0 1", "Rates(BadReservation)"),
+    (b"retune a 0 0 0", "Rates(BadWeight)"),
+    (b"retune a 6 5 1", "Rates(ReservationAboveLimit)"),
+];
+
+/// What a line asks for, in words.
+fn told(alloc: Global, line: &[u8]) -> Option<String> {
+    match read_command(alloc, alloc, line) {
+        Ok(command) => in_words(alloc, &command),
+        Err(CommandError::Refused(cause)) => format!(in alloc; "{cause:?}").ok(),
+        Err(CommandError::NoMemory) => None,
+    }
+}
+
+fn in_words(alloc: Global, command: &Command<Global>) -> Option<String> {
+    match command {
+        Command::Stats => String::from_str(alloc, "stats").ok(),
+        Command::Metrics => String::from_str(alloc, "metrics").ok(),
+        Command::Sessions => String::from_str(alloc, "sessions").ok(),
+        Command::Stop => String::from_str(alloc, "stop").ok(),
+        Command::StopNow => String::from_str(alloc, "stop now").ok(),
+        Command::Retune { export, rates } => {
+            let name = text_of(export);
+            let r = rates.reservation;
+            let l = rates.limit;
+            let w = rates.weight;
+            format!(in alloc; "retune [{name}] {r} {l} {w}").ok()
+        }
+        Command::DropSession { export, session } => {
+            let name = text_of(export);
+            format!(in alloc; "drop [{name}] {session}").ok()
+        }
+    }
+}
+
+fn text_of(name: &Name<Global>) -> &str {
+    str::from_utf8(name.as_bytes()).unwrap_or("not UTF-8")
+}
+
+#[test]
+fn lines_and_what_they_ask_for(rt: HostRuntime) {
+    for (line, expected) in LINES {
+        let words = told(rt.alloc(), line).expect(&rt, "memory");
+        assert!(rt; words.as_str() == expected, "{words} for {expected}");
+    }
+}
+
+/// What a line of `stats` and so many spaces asks for.
+fn told_of_spaces(alloc: Global, spaces: usize) -> Option<String> {
+    let mut line = Vec::from_slice(alloc, b"stats").ok()?;
+    for _ in 0..spaces {
+        line.push(b' ').ok()?;
+    }
+    told(alloc, &line)
+}
+
+#[test]
+fn longest_lines(rt: HostRuntime) {
+    let longest = told_of_spaces(rt.alloc(), 4091).expect(&rt, "memory");
+    assert!(rt; longest.as_str() == "stats");
+    let longer = told_of_spaces(rt.alloc(), 4092).expect(&rt, "memory");
+    assert!(rt; longer.as_str() == "LineTooLong");
+}
+
+/// Whether the nth growth is refused and told, or there are fewer.
+fn tells_of_growth(alloc: Global, nth: u64) -> bool {
+    let refusing = Refusing::new(alloc, nth);
+    match read_command(alloc, &refusing, b"retune \"a b\" 1 2 3") {
+        Ok(_) => refusing.is_armed(),
+        Err(CommandError::NoMemory) => !refusing.is_armed(),
+        Err(CommandError::Refused(_)) => false,
+    }
+}
+
+#[test]
+fn want_of_memory_is_told(rt: HostRuntime) {
+    for nth in 1..8 {
+        assert!(rt; tells_of_growth(rt.alloc(), nth), "growth {nth}");
+    }
+}
