@@ -10,7 +10,7 @@ use crate::under_way::BytesUnderWay;
 use crate::writer::write_replies;
 use nbd_base::NoMemory;
 use nbd_service::policy::FLUSH_WAIT_MS;
-use nbd_service::{Service, Wakeups};
+use nbd_service::{Connection, Service, Wakeups};
 use nbd_session::{Counted, Entry, haggle};
 use server_core::SessionId;
 use server_lock::Pass;
@@ -22,13 +22,27 @@ use std::sync::ledger::Ledger;
 use std::thread::Threads;
 use std::time::Duration;
 use std::{thread, time};
+use tag_clock::Clock;
 
 /// Serves one client to its end, whichever way that comes.
 pub fn serve_client<L: Ledger + Send + Sync, R: Wait + Threads + Sync + time::Clock>(
     rt: &R,
     service: &Service<L>,
-    peer: &TcpStream,
+    peer: TcpStream,
 ) {
+    let Some(connection) = service.connections.enter(rt, service.alloc, peer) else {
+        return;
+    };
+    serve_connection(rt, service, &*connection);
+    service.connections.leave(rt, &*connection);
+}
+
+fn serve_connection<L: Ledger + Send + Sync, R: Wait + Threads + Sync + time::Clock>(
+    rt: &R,
+    service: &Service<L>,
+    connection: &Connection,
+) {
+    let peer = &connection.peer;
     let Some(pass) = service.passes.borrow(rt) else {
         return;
     };
@@ -47,7 +61,11 @@ pub fn serve_client<L: Ledger + Send + Sync, R: Wait + Threads + Sync + time::Cl
     let mut pass = door.into_pass();
     if let Some(session) = session {
         match entry {
-            Ok(Entry::In(_)) => serve_session(rt, service, peer, session, &mut pass),
+            Ok(Entry::In(_)) => {
+                connection.begin(rt, session, service.clock(rt).now());
+                serve_session(rt, service, connection, session, &mut pass);
+                connection.end(rt);
+            }
             _ => service.give_up(rt, session, &mut pass),
         }
     }
@@ -57,10 +75,11 @@ pub fn serve_client<L: Ledger + Send + Sync, R: Wait + Threads + Sync + time::Cl
 fn serve_session<L: Ledger + Send + Sync, R: Wait + Threads + Sync + time::Clock>(
     rt: &R,
     service: &Service<L>,
-    peer: &TcpStream,
+    connection: &Connection,
     session: SessionId,
     pass: &mut Pass<L>,
 ) {
+    let peer = &connection.peer;
     let _ = peer.set_read_timeout(None);
     // Where it can't be set, a reader waits for a client that doesn't read.
     let _ = peer.set_write_timeout(Some(Duration::from_millis(FLUSH_WAIT_MS)));
@@ -69,7 +88,7 @@ fn serve_session<L: Ledger + Send + Sync, R: Wait + Threads + Sync + time::Clock
     let Some(all_waiting) = service.waiting_writes.get(session.export as usize) else {
         return;
     };
-    let bytes = BytesUnderWay::new(all_waiting);
+    let bytes = BytesUnderWay::new(all_waiting, &connection.traffic);
     let link = link_of(service, peer, &patient, &bytes, session);
     if let (Ok(link), Ok(wakeups)) = (link, wakeups) {
         let feed = Counted::new(Feed::new(rt, &link));

@@ -10,6 +10,7 @@ use std::alloc::Global;
 use std::sync::Wait;
 use std::sync::ledger::Ledger;
 use std::time;
+use tag_clock::Clock;
 
 /// Takes a reply of the session while its writer is busy with another, and makes it ready. Where none is there it performs a
 /// request first, whoever asked for it.
@@ -44,12 +45,13 @@ fn take_or_serve<L: Ledger, R: Wait + time::Clock>(
 ) -> Option<Reply<Global>> {
     let clock = service.clock(rt);
     let mut disks = service.hold(rt, link.is_bulk());
+    let began = clock.now();
     let mut taken = take_reply(&mut *disks, pass, link.session);
     if taken.is_err() {
         wakeups.serve_one(&mut *disks, &service.bells, pass, link.session, &clock);
         taken = take_reply(&mut *disks, pass, link.session);
     }
-    service.let_go(disks);
+    service.let_go(rt, disks, began);
     wakeups.wake(&service.bells);
     taken.ok()
 }

@@ -157,7 +157,7 @@ fn hold_once<L: Ledger, R: Wait + time::Clock>(
     let held = HoldClock::at(clock.now());
     let most = batch_after(until(asked, held.now()));
     let batch = source.hand_in_batch(&mut *disks, service, link, pass, outlet, offer, most, &held);
-    service.let_go(disks);
+    service.let_go(rt, disks, held.now());
     link.note_arrived(batch.arrived);
     source.outdated.let_go();
     link.note_prefetched(batch.prefetched);

@@ -35,10 +35,6 @@ pub struct SessionLink<'a> {
     pub(crate) bytes: &'a BytesUnderWay<'a>,
     /// Rung where a reply was taken.
     pub(crate) room: Bell,
-    /// How many requests were handed in.
-    arrived: AtomicU64,
-    /// How many replies were taken.
-    taken: AtomicU64,
     /// Whether its holds of the server are long.
     bulk: AtomicBool,
     /// Whether the reader wrote replies and didn't send them.
@@ -73,8 +69,6 @@ impl<'a> SessionLink<'a> {
             seat,
             bytes,
             room: Bell::new(),
-            arrived: AtomicU64::new(0),
-            taken: AtomicU64::new(0),
             bulk: AtomicBool::new(false),
             kept: AtomicBool::new(false),
             prefetched: AtomicU64::new(0),
@@ -91,7 +85,10 @@ impl<'a> SessionLink<'a> {
     /// So many requests were handed in.
     pub fn note_arrived(&self, count: u64) {
         if count > 0 {
-            self.arrived.fetch_add(count, Ordering::SeqCst);
+            self.bytes
+                .traffic
+                .arrived
+                .fetch_add(count, Ordering::SeqCst);
         }
     }
 
@@ -134,7 +131,10 @@ impl<'a> SessionLink<'a> {
     /// So many replies were taken.
     pub fn note_taken(&self, count: usize) {
         if count > 0 {
-            self.taken.fetch_add(count as u64, Ordering::SeqCst);
+            self.bytes
+                .traffic
+                .taken
+                .fetch_add(count as u64, Ordering::SeqCst);
             self.room.ring();
         }
     }
@@ -153,7 +153,6 @@ impl<'a> SessionLink<'a> {
 
     /// How many requests were handed in whose replies weren't taken.
     pub(crate) fn under_way(&self) -> u64 {
-        let taken = self.taken.load(Ordering::SeqCst);
-        self.arrived.load(Ordering::SeqCst).wrapping_sub(taken)
+        self.bytes.traffic.under_way()
     }
 }

@@ -1,5 +1,6 @@
 //! How many bytes of a session's requests are under way.
 
+use nbd_service::Traffic;
 use nbd_service::policy::{SESSION_BYTES, data_of, holds_back};
 use nbd_wire::RequestHead;
 use nbd_wire::protocol::WRITE;
@@ -36,7 +37,7 @@ impl Admitted {
 /// How many bytes of a session's requests aren't written to its client, and how many of its export's WRITEs wait.
 #[derive(Drop)]
 pub struct BytesUnderWay<'a> {
-    bytes: AtomicU64,
+    pub(crate) traffic: &'a Traffic,
     waiting: AtomicU64,
     // Of all sessions of the export.
     all_waiting: &'a AtomicU64,
@@ -46,10 +47,10 @@ pub struct BytesUnderWay<'a> {
 }
 
 impl<'a> BytesUnderWay<'a> {
-    /// Of a session that asked for nothing yet, and all WRITEs of its export that wait.
-    pub fn new(all_waiting: &'a AtomicU64) -> BytesUnderWay<'a> {
+    /// Of a session that asked for nothing yet: its traffic, and all WRITEs of its export that wait.
+    pub fn new(all_waiting: &'a AtomicU64, traffic: &'a Traffic) -> BytesUnderWay<'a> {
         BytesUnderWay {
-            bytes: AtomicU64::new(0),
+            traffic,
             waiting: AtomicU64::new(0),
             all_waiting,
             over: AtomicBool::new(false),
@@ -60,7 +61,9 @@ impl<'a> BytesUnderWay<'a> {
     /// A hold handed this in.
     pub fn add(&self, admitted: Admitted) {
         if admitted.bytes > 0 {
-            self.bytes.fetch_add(admitted.bytes, Ordering::SeqCst);
+            self.traffic
+                .bytes
+                .fetch_add(admitted.bytes, Ordering::SeqCst);
         }
         if admitted.waiting > 0 {
             self.waiting.fetch_add(admitted.waiting, Ordering::SeqCst);
@@ -72,14 +75,14 @@ impl<'a> BytesUnderWay<'a> {
     /// So many bytes of data were written to the client.
     pub fn note_written(&self, bytes: u64) {
         if bytes > 0 {
-            self.bytes.fetch_sub(bytes, Ordering::SeqCst);
+            self.traffic.bytes.fetch_sub(bytes, Ordering::SeqCst);
         }
     }
 
     /// Nothing of the session is under way: what was counted for requests that were answered with an error goes too.
     pub fn settle(&self) {
-        if self.bytes.load(Ordering::SeqCst) > 0 {
-            self.bytes.store(0, Ordering::SeqCst);
+        if self.traffic.bytes.load(Ordering::SeqCst) > 0 {
+            self.traffic.bytes.store(0, Ordering::SeqCst);
         }
         let waiting = self.waiting.load(Ordering::SeqCst);
         if waiting > 0 {
@@ -90,14 +93,14 @@ impl<'a> BytesUnderWay<'a> {
 
     /// Whether the reader hands in no more for now, with so many requests under way.
     pub fn holds_back(&self, requests: u64) -> bool {
-        let bytes = self.bytes.load(Ordering::SeqCst);
+        let bytes = self.traffic.bytes.load(Ordering::SeqCst);
         let waiting = self.all_waiting.load(Ordering::SeqCst);
         holds_back(requests, bytes, waiting) && !self.over.load(Ordering::SeqCst)
     }
 
     /// Whether a hold that handed this in hands in no more.
     pub fn ends_batch(&self, admitted: Admitted) -> bool {
-        let bytes = self.bytes.load(Ordering::SeqCst);
+        let bytes = self.traffic.bytes.load(Ordering::SeqCst);
         bytes.saturating_add(admitted.bytes) > SESSION_BYTES
     }
 

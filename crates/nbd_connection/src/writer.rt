@@ -11,6 +11,7 @@ use std::net::Shutdown;
 use std::sync::Wait;
 use std::sync::ledger::Ledger;
 use std::time;
+use tag_clock::Clock;
 
 /// What a round of a writer came to.
 #[derive(Clone, Copy, Debug, PartialEq, Eq)]
@@ -126,13 +127,14 @@ fn take_on<L: Ledger, R: Wait + time::Clock>(
     let clock = service.clock(rt);
     let before = outlet.unwritten();
     let mut disks = service.hold(rt, link.is_bulk());
+    let began = clock.now();
     let mut stop = outlet.take(&mut *disks, pass, link.session);
     if stop == Stop::Empty && outlet.unwritten() == 0 {
         wakeups.serve_one(&mut *disks, &service.bells, pass, link.session, &clock);
         stop = outlet.take(&mut *disks, pass, link.session);
     }
     let waits = disks.server().waiting() > 0;
-    service.let_go(disks);
+    service.let_go(rt, disks, began);
     link.note_taken(outlet.unwritten().saturating_sub(before));
     let performed = wakeups.wake(&service.bells);
     DrainOutcome {

@@ -1,5 +1,5 @@
 use nbd_connection::{BytesUnderWay, Feed, SessionLink, TurnSeat};
-use nbd_service::{InteractiveLoad, Turns};
+use nbd_service::{InteractiveLoad, Traffic, Turns};
 use nbd_workers::Bell;
 use server_core::SessionId;
 use std::alloc::Global;
@@ -33,6 +33,7 @@ struct Shared {
     interactive: InteractiveLoad,
     turns: Turns,
     waiting: AtomicU64,
+    traffic: Traffic,
 }
 
 fn shared_of(alloc: Global) -> Option<Shared> {
@@ -49,6 +50,7 @@ fn shared_of(alloc: Global) -> Option<Shared> {
         interactive: InteractiveLoad::new(),
         turns,
         waiting: AtomicU64::new(0),
+        traffic: Traffic::new(),
     })
 }
 
@@ -86,7 +88,7 @@ fn fed<R: Wait + Threads + Sync + time::Clock>(
     peer: &TcpStream,
 ) -> io::Result<(usize, bool)> {
     let patient = AtomicBool::new(false);
-    let bytes = BytesUnderWay::new(&shared.waiting);
+    let bytes = BytesUnderWay::new(&shared.waiting, &shared.traffic);
     match link_of(shared, alloc, peer, &patient, &bytes) {
         Some(link) => read_ahead(rt, alloc, &link),
         None => Ok((0, false)),

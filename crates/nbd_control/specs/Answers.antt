@@ -18,12 +18,11 @@ cause_text why.NotANumber = codes "not a number"
 cause_text (why.Rates refusal) = codes "C" ++ decimal (code_of refusal)
 
 abbrev pub answer_line : Answer → List ℕ
-answer_line said.Retuned = codes "retuned"
-answer_line said.Busy = codes "busy"
 answer_line said.Gone = codes "gone"
 answer_line said.Stopping = codes "stopping"
 answer_line said.NoExport = codes "refused no export"
 answer_line said.NoSession = codes "refused no session"
+answer_line said.RatesFixed = codes "refused rates are fixed"
 answer_line said.NoMemory = codes "refused no memory"
 answer_line (said.Refused cause) = codes "refused " ++ cause_text cause
 

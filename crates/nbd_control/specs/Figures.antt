@@ -48,9 +48,6 @@ server_figures = server.Uptime ∷ server.Connections ∷ server.InService ∷ s
 
 abbrev pub export_row : ExportFigure → Row
 export_row export.Size = gauge (codes "size_bytes") (codes "Size of the disk.")
-export_row export.ImageBytes = gauge (codes "image_bytes") (codes "Memory that the image holds.")
-export_row export.BaseBytes = gauge (codes "base_bytes") (codes "Memory that the base holds.")
-export_row export.LogBytes = gauge (codes "log_bytes") (codes "Memory that the log holds.")
 export_row export.Sessions = gauge (codes "sessions") (codes "Sessions that are open.")
 export_row export.Waiting = gauge (codes "requests_waiting") (codes "Requests that wait.")
 export_row export.Steps = counter (codes "steps_total") (codes "Steps of the export.")
@@ -72,9 +69,6 @@ waited (Some nanoseconds) = Time nanoseconds
 
 abbrev pub export_reading : ExportStats → ExportFigure → Reading
 export_reading e export.Size = Number e.size
-export_reading e export.ImageBytes = Number e.image_bytes
-export_reading e export.BaseBytes = Number e.base_bytes
-export_reading e export.LogBytes = Number e.log_bytes
 export_reading e export.Sessions = Number e.sessions
 export_reading e export.Waiting = Number e.waiting
 export_reading e export.Steps = Number e.steps
@@ -92,8 +86,8 @@ export_reading e export.LongWait = waited e.waits.p99
 -- those of an export, in order
 abbrev pub export_figures : List ExportFigure
 export_figures =
-    export.Size ∷ export.ImageBytes ∷ export.BaseBytes ∷ export.LogBytes ∷ export.Sessions ∷ export.Waiting
-    ∷ export.Steps ∷ export.ByReservation ∷ export.ByWeight ∷ export.Errors ∷ export.ReadBytes ∷ export.WrittenBytes
+    export.Size ∷ export.Sessions ∷ export.Waiting ∷ export.Steps
+    ∷ export.ByReservation ∷ export.ByWeight ∷ export.Errors ∷ export.ReadBytes ∷ export.WrittenBytes
     ∷ export.Reservation ∷ export.Limit ∷ export.Weight ∷ export.MedianWait ∷ export.LongWait ∷ []
 
 abbrev pub kind_word : Kind → List ℕ

@@ -12,10 +12,6 @@ use std::io::Write;
 /// What a line that asks for no figures is answered.
 #[derive(Clone, Copy, Debug, PartialEq, Eq)]
 pub enum Answer {
-    /// The export has the rates that were asked for.
-    Retuned,
-    /// Requests of the export waited all the time, and its rates stay.
-    Busy,
     /// The session is dropped.
     Gone,
     /// No more connections are taken, and the server ends.
@@ -24,6 +20,8 @@ pub enum Answer {
     NoExport,
     /// The export has no such session.
     NoSession,
+    /// The rates of an export are those of the configuration for as long as the server runs.
+    RatesFixed,
     /// Memory was refused, and nothing was changed.
     NoMemory,
     /// The line spells no command.
@@ -58,12 +56,11 @@ fn put_line<A: Allocator>(answer: Answer, text: &mut Vec<u8, A>) -> Result<(), N
     ensures { OnOk result (text.new.items ≡ text.old.items ++ answer_line answer) }
 {
     match answer {
-        Answer::Retuned => or_no_memory(text.write_all(b"retuned")),
-        Answer::Busy => or_no_memory(text.write_all(b"busy")),
         Answer::Gone => or_no_memory(text.write_all(b"gone")),
         Answer::Stopping => or_no_memory(text.write_all(b"stopping")),
         Answer::NoExport => or_no_memory(text.write_all(b"refused no export")),
         Answer::NoSession => or_no_memory(text.write_all(b"refused no session")),
+        Answer::RatesFixed => or_no_memory(text.write_all(b"refused rates are fixed")),
         Answer::NoMemory => or_no_memory(text.write_all(b"refused no memory")),
         Answer::Refused(cause) => put_refusal(cause, text),
     }

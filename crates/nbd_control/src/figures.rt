@@ -49,9 +49,6 @@ pub enum ServerFigure {
 #[derive(Clone, Copy, Debug, PartialEq, Eq)]
 pub enum ExportFigure {
     Size,
-    ImageBytes,
-    BaseBytes,
-    LogBytes,
     Sessions,
     Waiting,
     Steps,
@@ -77,11 +74,8 @@ pub const SERVER_FIGURES: [ServerFigure; 5] = [
 ];
 
 /// The figures of an export, in the order in which they are told.
-pub const EXPORT_FIGURES: [ExportFigure; 17] = [
+pub const EXPORT_FIGURES: [ExportFigure; 14] = [
     ExportFigure::Size,
-    ExportFigure::ImageBytes,
-    ExportFigure::BaseBytes,
-    ExportFigure::LogBytes,
     ExportFigure::Sessions,
     ExportFigure::Waiting,
     ExportFigure::Steps,
@@ -152,9 +146,6 @@ impl ExportFigure {
     {
         match self {
             ExportFigure::Size => gauge("size_bytes", "Size of the disk."),
-            ExportFigure::ImageBytes => gauge("image_bytes", "Memory that the image holds."),
-            ExportFigure::BaseBytes => gauge("base_bytes", "Memory that the base holds."),
-            ExportFigure::LogBytes => gauge("log_bytes", "Memory that the log holds."),
             ExportFigure::Sessions => gauge("sessions", "Sessions that are open."),
             ExportFigure::Waiting => gauge("requests_waiting", "Requests that wait."),
             ExportFigure::Steps => counter("steps_total", "Steps of the export."),
@@ -194,9 +185,6 @@ impl ExportFigure {
     {
         match self {
             ExportFigure::Size => Reading::Number(stats.size),
-            ExportFigure::ImageBytes => Reading::Number(stats.image_bytes),
-            ExportFigure::BaseBytes => Reading::Number(stats.base_bytes),
-            ExportFigure::LogBytes => Reading::Number(stats.log_bytes),
             ExportFigure::Sessions => Reading::Number(stats.sessions),
             ExportFigure::Waiting => Reading::Number(stats.waiting),
             ExportFigure::Steps => Reading::Number(stats.steps),

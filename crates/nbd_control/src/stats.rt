@@ -36,12 +36,6 @@ pub struct ExportStats<'a> {
     pub name: &'a [u8],
     /// In bytes.
     pub size: u64,
-    /// Bytes of memory that the image holds.
-    pub image_bytes: u64,
-    /// Bytes of memory that the base holds beside the image.
-    pub base_bytes: u64,
-    /// Bytes of memory that the steps behind the base hold.
-    pub log_bytes: u64,
     /// That are open.
     pub sessions: u64,
     /// Requests that wait.

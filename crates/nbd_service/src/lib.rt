@@ -1,13 +1,15 @@
 //! What the threads of a server share, and what they decide by values: `policy` has every number of the serving code and each
 //! rule over values. The rules, the clock and the faults have contracts. The rest has none and is tested instead, since it
 //! takes locks, wakes threads, looks at sockets and reads flags that others write: `Service` (the lock of the server and who
-//! goes first), the bells, the passes, the wake-ups, and the spin ladder with the poll of a socket by it; and prefetching, which
+//! goes first), the bells, the passes, the wake-ups, the connections that are open with what is told of them, and the spin ladder with the poll of a socket by it; and prefetching, which
 //! changes nothing.
 #![tactic(auto)]
 
 mod bells;
+mod connections;
 mod descriptors;
 mod fault;
+mod figures;
 mod hold_clock;
 mod interactive;
 mod keepalive;
@@ -24,8 +26,10 @@ mod wakeups;
 mod worker_gate;
 
 pub use bells::Bells;
+pub use connections::{Connection, Connections, SessionFigures, Traffic};
 pub use descriptors::room_for_connections;
 pub use fault::ServeFault;
+pub use figures::{ExportFigures, tally_of};
 pub use hold_clock::HoldClock;
 pub use interactive::InteractiveLoad;
 pub use keepalive::keep_alive;

@@ -55,6 +55,17 @@ pub const KEEPALIVE_INTERVAL_S: u8 = 10;
 
 pub const KEEPALIVE_PROBES: u8 = 6;
 
+// ---- The control socket
+
+/// How many clients of the control socket are served at a time. One more is dropped.
+pub const CONTROL_CLIENTS: u64 = 8;
+
+/// How many milliseconds such a client has for each line.
+pub const CONTROL_LINE_MS: u64 = 10_000;
+
+/// Behind how many milliseconds without a byte its thread looks whether the server is at its end.
+pub const CONTROL_LOOK_MS: u64 = 100;
+
 // ---- Requests
 
 /// The longest data, in bytes, of a READ that a reader performs itself.

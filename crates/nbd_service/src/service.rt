@@ -1,6 +1,8 @@
 //! What the threads of a server share.
 
 use crate::bells::Bells;
+use crate::connections::Connections;
+use crate::figures::tally_of;
 use crate::interactive::InteractiveLoad;
 use crate::passes::PassPool;
 use crate::policy::{KEPT_BLOCK_BYTES, is_alone, may_read_ahead, still_defers};
@@ -59,6 +61,9 @@ pub struct Service<L: Ledger> {
     pub start: Option<Instant>,
     /// Whether no more connections are accepted.
     pub closed: AtomicBool,
+    /// Whether that was asked for.
+    pub stopping: AtomicBool,
+    pub connections: Connections,
     /// Whether the server is held, more or less. Who looks for it reads this, which disturbs nobody; each try to hold it takes a part of
     /// the server out of the cache of the processor that holds it.
     pub taken: AtomicBool,
@@ -75,7 +80,7 @@ pub struct Service<L: Ledger> {
 
 impl<L: Ledger> Service<L> {
     /// What the threads of this server share. Its time begins now. The table is what clients are told of the exports.
-    pub fn new<R: Threads + time::Clock>(
+    pub fn new<R: Wait + Threads + time::Clock>(
         rt: &R,
         alloc: Global,
         config: &Config<Global>,
@@ -87,6 +92,7 @@ impl<L: Ledger> Service<L> {
         for _ in config.exports() {
             waiting_writes.push(AtomicU64::new(0))?;
         }
+        shared.hold(rt).set_tally(tally_of(alloc, config)?);
         // The C library gives no block of this size back to the system from now on, which would cost more than the copies.
         drop(Vec::<u8>::with_capacity(alloc, KEPT_BLOCK_BYTES)?);
         Ok(Service {
@@ -97,6 +103,8 @@ impl<L: Ledger> Service<L> {
             table,
             start: Instant::now(rt).ok(),
             closed: AtomicBool::new(false),
+            stopping: AtomicBool::new(false),
+            connections: Connections::new(alloc),
             taken: AtomicBool::new(false),
             interactive: InteractiveLoad::new(),
             turns: Turns::new(alloc, config)?,
@@ -121,8 +129,15 @@ impl<L: Ledger> Service<L> {
         held
     }
 
-    /// Lets others hold the server.
-    pub fn let_go(&self, held: MutexGuard<'_, Disks<L>>) {
+    /// Lets others hold the server, which was held since a moment.
+    pub fn let_go<R: time::Clock>(
+        &self,
+        rt: &R,
+        mut held: MutexGuard<'_, Disks<L>>,
+        began: Moment,
+    ) {
+        let now = self.clock(rt).now();
+        held.note_hold(now, now.nanoseconds().saturating_sub(began.nanoseconds()));
         self.taken.store(false, Ordering::SeqCst);
         drop(held);
     }

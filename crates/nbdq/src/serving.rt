@@ -1,11 +1,14 @@
 //! `nbdq serve`: the threads of a server.
 ghost use Rattle.std.specs.Prelude.{◌≡◌, ◌≤◌};
 
+mod control;
+mod control_lines;
 mod idle_threads;
 mod listener;
 #[cfg(test)]
 mod tests;
 
+use control::{ControlSocket, serve_control};
 use idle_threads::IdleThreads;
 use listener::{Entrance, Listener, may_pass};
 use nbd_commands::Config;
@@ -29,13 +32,14 @@ use std::time::Duration;
 use std::{thread, time};
 
 /// Serves the exports of a configuration on the listeners that are given, until each has accepted as many connections as it
-/// may and these have ended. Answers how many steps the exports counted.
+/// may and these have ended, or the control socket asks for the end. Answers how many steps the exports counted.
 pub fn serve_on<R: Wait + Threads + Sync + time::Clock>(
     rt: &R,
     alloc: Global,
     config: &Config<Global>,
     tcp: Option<TcpListener>,
     unix: Option<UnixListener>,
+    control: Option<UnixListener>,
     crew: Crew,
 ) -> Result<u128, ServeFault> {
     let mut entrances = Vec::new(alloc);
@@ -45,10 +49,24 @@ pub fn serve_on<R: Wait + Threads + Sync + time::Clock>(
     if let Some(unix) = unix {
         entrances.push(Entrance::new(alloc, Listener::Unix(unix))?)?;
     }
+    let control = control.map(|listener| ControlSocket::new(Listener::Unix(listener)));
     let listening = crew.sessions.most().saturating_mul(entrances.len() as u64);
     let passes = passes_for(listening, crew.workers);
     let blank = Blank::new(passes);
-    serve_booked::<Brand, R>(rt, alloc, config, entrances.as_slice(), crew, blank, passes)
+    let doors = Doors {
+        entrances: entrances.as_slice(),
+        control: control.as_ref(),
+        crew,
+    };
+    serve_booked::<Brand, R>(rt, alloc, config, doors, blank, passes)
+}
+
+/// Where clients come in, and how many threads serve them.
+#[derive(Clone, Copy)]
+struct Doors<'a> {
+    entrances: &'a [Entrance],
+    control: Option<&'a ControlSocket>,
+    crew: Crew,
 }
 
 /// Serves with so many passes.
@@ -56,8 +74,7 @@ fn serve_booked<L: Ledger + Send + Sync, R: Wait + Threads + Sync + time::Clock>
     rt: &R,
     alloc: Global,
     config: &Config<Global>,
-    entrances: &[Entrance],
-    crew: Crew,
+    doors: Doors<'_>,
     blank: Blank,
     passes: u64,
 ) -> Result<u128, ServeFault>
@@ -72,7 +89,7 @@ fn serve_booked<L: Ledger + Send + Sync, R: Wait + Threads + Sync + time::Clock>
     };
     let table = table_of(alloc, config.exports())?;
     let service = Service::new(rt, alloc, config, table, shared, PassPool::new(passes))?;
-    let listened = run_threads(rt, &service, entrances, crew);
+    let listened = run_threads(rt, &service, config, doors);
     let Service { shared, passes, .. } = service;
     let booked = shared.end();
     let passes = passes.end();
@@ -89,16 +106,23 @@ fn serve_booked<L: Ledger + Send + Sync, R: Wait + Threads + Sync + time::Clock>
 fn run_threads<L: Ledger + Send + Sync, R: Wait + Threads + Sync + time::Clock>(
     rt: &R,
     service: &Service<L>,
-    entrances: &[Entrance],
-    crew: Crew,
+    config: &Config<Global>,
+    doors: Doors<'_>,
 ) -> bool {
     thread::scope(thread::scope_env(), rt, |scope| {
         let mut all = true;
-        for _ in 0..crew.workers {
+        for _ in 0..doors.crew.workers {
             let started = scope.spawn(move || run_worker(rt, service));
             all = all && started.is_ok();
         }
-        let listened = all && listen(rt, service, entrances, crew.sessions.most());
+        if let Some(control) = doors.control {
+            let started = scope.spawn(move || serve_control(rt, service, config, doors, control));
+            all = all && started.is_ok();
+        }
+        let listened = all && listen(rt, service, doors.entrances, doors.crew.sessions.most());
+        if let Some(control) = doors.control {
+            control.end();
+        }
         service.shared.stop();
         service.bells.work.ring();
         listened
@@ -138,15 +162,25 @@ fn listen<L: Ledger + Send + Sync, R: Wait + Threads + Sync + time::Clock>(
     started && !service.closed.load(Ordering::SeqCst)
 }
 
-/// No listener accepts any more.
+/// No listener accepts any more, since one failed.
 fn close_all<L: Ledger>(service: &Service<L>, entrances: &[Entrance]) {
     service.closed.store(true, Ordering::SeqCst);
+    close_entrances(entrances);
+}
+
+/// No listener accepts any more, since that was asked for.
+fn stop<L: Ledger>(service: &Service<L>, entrances: &[Entrance]) {
+    service.stopping.store(true, Ordering::SeqCst);
+    close_entrances(entrances);
+}
+
+fn close_entrances(entrances: &[Entrance]) {
     for entrance in entrances {
         let _ = entrance.listener.close();
     }
 }
 
-/// Accepts so many connections, and returns once each has ended. False where the listener failed or was closed.
+/// Accepts so many connections, and returns once each has ended. False where the listener failed, or was closed since another did.
 fn accept_all<L: Ledger + Send + Sync, R: Wait + Threads + Sync + time::Clock>(
     rt: &R,
     service: &Service<L>,
@@ -157,7 +191,7 @@ fn accept_all<L: Ledger + Send + Sync, R: Wait + Threads + Sync + time::Clock>(
         let mut accepted = true;
         for _ in 0..sessions {
             let Some(peer) = accept_one(rt, service, &entrance.listener) else {
-                accepted = false;
+                accepted = service.stopping.load(Ordering::SeqCst);
                 break;
             };
             if let Err(peer) = entrance.idle.hand_over(rt, peer) {
@@ -180,7 +214,7 @@ fn accept_one<L: Ledger, R: Wait + time::Clock>(
 ) -> Option<TcpStream> {
     for _ in rt.forever() {
         let accepted = listener.accept();
-        if service.closed.load(Ordering::SeqCst) {
+        if service.closed.load(Ordering::SeqCst) || service.stopping.load(Ordering::SeqCst) {
             return None;
         }
         match accepted {
@@ -204,8 +238,7 @@ fn serve_clients<L: Ledger + Send + Sync, R: Wait + Threads + Sync + time::Clock
         let Some(peer) = next.take() else {
             return;
         };
-        serve_client(rt, service, &peer);
-        drop(peer);
+        serve_client(rt, service, peer);
         next = idle.wait(rt);
     }
 }

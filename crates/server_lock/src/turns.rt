@@ -12,6 +12,7 @@ ghost use Rattle.server_core.specs.Served.{Holds, Stepped, seats_chosen, attach_
 ghost use Rattle.server_lock.specs.Traces.{rise_of_trace};
 ghost use Rattle.server_lock.specs.Scores.{noted, scored, opened, unused, holding, without, chosen_by};
 
+use crate::tally::Tally;
 use crate::trace::{
     AnswerTrace, EventTrace, Trace, told_arrive, told_attach, told_dispatch, told_gone, told_leave,
     told_perform, told_take,
@@ -39,6 +40,7 @@ pub struct Booked<L: Ledger, I: Image, E: Eligibility<Alloc = I::Alloc>> {
     // Has no part of the ledger until those of the passes come back.
     rest: Share<L>,
     passes: u64,
+    tally: Tally<I::Alloc>,
 }
 
 impl<L: Ledger, I: Image, E: Eligibility<Alloc = I::Alloc>> Model for Booked<L, I, E> {
@@ -219,6 +221,25 @@ impl<L: Ledger, I: Image, E: Eligibility<Alloc = I::Alloc>> Booked<L, I, E> {
         self.server.catch_up(export, most);
     }
 
+    /// What was counted beside the server.
+    pub fn tally(&self) -> &Tally<I::Alloc> {
+        &self.tally
+    }
+
+    /// Counts in this from now on.
+    pub fn set_tally(&mut self, tally: Tally<I::Alloc>)
+        ensures { self.new ≡ self.old }
+    {
+        self.tally = tally;
+    }
+
+    /// A hold of the server ends now, which took so many nanoseconds.
+    pub fn note_hold(&mut self, now: Moment, length: u64)
+        ensures { self.new ≡ self.old }
+    {
+        self.tally.note_hold(now, length);
+    }
+
     /// How many passes there are of its book.
     pub fn passes(&self) -> u64
         ensures { result ≡ L.parts }
@@ -256,6 +277,7 @@ impl<L: Ledger, I: Image, E: Eligibility<Alloc = I::Alloc>> Booked<L, I, E> {
             book,
             rest,
             passes: n,
+            tally: Tally::new(alloc),
         };
         Ok((booked, passes))
     }
@@ -311,6 +333,7 @@ pub fn turn_arrive<L: Ledger, I: Image, E: Eligibility<Alloc = I::Alloc>>(
         head,
     };
     pass.note(&mut booked.book, event, told);
+    booked.tally.note(export, event, told);
     answer
 }
 
@@ -328,9 +351,11 @@ pub fn turn_dispatch<L: Ledger, I: Image, E: Eligibility<Alloc = I::Alloc>>(
 {
     let answer = booked.server.dispatch(moment);
     let told = told_dispatch::<I::Alloc>(&answer);
-    pass.note(&mut booked.book, EventTrace::Dispatch { moment }, told);
+    let event = EventTrace::Dispatch { moment };
+    pass.note(&mut booked.book, event, told);
     if let Some(chosen) = &answer {
         pass.hold(chosen.ticket);
+        booked.tally.note(chosen.ticket.export(), event, told);
     }
     answer
 }
@@ -357,6 +382,7 @@ pub fn turn_perform<L: Ledger, I: Image, E: Eligibility<Alloc = I::Alloc>>(
         number: ticket.number(),
     };
     pass.note(&mut booked.book, event, told);
+    booked.tally.note(ticket.export(), event, told);
     pass.let_go(ticket);
     answer
 }
@@ -444,6 +470,7 @@ pub fn settle<L: Ledger, I: Image, E: Eligibility<Alloc = I::Alloc>, A: Allocato
         mut book,
         mut rest,
         passes: _,
+        tally: _,
     } = booked;
     book.audit(&mut rest);
     gather(&mut rest, passes);

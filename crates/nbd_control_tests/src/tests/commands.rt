@@ -25,12 +25,12 @@ const LINES: [(&[u8], &str); 46] = [
     (b"retune 'a \\ b' 1 2 3", "retune [a \\ b] 1 2 3"),
     (
         b"retune \"a\\\"\\\\\\n\\u00e9\" 1 2 3",
-        "retune [a\"\\\n\xc3\xa9] 1 2 3",
+        "retune [a\"\\\n\u{e9}] 1 2 3",
     ),
     (b"retune \"\"\"a\"\"\" 1 2 3", "retune [a] 1 2 3"),
     (b"retune \"\" 1 2 3", "retune [] 1 2 3"),
     (b"retune a\"b 1 2 3", "retune [a\"b] 1 2 3"),
-    (b"retune \xc3\xa9 1 2 3", "retune [\xc3\xa9] 1 2 3"),
+    (b"retune \xc3\xa9 1 2 3", "retune [\u{e9}] 1 2 3"),
     (b"drop a 0", "drop [a] 0"),
     (
         b"drop \"a b\" 18446744073709551615",
@@ -123,11 +123,14 @@ fn longest_lines(rt: HostRuntime) {
     assert!(rt; longer.as_str() == "LineTooLong");
 }
 
-/// Whether the nth growth is refused and told, or there are fewer.
+/// Whether the line is read as it is, or want of memory is told, where the nth growth is refused.
 fn tells_of_growth(alloc: Global, nth: u64) -> bool {
     let refusing = Refusing::new(alloc, nth);
-    match read_command(alloc, &refusing, b"retune \"a b\" 1 2 3") {
-        Ok(_) => refusing.is_armed(),
+    match read_command(alloc, &refusing, b"drop \"a b\" 7") {
+        Ok(Command::DropSession { export, session }) => {
+            nth > 1 && export.as_bytes() == b"a b".as_slice() && session == 7
+        }
+        Ok(_) => false,
         Err(CommandError::NoMemory) => !refusing.is_armed(),
         Err(CommandError::Refused(_)) => false,
     }

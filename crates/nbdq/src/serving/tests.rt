@@ -60,7 +60,7 @@ fn over_loopback(rt: HostRuntime) -> Result<(), Fail> {
     let lent = &config;
     let (steps, said) = thread::join(
         rt,
-        move || serve_on(rt, alloc, lent, Some(listener), None, CREW),
+        move || serve_on(rt, alloc, lent, Some(listener), None, None, CREW),
         move || told(alloc, &mut TcpStream::connect(rt, address)?),
     );
     assert_eq!(rt; said?.as_slice(), SAID);
@@ -79,7 +79,7 @@ fn over_a_unix_socket(rt: HostRuntime) -> Result<(), Fail> {
     let lent = &config;
     let (steps, said) = thread::join(
         rt,
-        move || serve_on(rt, alloc, lent, None, Some(listener), CREW),
+        move || serve_on(rt, alloc, lent, None, Some(listener), None, CREW),
         move || told(alloc, &mut UnixStream::connect(rt, path)?),
     );
     fs::remove_file(rt, path)?;
@@ -150,7 +150,7 @@ fn long_replies(rt: HostRuntime) -> Result<(), Fail> {
         let address = listener.local_addr()?;
         let (steps, told) = thread::join(
             rt,
-            move || serve_on(rt, alloc, lent, Some(listener), None, CREW),
+            move || serve_on(rt, alloc, lent, Some(listener), None, None, CREW),
             move || long_told(alloc, &mut TcpStream::connect(rt, address)?, length),
         );
         assert_eq!(rt; told?, 255);
@@ -260,7 +260,7 @@ fn long_writes_and_a_second_client(rt: HostRuntime) -> Result<(), Fail> {
     let address = listener.local_addr()?;
     let (steps, well) = thread::join(
         rt,
-        move || serve_on(rt, alloc, lent, Some(listener), None, crew),
+        move || serve_on(rt, alloc, lent, Some(listener), None, None, crew),
         move || {
             let written = write_parts(alloc, &mut TcpStream::connect(rt, address)?)?;
             let read = read_parts(alloc, &mut TcpStream::connect(rt, address)?)?;
@@ -338,7 +338,7 @@ fn a_client_that_reads_late(rt: HostRuntime) -> Result<(), Fail> {
     let lent = &config;
     let (steps, well) = thread::join(
         rt,
-        move || serve_on(rt, alloc, lent, None, Some(listener), CREW),
+        move || serve_on(rt, alloc, lent, None, Some(listener), None, CREW),
         move || read_late(alloc, &mut UnixStream::connect(rt, path)?),
     );
     fs::remove_file(rt, path)?;

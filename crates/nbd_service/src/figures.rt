@@ -1,0 +1,77 @@
+//! What is told of the server and its exports while it runs.
+
+use crate::service::{Disks, Service};
+use export_store::Paged;
+use nbd_base::NoMemory;
+use nbd_commands::Config;
+use nbd_measures::{HoldCount, WaitQuantiles};
+use server_lock::{ExportCounts, ExportTally, Tally};
+use std::alloc::Global;
+use std::sync::Wait;
+use std::sync::ledger::Ledger;
+
+/// What is told of an export's requests.
+#[derive(Clone, Copy, Debug, PartialEq, Eq, Drop)]
+pub struct ExportFigures {
+    pub waiting: u64,
+    pub steps: u64,
+    pub counts: ExportCounts,
+    pub waits: WaitQuantiles,
+}
+
+impl ExportFigures {
+    /// How many requests are in service.
+    pub fn in_service(&self) -> u64 {
+        let chosen = self
+            .counts
+            .by_reservation
+            .saturating_add(self.counts.by_weight);
+        chosen.saturating_sub(self.counts.performed)
+    }
+}
+
+/// What is counted of the exports of a configuration.
+pub fn tally_of(alloc: Global, config: &Config<Global>) -> Result<Tally<Global>, NoMemory> {
+    let mut tally = Tally::new(alloc);
+    for export in config.exports() {
+        let requests = export.depth().saturating_add(config.inflight());
+        tally.add(ExportTally::new(alloc, requests)?)?;
+    }
+    Ok(tally)
+}
+
+impl<L: Ledger> Service<L> {
+    /// How often the server was held by the threads of sessions, and how long.
+    pub fn holds<R: Wait>(&self, rt: &R) -> HoldCount {
+        self.shared.hold(rt).tally().holds()
+    }
+
+    /// What is told of an export, under one hold. None where there is no such export.
+    pub fn export_figures<R: Wait>(
+        &self,
+        rt: &R,
+        export: u32,
+    ) -> Result<Option<ExportFigures>, NoMemory> {
+        let disks = self.shared.hold(rt);
+        figures_of(self.alloc, &*disks, export)
+    }
+}
+
+fn figures_of<L: Ledger>(
+    alloc: Global,
+    disks: &Disks<L>,
+    export: u32,
+) -> Result<Option<ExportFigures>, NoMemory> {
+    let Some(cell) = disks.server().journal(export) else {
+        return Ok(None);
+    };
+    let Some(tally) = disks.tally().export(export) else {
+        return Ok(None);
+    };
+    Ok(Some(ExportFigures {
+        waiting: cell.live().waiting() as u64,
+        steps: cell.steps(),
+        counts: tally.counts(),
+        waits: tally.waits().quantiles(alloc)?,
+    }))
+}

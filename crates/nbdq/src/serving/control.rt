@@ -1,0 +1,306 @@
+//! The control socket: what its clients ask for, and what they are answered.
+
+use super::control_lines::Lines;
+use super::listener::{Entrance, Listener, may_pass};
+use super::{Doors, stop};
+use nbd_base::NoMemory;
+use nbd_commands::{Config, ExportConfig};
+use nbd_control::{
+    Answer, Command, CommandError, ExportStats, Name, Rates, ServerStats, SessionLine,
+    read_command, write_answer, write_metrics, write_sessions, write_stats,
+};
+use nbd_service::policy::{CONTROL_CLIENTS, RETRY_MS};
+use nbd_service::{ExportFigures, Service, SessionFigures};
+use server_core::SessionId;
+use std::alloc::Global;
+use std::io::Write;
+use std::net::TcpStream;
+use std::sync::Wait;
+use std::sync::atomic::{AtomicBool, AtomicU64, Ordering};
+use std::sync::ledger::Ledger;
+use std::thread::Threads;
+use std::time::Duration;
+use std::{thread, time};
+use tag_clock::Clock;
+
+/// The control socket of a server.
+#[derive(Drop)]
+pub struct ControlSocket {
+    listener: Listener,
+    // How many clients it has.
+    clients: AtomicU64,
+    ended: AtomicBool,
+}
+
+impl ControlSocket {
+    pub fn new(listener: Listener) -> ControlSocket {
+        ControlSocket {
+            listener,
+            clients: AtomicU64::new(0),
+            ended: AtomicBool::new(false),
+        }
+    }
+
+    /// The server is at its end: no more lines are read.
+    pub fn end(&self) {
+        self.ended.store(true, Ordering::SeqCst);
+        let _ = self.listener.close();
+    }
+
+    pub fn is_ended(&self) -> bool {
+        self.ended.load(Ordering::SeqCst)
+    }
+
+    /// One more client. False where there are as many as may be.
+    fn enter(&self) -> bool {
+        let before = self.clients.fetch_add(1, Ordering::SeqCst);
+        if before >= CONTROL_CLIENTS {
+            self.leave();
+            return false;
+        }
+        true
+    }
+
+    fn leave(&self) {
+        self.clients.fetch_sub(1, Ordering::SeqCst);
+    }
+}
+
+/// Serves the clients of the control socket, until the server is at its end.
+pub fn serve_control<L: Ledger + Send + Sync, R: Wait + Threads + Sync + time::Clock>(
+    rt: &R,
+    service: &Service<L>,
+    config: &Config<Global>,
+    doors: Doors<'_>,
+    control: &ControlSocket,
+) {
+    thread::scope(thread::scope_env(), rt, |scope| {
+        for _ in rt.forever() {
+            let accepted = control.listener.accept();
+            if control.is_ended() {
+                return;
+            }
+            match accepted {
+                Ok(peer) if control.enter() => {
+                    let started = scope.spawn(move || {
+                        serve_lines(rt, service, config, doors, control, &peer);
+                        control.leave();
+                    });
+                    if started.is_err() {
+                        control.leave();
+                    }
+                }
+                Ok(_) => {}
+                Err(error) if may_pass(&error) => {
+                    thread::sleep(rt, Duration::from_millis(RETRY_MS))
+                }
+                Err(_) => return,
+            }
+        }
+    });
+}
+
+/// Answers the lines of a client.
+fn serve_lines<L: Ledger, R: Wait + time::Clock>(
+    rt: &R,
+    service: &Service<L>,
+    config: &Config<Global>,
+    doors: Doors<'_>,
+    control: &ControlSocket,
+    peer: &TcpStream,
+) {
+    let clock = service.clock(rt);
+    let Ok(mut lines) = Lines::new(service.alloc, peer) else {
+        return;
+    };
+    let mut writer = peer;
+    for _ in rt.forever() {
+        if !lines.next(rt, control, &clock) {
+            return;
+        }
+        let mut text = Vec::new(service.alloc);
+        let answered = answer_line(rt, service, config, doors.entrances, lines.line(), &mut text);
+        let written = answered.is_ok() && writer.write_all(text.as_slice()).is_ok();
+        if !written {
+            return;
+        }
+    }
+}
+
+/// Does what a line asks for, and puts the answer behind a text.
+fn answer_line<L: Ledger, R: Wait + time::Clock>(
+    rt: &R,
+    service: &Service<L>,
+    config: &Config<Global>,
+    entrances: &[Entrance],
+    line: &[u8],
+    text: &mut Vec<u8>,
+) -> Result<(), NoMemory> {
+    let alloc = service.alloc;
+    let done = match read_command(alloc, alloc, line) {
+        Ok(command) => do_command(rt, service, config, entrances, command, text),
+        Err(CommandError::Refused(cause)) => Ok(Some(Answer::Refused(cause))),
+        Err(CommandError::NoMemory) => Err(NoMemory),
+    };
+    match done {
+        Ok(Some(answer)) => write_answer(alloc, answer, text),
+        Ok(None) => Ok(()),
+        Err(NoMemory) => write_answer(alloc, Answer::NoMemory, text),
+    }
+}
+
+/// Does what is asked for, and tells the answer, where it isn't put behind the text.
+fn do_command<L: Ledger, R: Wait + time::Clock>(
+    rt: &R,
+    service: &Service<L>,
+    config: &Config<Global>,
+    entrances: &[Entrance],
+    command: Command<Global>,
+    text: &mut Vec<u8>,
+) -> Result<Option<Answer>, NoMemory> {
+    match command {
+        Command::Stats => put_figures(rt, service, config, false, text),
+        Command::Metrics => put_figures(rt, service, config, true, text),
+        Command::Sessions => put_sessions(rt, service, config, text),
+        Command::Retune { .. } => Ok(Some(Answer::RatesFixed)),
+        Command::DropSession { export, session } => {
+            Ok(Some(drop_session(rt, service, config, &export, session)))
+        }
+        Command::Stop => {
+            stop(service, entrances);
+            Ok(Some(Answer::Stopping))
+        }
+        Command::StopNow => {
+            stop(service, entrances);
+            service.connections.cut_all(rt);
+            Ok(Some(Answer::Stopping))
+        }
+    }
+}
+
+/// Ends a session of the export that has this name.
+fn drop_session<L: Ledger, R: Wait>(
+    rt: &R,
+    service: &Service<L>,
+    config: &Config<Global>,
+    name: &Name<Global>,
+    number: u64,
+) -> Answer {
+    let place = config
+        .exports()
+        .iter()
+        .position(|export| export.name() == name.as_bytes());
+    let Some(export) = place else {
+        return Answer::NoExport;
+    };
+    let session = SessionId {
+        export: export as u32,
+        number,
+    };
+    if service.connections.cut(rt, session) {
+        Answer::Gone
+    } else {
+        Answer::NoSession
+    }
+}
+
+/// Puts the figures of the server and of each export behind a text.
+fn put_figures<L: Ledger, R: Wait + time::Clock>(
+    rt: &R,
+    service: &Service<L>,
+    config: &Config<Global>,
+    is_for_prometheus: bool,
+    text: &mut Vec<u8>,
+) -> Result<Option<Answer>, NoMemory> {
+    let mut exports = Vec::new(service.alloc);
+    let mut in_service = 0u64;
+    for (at, export) in config.exports().iter().enumerate() {
+        let Some(figures) = service.export_figures(rt, at as u32)? else {
+            continue;
+        };
+        in_service = in_service.saturating_add(figures.in_service());
+        let sessions = service.connections.sessions_of(rt, at as u32);
+        exports.push(stats_of(export, &figures, sessions))?;
+    }
+    let server = server_stats(rt, service, in_service);
+    if is_for_prometheus {
+        write_metrics(service.alloc, &server, exports.as_slice(), text)?;
+    } else {
+        write_stats(service.alloc, &server, exports.as_slice(), text)?;
+    }
+    Ok(None)
+}
+
+fn server_stats<L: Ledger, R: Wait + time::Clock>(
+    rt: &R,
+    service: &Service<L>,
+    in_service: u64,
+) -> ServerStats {
+    let holds = service.holds(rt);
+    let now = service.clock(rt).now();
+    ServerStats {
+        uptime: now.nanoseconds(),
+        connections: service.connections.count(rt) as u64,
+        in_service,
+        holds: holds.total,
+        longest_hold: holds.longest_of_last_second(now),
+    }
+}
+
+fn stats_of<'a>(
+    export: &'a ExportConfig<Global>,
+    figures: &ExportFigures,
+    sessions: u64,
+) -> ExportStats<'a> {
+    ExportStats {
+        name: export.name(),
+        size: export.size(),
+        sessions,
+        waiting: figures.waiting,
+        steps: figures.steps,
+        by_reservation: figures.counts.by_reservation,
+        by_weight: figures.counts.by_weight,
+        errors: figures.counts.errors,
+        read_bytes: figures.counts.read_bytes,
+        written_bytes: figures.counts.written_bytes,
+        rates: Rates {
+            reservation: u64::from(export.reservation()),
+            limit: u64::from(export.limit()),
+            weight: u64::from(export.weight()),
+        },
+        waits: figures.waits,
+    }
+}
+
+/// Puts a line for each session behind a text.
+fn put_sessions<L: Ledger, R: Wait + time::Clock>(
+    rt: &R,
+    service: &Service<L>,
+    config: &Config<Global>,
+    text: &mut Vec<u8>,
+) -> Result<Option<Answer>, NoMemory> {
+    let now = service.clock(rt).now();
+    let sessions = service.connections.sessions(rt, service.alloc, now)?;
+    let mut lines = Vec::new(service.alloc);
+    for session in sessions.as_slice() {
+        lines.push(line_of(config, session))?;
+    }
+    write_sessions(service.alloc, lines.as_slice(), text)?;
+    Ok(None)
+}
+
+fn line_of<'a>(config: &'a Config<Global>, session: &'a SessionFigures) -> SessionLine<'a> {
+    let export = match config.exports().get(session.session.export as usize) {
+        Some(export) => export.name(),
+        None => b"".as_slice(),
+    };
+    SessionLine {
+        export,
+        number: session.session.number,
+        address: session.address.as_bytes(),
+        connected: session.connected,
+        requests: session.requests,
+        outstanding: session.outstanding,
+        under_way_bytes: session.under_way_bytes,
+    }
+}

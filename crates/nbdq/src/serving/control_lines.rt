@@ -1,0 +1,95 @@
+//! The lines that a client of the control socket sends.
+
+use super::control::ControlSocket;
+use nbd_base::NoMemory;
+use nbd_control::MAX_LINE;
+use nbd_service::policy::{CONTROL_LINE_MS, CONTROL_LOOK_MS};
+use std::alloc::Global;
+use std::io::{ErrorKind, Read};
+use std::net::TcpStream;
+use std::sync::Wait;
+use std::time;
+use std::time::Duration;
+use tag_clock::Clock;
+
+/// The lines of a client, one after another. Of a line that is too long the bytes behind are lost.
+#[derive(Drop)]
+pub struct Lines<'a> {
+    peer: &'a TcpStream,
+    line: Vec<u8>,
+    // What was read, and how far it was used.
+    chunk: [u8; 512],
+    at: usize,
+    count: usize,
+}
+
+impl<'a> Lines<'a> {
+    pub fn new(alloc: Global, peer: &'a TcpStream) -> Result<Lines<'a>, NoMemory> {
+        let _ = peer.set_read_timeout(Some(Duration::from_millis(CONTROL_LOOK_MS)));
+        Ok(Lines {
+            peer,
+            line: Vec::with_capacity(alloc, MAX_LINE + 1)?,
+            chunk: [0; 512],
+            at: 0,
+            count: 0,
+        })
+    }
+
+    /// The latest line, without its line feed.
+    pub fn line(&self) -> &[u8] {
+        self.line.as_slice()
+    }
+
+    /// Reads the next line. False where the client sends none in time, or none any more, or the server is at its end.
+    pub fn next<R: Wait + time::Clock, C: Clock>(
+        &mut self,
+        rt: &R,
+        control: &ControlSocket,
+        clock: &C,
+    ) -> bool {
+        self.line.clear();
+        let began = clock.now().nanoseconds();
+        for _ in rt.forever() {
+            if self.take_line() {
+                return true;
+            }
+            let passed = clock.now().nanoseconds().saturating_sub(began);
+            if passed > CONTROL_LINE_MS * 1_000_000 || control.is_ended() || !self.fill() {
+                return false;
+            }
+        }
+        unreachable!()
+    }
+
+    /// Takes what was read, up to a line feed. Tells whether there was one.
+    fn take_line(&mut self) -> bool {
+        while self.at < self.count {
+            let byte = self.chunk.get(self.at).copied().unwrap_or(b'\n');
+            self.at = self.at.saturating_add(1);
+            if byte == b'\n' {
+                return true;
+            }
+            if self.line.len() < self.line.capacity() {
+                self.line.push_reserved(byte);
+            }
+        }
+        false
+    }
+
+    /// Reads what has come, for which it waits a little. False where nothing comes any more.
+    fn fill(&mut self) -> bool {
+        let mut peer = self.peer;
+        self.at = 0;
+        self.count = 0;
+        match peer.read(&mut self.chunk) {
+            Ok(count) => {
+                self.count = count;
+                count > 0
+            }
+            Err(error) => match error.kind() {
+                ErrorKind::WouldBlock | ErrorKind::TimedOut | ErrorKind::Interrupted => true,
+                _ => false,
+            },
+        }
+    }
+}

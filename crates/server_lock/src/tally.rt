@@ -1,0 +1,157 @@
+//! What is counted of each export beside the server, by the traces of the turns.
+ghost use Rattle.std.specs.Prelude.{◌≡◌, ◌-◌, ◌%◌, ◌<◌, [], length, replicate, IfOk};
+ghost use Rattle.nbd_measures.specs.Holds.{no_holds};
+ghost use Rattle.server_lock.specs.Tally.{arrived, chosen, counted, no_counts, wait_of};
+
+use crate::counts::ExportCounts;
+use crate::trace::{AnswerTrace, EventTrace};
+use nbd_base::NoMemory;
+use nbd_measures::{HoldCount, LatestWaits, WaitQuantiles};
+use std::alloc::Allocator;
+use std::marker::Model;
+use tag_clock::Moment;
+
+/// What is known of an export beside the server.
+#[derive(Drop)]
+pub struct ExportTally<A: Allocator> {
+    counts: ExportCounts,
+    // The moments at which its latest requests arrived, each found by the request's number.
+    arrivals: Vec<u64, A>,
+    waits: LatestWaits<A>,
+}
+
+impl<A: Allocator> Model for ExportTally<A> {
+    ghost use Rattle.server_lock.specs.Tally.{Known};
+
+    ghost Value = { Known };
+
+    ghost view = { λ t. record { counts = t.counts; arrivals = t.arrivals.items; waits = t.waits } };
+}
+
+impl<A: Allocator + Copy> ExportTally<A> {
+    /// Of an export of which so many requests may wait or be in service.
+    pub fn new(alloc: A, requests: usize) -> Result<ExportTally<A>, NoMemory>
+        ensures counts { IfOk result (λ tally. tally.counts ≡ no_counts) }
+        ensures arrivals { IfOk result (λ tally. tally.arrivals ≡ replicate requests 0) }
+        ensures waits { IfOk result (λ tally. tally.waits ≡ []) }
+    {
+        Ok(ExportTally {
+            counts: ExportCounts::NOTHING,
+            arrivals: Vec::from_elem(alloc, 0u64, requests)?,
+            waits: LatestWaits::new(alloc)?,
+        })
+    }
+
+    pub fn counts(&self) -> ExportCounts
+        ensures { result ≡ self.now.counts }
+    {
+        self.counts
+    }
+
+    /// How long the latest requests waited that were chosen.
+    pub fn waits(&self) -> &LatestWaits<A>
+        ensures { result.now ≡ self.now.waits }
+    {
+        &self.waits
+    }
+
+    /// A turn of the export was made.
+    fn note(&mut self, event: EventTrace, answer: AnswerTrace)
+        ensures counts { self.new.counts ≡ counted self.old.counts event answer }
+    {
+        self.counts = self.counts.counted(event, answer);
+        match (event, answer) {
+            (EventTrace::Arrive { moment, .. }, AnswerTrace::Accepted { number, .. }) => {
+                self.note_arrival(number, moment);
+            }
+            (EventTrace::Dispatch { moment }, AnswerTrace::Picked { number, .. }) => {
+                self.note_choice(number, moment);
+            }
+            _ => {}
+        }
+    }
+
+    /// A request with this number arrived.
+    fn note_arrival(&mut self, number: u64, moment: Moment)
+        ensures { self.new ≡ arrived self.old number moment }
+    {
+        let room = self.arrivals.len();
+        if room > 0 {
+            let at = place(number, room);
+            self.arrivals[at] = moment.nanoseconds();
+        }
+    }
+
+    /// It was chosen.
+    fn note_choice(&mut self, number: u64, moment: Moment)
+        ensures { self.new ≡ chosen self.old number moment }
+    {
+        let wait = wait_of(self.arrivals.as_slice(), number, moment);
+        self.waits.note(wait);
+    }
+}
+
+/// How long a request has waited.
+fn wait_of(arrivals: &[u64], number: u64, moment: Moment) -> u64
+    ensures { result ≡ wait_of arrivals.now number moment }
+{
+    let room = arrivals.len();
+    if room == 0 {
+        return 0;
+    }
+    moment
+        .nanoseconds()
+        .saturating_sub(arrivals[place(number, room)])
+}
+
+fn place(number: u64, room: usize) -> usize
+    requires { 0 < room }
+    ensures place { result ≡ number % room }
+    ensures within { result < room }
+{
+    (number % room as u64) as usize
+}
+
+/// What is counted beside a server. Counting takes no memory.
+#[derive(Drop)]
+pub struct Tally<A: Allocator> {
+    exports: Vec<ExportTally<A>, A>,
+    holds: HoldCount,
+}
+
+impl<A: Allocator + Copy> Tally<A> {
+    /// Of no exports: nothing is counted but holds.
+    pub fn new(alloc: A) -> Tally<A> {
+        Tally {
+            exports: Vec::new(alloc),
+            holds: HoldCount::new(),
+        }
+    }
+
+    /// One more export, the next by number.
+    pub fn add(&mut self, export: ExportTally<A>) -> Result<(), NoMemory> {
+        self.exports.push(export)?;
+        Ok(())
+    }
+
+    pub fn export(&self, export: u32) -> Option<&ExportTally<A>> {
+        self.exports.get(export as usize)
+    }
+
+    /// How often the server was held, as far as it was noted.
+    pub fn holds(&self) -> HoldCount {
+        self.holds
+    }
+
+    /// A hold of so many nanoseconds ends now.
+    pub fn note_hold(&mut self, now: Moment, length: u64) {
+        self.holds.note(now, length);
+    }
+
+    /// A turn was made that named this export, or chose it.
+    pub(crate) fn note(&mut self, export: u32, event: EventTrace, answer: AnswerTrace) {
+        if let Some(tally) = self.exports.get_mut(export as usize) {
+            tally.note(event, answer);
+        }
+    }
+}
