@@ -1,10 +1,12 @@
 //! nbdq: a Network Block Device server. See README.md.
 #![tactic(auto)]
 
+mod control;
 mod serve;
 mod serving;
 
 use clap::Error;
+use control::control;
 use nbd_scripts::{replay_script, talk_script};
 use nbd_session::Counted;
 use nbdq_cli::{
@@ -56,6 +58,7 @@ fn main(rt: HostRuntime) -> ExitCode {
     let end = match read_command_line(&rt) {
         Ok(Job::Task(task)) => Ending::Ran(run(&rt, task)),
         Ok(Job::Serve(task)) => serve(&rt, &task),
+        Ok(Job::Control(task)) => control(&rt, &task),
         Err(error) => show(&rt, &error),
     };
     if let Some(line) = text_of_end(end) {

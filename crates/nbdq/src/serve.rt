@@ -7,14 +7,18 @@ use nbd_service::{ServeFault, room_for_connections};
 use nbd_session::Counted;
 use nbdq_cli::{Ending, Outcome, ServeTask, read_offer};
 use std::alloc::Global;
-use std::fs::{Files, remove_file};
+use std::fs::{Files, Permissions, remove_file, set_permissions};
 use std::io;
 use std::io::Write;
 use std::net::{Net, SocketAddr, TcpListener, TcpStream};
+use std::os::unix::fs::PermissionsExt;
 use std::os::unix::net::UnixListener;
 use std::sync::Wait;
 use std::thread::Threads;
 use std::time::Clock;
+
+/// Who may use the file of the control socket.
+const OWNER_ALONE: u32 = 0o600;
 
 /// Reads the configuration from standard input, listens, says `ready`, serves, and tells how many steps were counted.
 pub fn serve<R>(rt: &R, task: &ServeTask) -> Ending
@@ -48,10 +52,15 @@ where
     let Ok(unix) = bind_unix(rt, &task.unix) else {
         return Ending::CannotListen;
     };
-    let end = serve_listeners(rt, task, &config, tcp, unix);
-    if let Some(path) = &task.unix {
-        let _ = remove_file(rt, path.as_str());
-    }
+    let end = match bind_control(rt, &task.control) {
+        Ok(control) => {
+            let end = serve_listeners(rt, task, &config, tcp, unix, control);
+            remove_socket(rt, &task.control);
+            end
+        }
+        Err(_) => Ending::CannotListen,
+    };
+    remove_socket(rt, &task.unix);
     end
 }
 
@@ -62,6 +71,7 @@ fn serve_listeners<R: Print + Eprint + AllocGlobal + Wait + Threads + Sync + Clo
     config: &Config<Global>,
     tcp: Option<TcpListener>,
     unix: Option<UnixListener>,
+    control: Option<UnixListener>,
 ) -> Ending {
     if let Some(room) = room_for_connections() {
         if room < CONNECTIONS {
@@ -73,7 +83,7 @@ fn serve_listeners<R: Print + Eprint + AllocGlobal + Wait + Threads + Sync + Clo
     if println!(rt; "ready").is_err() {
         return Ending::Ran(Outcome::WriteFailed);
     }
-    match serve_on(rt, rt.alloc(), config, tcp, unix, task.crew) {
+    match serve_on(rt, rt.alloc(), config, tcp, unix, control, task.crew) {
         Ok(steps) => match println!(rt; "steps {steps}") {
             Ok(()) => Ending::Ran(Outcome::Done),
             Err(_) => Ending::Ran(Outcome::WriteFailed),
@@ -109,6 +119,28 @@ fn bind_tcp<R: Net<Listener = TcpListener, Stream = TcpStream>>(
     match address {
         Some(address) => Ok(Some(TcpListener::bind(rt, address)?)),
         None => Ok(None),
+    }
+}
+
+/// Makes the file of the control socket, which its owner alone may use.
+fn bind_control<R: Net + Files>(
+    rt: &R,
+    path: &Option<String>,
+) -> io::Result<Option<UnixListener>> {
+    let bound = bind_unix(rt, path)?;
+    if let Some(path) = path {
+        if let Err(error) = set_permissions(rt, path.as_str(), Permissions::from_mode(OWNER_ALONE))
+        {
+            let _ = remove_file(rt, path.as_str());
+            return Err(error);
+        }
+    }
+    Ok(bound)
+}
+
+fn remove_socket<R: Files>(rt: &R, path: &Option<String>) {
+    if let Some(path) = path {
+        let _ = remove_file(rt, path.as_str());
     }
 }
 

@@ -8,6 +8,7 @@ use Rattle.nbdq_cli.specs.declared.command_line.Job.{Job}
 use Rattle.nbdq_cli.specs.declared.command_line.Job.TheVariants as jobs
 use Rattle.nbdq_cli.specs.declared.command_line.Task.TheVariants as tasks
 use Rattle.nbdq_cli.specs.declared.command_line.ServeTask.{ServeTask}
+use Rattle.nbdq_cli.specs.declared.command_line.ControlTask.{ControlTask}
 use Rattle.nbdq_cli.specs.declared.crew.Sessions.{Sessions}
 use Rattle.nbdq_cli.specs.declared.crew.Sessions.TheVariants.{Count, Forever}
 use Rattle.nbdq_cli.specs.Commands.{counting_program, program}
@@ -36,15 +37,22 @@ most_sessions Forever = 18446744073709551615
 pub record IsServe (options : List Row) (task : ServeTask) : Type 0 where
   pub tcp : option_map string_bytes task.tcp ≡ first_of (codes "tcp") options
   pub unix : option_map string_bytes task.unix ≡ first_of (codes "unix") options
+  pub control : option_map string_bytes task.control ≡ first_of (codes "control") options
   pub workers : IsCount (one_of (codes "workers") options) 4 task.crew.workers
   pub sessions : IsSessions (first_of (codes "sessions") options) task.crew.sessions
+
+-- what the options behind `control` say
+abbrev pub IsControl : List Row → ControlTask → Type 0
+IsControl options task = option_map string_bytes task.unix ≡ first_of (codes "unix") options
 
 -- A command and its options ask for this. A command that is none of the others is `talk`.
 abbrev pub IsJob : Option Text → Option (List Row) → Job → Type 0
 IsJob name options (jobs.Task tasks.Check) = name ≡ Some (codes "check")
 IsJob name options (jobs.Task tasks.Replay) = name ≡ Some (codes "replay")
-IsJob name options (jobs.Task tasks.Talk) = (name ≢ Some (codes "check")) × (name ≢ Some (codes "replay")) × (name ≢ Some (codes "serve"))
+IsJob name options (jobs.Task tasks.Talk) =
+    (name ≢ Some (codes "check")) × (name ≢ Some (codes "replay")) × (name ≢ Some (codes "serve")) × (name ≢ Some (codes "control"))
 IsJob name options (jobs.Serve task) = (name ≡ Some (codes "serve")) × (given : List Row) × (options ≡ Some given) × IsServe given task
+IsJob name options (jobs.Control task) = (name ≡ Some (codes "control")) × (given : List Row) × (options ≡ Some given) × IsControl given task
 
 -- the command that words name, with its options
 unfoldable pub command_in : List Text → Option (Text × List Row)

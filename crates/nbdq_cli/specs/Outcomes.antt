@@ -3,7 +3,7 @@ use Rattle.std.specs.Prelude.{ℕ, List, Option, Some, None, codes}
 use Rattle.nbd_scripts.specs.declared.outcome.Outcome.{Outcome}
 use Rattle.nbd_scripts.specs.declared.outcome.Outcome.TheVariants.{Done, Refused, NoMemory, ReadFailed, WriteFailed}
 use Rattle.nbdq_cli.specs.declared.outcome.Ending.{Ending}
-use Rattle.nbdq_cli.specs.declared.outcome.Ending.TheVariants.{Ran, Version, Usage, NoListener, BadAddress, CannotListen}
+use Rattle.nbdq_cli.specs.declared.outcome.Ending.TheVariants.{Ran, Version, Usage, NoListener, BadAddress, CannotListen, NoSocket, SocketFailed}
 use Rattle.clap.specs.declared.error.kind.ErrorKind.{ErrorKind}
 use Rattle.clap.specs.declared.error.kind.ErrorKind.TheVariants as kind
 
@@ -37,6 +37,8 @@ status_of_end Usage = 2
 status_of_end NoListener = 2
 status_of_end BadAddress = 2
 status_of_end CannotListen = 4
+status_of_end NoSocket = 2
+status_of_end SocketFailed = 4
 
 abbrev pub text_of_end : Ending → Option (List ℕ)
 text_of_end (Ran outcome) = text_of outcome
@@ -45,3 +47,5 @@ text_of_end Usage = None
 text_of_end NoListener = Some (codes "serve: no listener")
 text_of_end BadAddress = Some (codes "serve: bad address")
 text_of_end CannotListen = Some (codes "cannot listen")
+text_of_end NoSocket = Some (codes "control: no socket")
+text_of_end SocketFailed = Some (codes "control: socket failed")

@@ -3,8 +3,8 @@
 ghost use Rattle.std.specs.Prelude.{◌≡◌, false, true, map, option_map, string_bytes, IfOk};
 ghost use Rattle.clap.specs.declared.builder.command.Command.TheViews.{out-Command as fields_of};
 ghost use Rattle.clap.specs.Words.{app_of, found_of, new_app, rows_of, rule_of, subcommand_name_of, subcommand_rows_of, with_subcommand, FailsBy};
-ghost use Rattle.nbdq_cli.specs.Asked.{faults_in, number_faults, sessions_said, wants_number, AsksFor, IsJob, IsServe, IsSessions};
-ghost use Rattle.nbdq_cli.specs.Commands.{number_rule, numbers_up_to, option_rule, program_with, serve_command};
+ghost use Rattle.nbdq_cli.specs.Asked.{faults_in, number_faults, sessions_said, wants_number, AsksFor, IsControl, IsJob, IsServe, IsSessions};
+ghost use Rattle.nbdq_cli.specs.Commands.{control_command, number_rule, numbers_up_to, option_rule, program_with, serve_command};
 
 use crate::crew::{Crew, Sessions};
 use clap::builder::ValueParser;
@@ -37,9 +37,15 @@ const REPLAY: &str = "Make the events of the script on standard input";
 
 const SERVE: &str = "Serve the disks of the configuration on standard input";
 
+const CONTROL: &str = "Ask a server that runs, by the lines on standard input";
+
 const TCP: &str = "Listen on an IP address and a port, as 127.0.0.1:10809";
 
 const UNIX: &str = "Listen on a Unix socket, whose file is made";
+
+const CONTROL_SOCKET: &str = "Listen for `nbdq control` on a Unix socket, whose file is made";
+
+const CONTROLLED: &str = "The control socket of the server";
 
 const WORKERS: &str = "Threads that perform requests, 1 to 64 [default: 4]";
 
@@ -52,6 +58,8 @@ pub enum Job {
     Task(Task),
     /// Serve the disks of a configuration file.
     Serve(ServeTask),
+    /// Ask a server that runs.
+    Control(ControlTask),
 }
 
 /// A command that reads all of standard input, and then writes.
@@ -72,7 +80,16 @@ pub struct ServeTask {
     pub tcp: Option<String>,
     /// The path of a Unix socket.
     pub unix: Option<String>,
+    /// The path of the control socket, a Unix socket.
+    pub control: Option<String>,
     pub crew: Crew,
+}
+
+/// Which server is asked.
+#[derive(Debug, Drop)]
+pub struct ControlTask {
+    /// The path of its control socket.
+    pub unix: Option<String>,
 }
 
 /// Reads the words that the program was called with. They must ask for one of its commands.
@@ -155,6 +172,7 @@ fn job_of(alloc: Global, matches: &ArgMatches<'_>) -> Result<Job, AllocError>
         Some(("check", _)) => Ok(Job::Task(Task::Check)),
         Some(("replay", _)) => Ok(Job::Task(Task::Replay)),
         Some(("serve", given)) => Ok(Job::Serve(serve_task(alloc, given)?)),
+        Some(("control", given)) => Ok(Job::Control(control_task(alloc, given)?)),
         _ => Ok(Job::Task(Task::Talk)),
     }
 }
@@ -166,10 +184,20 @@ fn serve_task(alloc: Global, given: &ArgMatches<'_>) -> Result<ServeTask, AllocE
     Ok(ServeTask {
         tcp: kept(alloc, given.get_str("tcp"))?,
         unix: kept(alloc, given.get_str("unix"))?,
+        control: kept(alloc, given.get_str("control"))?,
         crew: Crew {
             workers: given.get_one::<u64>("workers").unwrap_or(CREW.workers),
             sessions: sessions_of(given.get_str("sessions")),
         },
+    })
+}
+
+/// What follows the word `control`.
+fn control_task(alloc: Global, given: &ArgMatches<'_>) -> Result<ControlTask, AllocError>
+    ensures { IfOk result (IsControl (rows_of (found_of given.now))) }
+{
+    Ok(ControlTask {
+        unix: kept(alloc, given.get_str("unix"))?,
     })
 }
 
@@ -206,7 +234,7 @@ fn command<'a>(alloc: Global, sessions: ValueParser<'a>) -> Result<Command<'a>, 
         .subcommand(new_command(alloc, "check", CHECK))?
         .subcommand(new_command(alloc, "talk", TALK))?
         .subcommand(new_command(alloc, "replay", REPLAY))?;
-    with_serve(alloc, program, sessions)
+    with_control(alloc, with_serve(alloc, program, sessions)?)
 }
 
 /// The program with its command `serve`.
@@ -220,9 +248,19 @@ fn with_serve<'a>(
     let serve = new_command(alloc, "serve", SERVE)
         .arg(option(alloc, "tcp", "ADDR", TCP))?
         .arg(option(alloc, "unix", "PATH", UNIX))?
+        .arg(option(alloc, "control", "PATH", CONTROL_SOCKET))?
         .arg(number(alloc, "workers", WORKERS, workers()))?
         .arg(number(alloc, "sessions", SESSIONS, sessions))?;
     program.subcommand(serve)
+}
+
+/// The program with its command `control`.
+fn with_control<'a>(alloc: Global, program: Command<'a>) -> Result<Command<'a>, AllocError>
+    ensures { IfOk result (λ command. app_of command ≡ with_subcommand (app_of program.entry) control_command.top) }
+{
+    let control = new_command(alloc, "control", CONTROL)
+        .arg(option(alloc, "unix", "PATH", CONTROLLED))?;
+    program.subcommand(control)
 }
 
 /// A command, and what help says of it.

@@ -48,6 +48,10 @@ pub enum Ending {
     BadAddress,
     /// A listener can't be had, or failed.
     CannotListen,
+    /// `control` is asked for without a path.
+    NoSocket,
+    /// The control socket can't be reached, or ended before an answer did.
+    SocketFailed,
 }
 
 /// How the program ends where the command line asks for none of its commands.
@@ -68,8 +72,8 @@ pub fn status_of_end(end: Ending) -> u8
     match end {
         Ending::Ran(outcome) => status(outcome),
         Ending::Version => 0,
-        Ending::Usage | Ending::NoListener | Ending::BadAddress => 2,
-        Ending::CannotListen => 4,
+        Ending::Usage | Ending::NoListener | Ending::BadAddress | Ending::NoSocket => 2,
+        Ending::CannotListen | Ending::SocketFailed => 4,
     }
 }
 
@@ -83,5 +87,7 @@ pub fn text_of_end(end: Ending) -> Option<&'static str>
         Ending::NoListener => Some("serve: no listener"),
         Ending::BadAddress => Some("serve: bad address"),
         Ending::CannotListen => Some("cannot listen"),
+        Ending::NoSocket => Some("control: no socket"),
+        Ending::SocketFailed => Some("control: socket failed"),
     }
 }

@@ -32,6 +32,8 @@ fn statuses_and_texts_of_ends(rt: HostRuntime) {
         (Ending::NoListener, 2, Some("serve: no listener")),
         (Ending::BadAddress, 2, Some("serve: bad address")),
         (Ending::CannotListen, 4, Some("cannot listen")),
+        (Ending::NoSocket, 2, Some("control: no socket")),
+        (Ending::SocketFailed, 4, Some("control: socket failed")),
     ] {
         assert_eq!(rt; status_of_end(end), code);
         assert_eq!(rt; text_of_end(end), line);
@@ -109,6 +111,39 @@ fn crews(rt: HostRuntime) {
     }
 }
 
+/// The paths of the control socket and of that for clients, as `serve` is asked for them.
+fn paths_of(alloc: Global, words: &[&str]) -> Option<(Option<String>, Option<String>)> {
+    match asked_job(alloc, words) {
+        Ok(Job::Serve(task)) => Some((task.control, task.unix)),
+        Ok(Job::Control(task)) => Some((task.unix, None)),
+        _ => None,
+    }
+}
+
+fn is_path(told: &Option<String>, path: Option<&str>) -> bool {
+    match told {
+        Some(text) => path == Some(text.as_str()),
+        None => path.is_none(),
+    }
+}
+
+#[test]
+fn control_sockets(rt: HostRuntime) {
+    for (words, control, unix) in [
+        (["nbdq", "control"].as_slice(), None, None),
+        (&["nbdq", "control", "--unix", "c"], Some("c"), None),
+        (&["nbdq", "serve", "--control=c"], Some("c"), None),
+        (
+            &["nbdq", "serve", "--unix", "u", "--control", "c"],
+            Some("c"),
+            Some("u"),
+        ),
+    ] {
+        let paths = paths_of(rt.alloc(), words).expect(&rt, "a job");
+        assert!(rt; is_path(&paths.0, control) && is_path(&paths.1, unix));
+    }
+}
+
 #[test]
 fn without_end_is_the_greatest_count(rt: HostRuntime) {
     assert_eq!(rt; Sessions::Count(7).most(), 7);
@@ -142,6 +177,11 @@ fn command_lines_that_are_refused(rt: HostRuntime) {
         (&["nbdq", "talk", "--help"], ErrorKind::DisplayHelp),
         (&["nbdq", "fly"], ErrorKind::InvalidSubcommand),
         (&["nbdq", "serve", "--tcp"], ErrorKind::InvalidValue),
+        (&["nbdq", "control", "--unix"], ErrorKind::InvalidValue),
+        (
+            &["nbdq", "control", "--tcp", "x"],
+            ErrorKind::UnknownArgument,
+        ),
         (
             &["nbdq", "serve", "--workers", "65"],
             ErrorKind::ValueValidation,

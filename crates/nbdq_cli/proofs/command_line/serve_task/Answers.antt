@@ -12,10 +12,11 @@ returns c =
     record {
       tcp = c.in_ok-kept.ensures ∙ c.get_str.ensures ∙ first_value-rows found (codes "tcp");
       unix = c.in_ok-kept-2.ensures ∙ c.get_str-2.ensures ∙ first_value-rows found (codes "unix");
+      control = c.in_ok-kept-3.ensures ∙ c.get_str-3.ensures ∙ first_value-rows found (codes "control");
       workers =
           count_is _ (λ bs r. ParsesUnsigned 64 10 bs r × ExplainsUnsignedError 10 bs r × HasUnsignedDigitsIfOk bs r) (one_of (codes "workers") (rows_of found)) c.get_one.result 4 c.unwrap_or.result
           (λ none. c.get_one.ensures.none (one_text-rows found (codes "workers") ∙ none)) (λ t some. c.get_one.ensures.value t (one_text-rows found (codes "workers") ∙ some)) (λ u x g. g.0) (search rules);
       sessions =
           let P : Option Text → Type 0 = λ said. IsSessions said c.sessions_of.result in
-          subst P (c.get_str-3.ensures ∙ first_value-rows found (codes "sessions")) c.sessions_of.ensures;
+          subst P (c.get_str-4.ensures ∙ first_value-rows found (codes "sessions")) c.sessions_of.ensures;
     }
