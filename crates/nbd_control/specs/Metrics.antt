@@ -18,7 +18,7 @@ abbrev pub type_line : List ℕ → Row → List ℕ
 type_line family row = codes "# TYPE " ++ family ++ row.name ++ codes " " ++ kind_word row.kind ++ codes "\n"
 
 -- both lines
-abbrev pub head_text : List ℕ → Row → List ℕ
+unfoldable pub head_text : List ℕ → Row → List ℕ
 head_text family row = help_line family row ++ type_line family row
 
 -- a value, and the end of its line
@@ -29,7 +29,7 @@ abbrev pub server_name : List ℕ → List ℕ
 server_name name = codes "nbdq_" ++ name ++ codes " "
 
 -- a figure's value
-abbrev pub server_sample : ServerStats → ServerFigure → List ℕ
+unfoldable pub server_sample : ServerStats → ServerFigure → List ℕ
 server_sample server figure = server_name (server_row figure).name ++ value_text (server_reading server figure)
 
 -- a figure of the server: both lines, and its value
@@ -41,7 +41,7 @@ abbrev pub export_name : List ℕ → List ℕ
 export_name name = codes "nbdq_export_" ++ name ++ codes "{export=\""
 
 -- a figure's value at an export
-abbrev pub export_sample : ExportFigure → ExportStats → List ℕ
+unfoldable pub export_sample : ExportFigure → ExportStats → List ℕ
 export_sample figure export =
     export_name (export_row figure).name ++ (label_text export.name.now ++ (codes "\"} " ++ value_text (export_reading export figure)))
 

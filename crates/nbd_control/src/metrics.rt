@@ -72,6 +72,7 @@ fn put_server_metric<A: Allocator>(
     Ok(())
 }
 
+#[tactic(auto, unfolding(crate::specs::Metrics::server_sample))]
 fn put_server_sample<A: Allocator>(
     figure: ServerFigure,
     server: &ServerStats,
@@ -131,6 +132,7 @@ fn put_export_samples<A: Allocator>(
 }
 
 /// Puts a figure of one export behind a text.
+#[tactic(auto, unfolding(crate::specs::Metrics::export_sample))]
 fn put_export_sample<A: Allocator>(
     figure: ExportFigure,
     export: &ExportStats<'_>,
@@ -161,6 +163,7 @@ fn put_value<A: Allocator>(reading: Reading, text: &mut Vec<u8, A>) -> Result<()
 }
 
 /// Puts the lines behind a text that come before the values of a figure.
+#[tactic(auto, unfolding(crate::specs::Metrics::head_text))]
 fn put_head<A: Allocator>(family: &str, row: Row, text: &mut Vec<u8, A>) -> Result<(), NoMemory>
     ensures { OnOk result (text.new.items ≡ text.old.items ++ head_text family.now (row_of row)) }
 {

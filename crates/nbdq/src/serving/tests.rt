@@ -1,5 +1,7 @@
 //! Whole conversations with a running server, over loopback and over a Unix socket.
 
+mod control;
+
 use super::idle_threads::IdleThreads;
 use super::*;
 use nbd_commands::{ExportList, ExportSettings};
