@@ -22,7 +22,7 @@ traffic_text s =
     count_text (codes "requests_total") s.requests ++ (count_text (codes "outstanding") s.outstanding
     ++ (count_text (codes "under_way_bytes") s.under_way_bytes ++ codes "\n"))
 
-abbrev pub session_line : SessionLine → List ℕ
+unfoldable pub session_line : SessionLine → List ℕ
 session_line s = who_text s ++ (codes " connected_seconds=" ++ (seconds_text s.connected ++ traffic_text s))
 
 -- the line of each, and an empty one

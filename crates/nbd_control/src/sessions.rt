@@ -69,6 +69,7 @@ fn put_session_lines<A: Allocator>(
 }
 
 /// Puts the line of a session behind a text.
+#[tactic(auto, unfolding(crate::specs::Sessions::session_line))]
 fn put_session<A: Allocator>(
     session: &SessionLine<'_>,
     text: &mut Vec<u8, A>,
