@@ -1,6 +1,7 @@
 -- What is counted of an export, by the traces of its turns.
 use Rattle.std.specs.Prelude.{ℕ, ◌+◌, ◌-◌, ◌%◌, ◌^◌, ◌==◌, min, Bool, true, false, if◌then◌else◌, List, [], ◌∷◌, ◌++◌, length, get_or, slice_set, Option, Some, None}
 use Rattle.circular_buffer.specs.Buffer.{keep_last}
+use Rattle.nbd_measures.specs.declared.holds.HoldCount.{HoldCount}
 use Rattle.nbd_wire.specs.declared.requests.RequestHead.{RequestHead}
 use Rattle.tag_clock.specs.declared.Phase.{Phase}
 use Rattle.tag_clock.specs.declared.Phase.TheVariants as phases
@@ -66,3 +67,26 @@ wait_of arrivals number moment = moment - get_or arrivals (number % length arriv
 -- it was chosen
 abbrev pub chosen : Known → ℕ → ℕ → Known
 chosen k number moment = record k { waits = keep_last 1024 (k.waits ++ wait_of k.arrivals number moment ∷ []) }
+
+-- an event was accepted with this number, or chose it
+abbrev pub accepted_by : Known → EventTrace → ℕ → Known
+accepted_by k (Arrive e s t head) number = arrived k number t
+accepted_by k what number = k
+
+abbrev pub picked_by : Known → EventTrace → ℕ → Known
+picked_by k (Dispatch t) number = chosen k number t
+picked_by k what number = k
+
+abbrev pub timed : Known → EventTrace → AnswerTrace → Known
+timed k what (Accepted n tag) = accepted_by k what n
+timed k what (Picked e n phase) = picked_by k what n
+timed k what said = k
+
+-- behind a turn of the export
+abbrev pub noted_turn : Known → EventTrace → AnswerTrace → Known
+noted_turn k what said = timed (record k { counts = counted k.counts what said }) what said
+
+-- what is known of all exports, by number, and of the holds of the server
+pub record Tallied : Type 0 where
+  pub exports : List Known
+  pub holds : HoldCount

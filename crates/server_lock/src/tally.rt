@@ -1,7 +1,8 @@
 //! What is counted of each export beside the server, by the traces of the turns.
-ghost use Rattle.std.specs.Prelude.{◌≡◌, ◌-◌, ◌%◌, ◌<◌, [], length, replicate, IfOk};
-ghost use Rattle.nbd_measures.specs.Holds.{no_holds};
-ghost use Rattle.server_lock.specs.Tally.{arrived, chosen, counted, no_counts, wait_of};
+ghost use Rattle.std.specs.Prelude.{◌≡◌, ◌%◌, ◌<◌, ◌++◌, ◌∷◌, [], length, map, option_map, replicate, slice_get, IfOk, OnErr};
+ghost use Rattle.nbd_base.specs.Words.{change_at};
+ghost use Rattle.nbd_measures.specs.Holds.{no_holds, noted};
+ghost use Rattle.server_lock.specs.Tally.{accepted_by, arrived, chosen, no_counts, noted_turn, picked_by, wait_of};
 
 use crate::counts::ExportCounts;
 use crate::trace::{AnswerTrace, EventTrace};
@@ -45,7 +46,8 @@ impl<A: Allocator + Copy> ExportTally<A> {
     pub fn counts(&self) -> ExportCounts
         ensures { result ≡ self.now.counts }
     {
-        self.counts
+        let counts = self.counts;
+        counts
     }
 
     /// How long the latest requests waited that were chosen.
@@ -57,16 +59,30 @@ impl<A: Allocator + Copy> ExportTally<A> {
 
     /// A turn of the export was made.
     fn note(&mut self, event: EventTrace, answer: AnswerTrace)
-        ensures counts { self.new.counts ≡ counted self.old.counts event answer }
+        ensures { self.new ≡ noted_turn self.old event answer }
     {
         self.counts = self.counts.counted(event, answer);
-        match (event, answer) {
-            (EventTrace::Arrive { moment, .. }, AnswerTrace::Accepted { number, .. }) => {
-                self.note_arrival(number, moment);
-            }
-            (EventTrace::Dispatch { moment }, AnswerTrace::Picked { number, .. }) => {
-                self.note_choice(number, moment);
-            }
+        match answer {
+            AnswerTrace::Accepted { number, .. } => self.note_accepted(event, number),
+            AnswerTrace::Picked { number, .. } => self.note_picked(event, number),
+            _ => {}
+        }
+    }
+
+    fn note_accepted(&mut self, event: EventTrace, number: u64)
+        ensures { self.new ≡ accepted_by self.old event number }
+    {
+        match event {
+            EventTrace::Arrive { moment, .. } => self.note_arrival(number, moment),
+            _ => {}
+        }
+    }
+
+    fn note_picked(&mut self, event: EventTrace, number: u64)
+        ensures { self.new ≡ picked_by self.old event number }
+    {
+        match event {
+            EventTrace::Dispatch { moment } => self.note_choice(number, moment),
             _ => {}
         }
     }
@@ -119,9 +135,20 @@ pub struct Tally<A: Allocator> {
     holds: HoldCount,
 }
 
+impl<A: Allocator> Model for Tally<A> {
+    ghost use Rattle.server_lock.specs.Tally.{Tallied};
+
+    ghost Value = { Tallied };
+
+    ghost view = { λ t. record { exports = t.exports.items; holds = t.holds } };
+}
+
 impl<A: Allocator + Copy> Tally<A> {
     /// Of no exports: nothing is counted but holds.
-    pub fn new(alloc: A) -> Tally<A> {
+    pub fn new(alloc: A) -> Tally<A>
+        ensures exports { result.exports ≡ [] }
+        ensures holds { result.holds ≡ no_holds }
+    {
         Tally {
             exports: Vec::new(alloc),
             holds: HoldCount::new(),
@@ -129,27 +156,38 @@ impl<A: Allocator + Copy> Tally<A> {
     }
 
     /// One more export, the next by number.
-    pub fn add(&mut self, export: ExportTally<A>) -> Result<(), NoMemory> {
+    pub fn add(&mut self, export: ExportTally<A>) -> Result<(), NoMemory>
+        ensures { IfOk result (λ _. self.new ≡ record self.old { exports = self.old.exports ++ export ∷ [] }) }
+    {
         self.exports.push(export)?;
         Ok(())
     }
 
-    pub fn export(&self, export: u32) -> Option<&ExportTally<A>> {
+    pub fn export(&self, export: u32) -> Option<&ExportTally<A>>
+        ensures { option_map (λ tally. tally.now) result ≡ slice_get self.now.exports export }
+    {
         self.exports.get(export as usize)
     }
 
     /// How often the server was held, as far as it was noted.
-    pub fn holds(&self) -> HoldCount {
-        self.holds
+    pub fn holds(&self) -> HoldCount
+        ensures { result ≡ self.now.holds }
+    {
+        let holds = self.holds;
+        holds
     }
 
     /// A hold of so many nanoseconds ends now.
-    pub fn note_hold(&mut self, now: Moment, length: u64) {
+    pub fn note_hold(&mut self, now: Moment, length: u64)
+        ensures { self.new ≡ record self.old { holds = noted self.old.holds now length } }
+    {
         self.holds.note(now, length);
     }
 
     /// A turn was made that named this export, or chose it.
-    pub(crate) fn note(&mut self, export: u32, event: EventTrace, answer: AnswerTrace) {
+    pub(crate) fn note(&mut self, export: u32, event: EventTrace, answer: AnswerTrace)
+        ensures { self.new ≡ record self.old { exports = change_at (λ known. noted_turn known event answer) export self.old.exports } }
+    {
         if let Some(tally) = self.exports.get_mut(export as usize) {
             tally.note(event, answer);
         }

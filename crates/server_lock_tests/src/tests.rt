@@ -1,5 +1,7 @@
 ghost use Rattle.std.specs.Prelude.{◌≡◌};
 
+mod tally;
+
 use eligibility::{Eligibility, Heaped, Listed};
 use export_cell::Outdated;
 use export_store::Flat;
