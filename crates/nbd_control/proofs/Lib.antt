@@ -1,3 +1,4 @@
 pub mod FigureLemmas
 pub mod QuotingLemmas
 pub mod ToldLemmas
+pub mod TextLemmas

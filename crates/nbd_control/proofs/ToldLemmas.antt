@@ -1,5 +1,5 @@
 -- A name that is told is read back.
-use Rattle.std.proofs.Common.{◌≡◌, ℕ, Bool, true, false, ◌&&◌, ◌==◌, List, [], ◌∷◌, ◌++◌, slice_index, Some, refl, ◌∙◌, inl, inr, arith, append_assoc}
+use Rattle.std.proofs.Common.{◌≡◌, ℕ, Bool, true, false, ◌&&◌, ◌==◌, List, [], ◌∷◌, ◌++◌, slice_index, Some, refl, codes, ◌∙◌, inl, inr, arith, append_assoc}
 use Rattle.std.proofs.lemmas.Bool.{cases_Bool, and_left}
 use Rattle.toml_parser.specs.Lexical.{first}
 use Rattle.toml_parser.specs.Strings.{body, quoted, one_line}
@@ -30,5 +30,5 @@ line_read s rest = body_escaped false s (32 ∷ rest) 0 _ (omega arith) refl (om
 pub quoted-basic_text : (s rest : List ℕ) → quoted (basic_text s ++ 32 ∷ rest) ≡ Some (s, 32 ∷ rest)
 quoted-basic_text s rest =
     let t = escaped false 0 s ++ (34 ∷ 32 ∷ rest) in
-    let e : basic_text s ++ 32 ∷ rest ≡ 34 ∷ t = rw (flat_map-basic_byte s) (simp append_assoc) in
+    let e : basic_text s ++ 32 ∷ rest ≡ 34 ∷ t = rw (flat_map-basic_byte s, append_assoc (escaped false 0 s) (codes "\"") (32 ∷ rest)) refl in
     rw e (on_one_line t (front_quotes s rest) ∙ line_read s rest)

@@ -45,9 +45,13 @@ unfoldable pub export_sample : ExportFigure → ExportStats → List ℕ
 export_sample figure export =
     export_name (export_row figure).name ++ (label_text export.name.now ++ (codes "\"} " ++ value_text (export_reading export figure)))
 
+-- its value at each export
+unfoldable pub export_samples : ExportFigure → List ExportStats → List ℕ
+export_samples figure exports = flat_map (export_sample figure) exports
+
 -- a figure of the exports: both lines, and its value at each
 abbrev pub export_metric : List ExportStats → ExportFigure → List ℕ
-export_metric exports figure = head_text (codes "nbdq_export_") (export_row figure) ++ flat_map (export_sample figure) exports
+export_metric exports figure = head_text (codes "nbdq_export_") (export_row figure) ++ export_samples figure exports
 
 -- the figures of the server, those of the exports, and an empty line
 abbrev pub metrics_text : ServerStats → List ExportStats → List ℕ

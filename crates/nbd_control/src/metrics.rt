@@ -3,7 +3,7 @@
 ghost use Rattle.std.specs.Prelude.{◌≡◌, ◌++◌, OnOk, OnErr};
 ghost use Rattle.std.specs.List.{flat_map};
 ghost use Rattle.nbd_control.specs.Figures.{row_of};
-ghost use Rattle.nbd_control.specs.Metrics.{export_metric, export_name, export_sample, head_text, help_line, metrics_text, server_metric, server_name, server_sample, type_line, value_text};
+ghost use Rattle.nbd_control.specs.Metrics.{export_metric, export_name, export_sample, export_samples, head_text, help_line, metrics_text, server_metric, server_name, server_sample, type_line, value_text};
 
 use crate::figures::{
     EXPORT_FIGURES, ExportFigure, Reading, Row, SERVER_FIGURES, ServerFigure, kind_word,
@@ -118,12 +118,13 @@ fn put_export_metric<A: Allocator>(
     Ok(())
 }
 
+#[tactic(auto, unfolding(crate::specs::Metrics::export_samples))]
 fn put_export_samples<A: Allocator>(
     figure: ExportFigure,
     exports: &[ExportStats<'_>],
     text: &mut Vec<u8, A>,
 ) -> Result<(), NoMemory>
-    ensures { OnOk result (text.new.items ≡ text.old.items ++ flat_map (export_sample figure) exports.now) }
+    ensures { OnOk result (text.new.items ≡ text.old.items ++ export_samples figure exports.now) }
 {
     for export in exports {
         put_export_sample(figure, export, text)?;

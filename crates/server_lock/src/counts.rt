@@ -36,23 +36,23 @@ impl ExportCounts {
     };
 
     /// Behind a turn of the export.
-    pub fn counted(self, event: EventTrace, answer: AnswerTrace) -> ExportCounts
-        ensures { result ≡ counted self event answer }
+    pub fn counted(self, event: &EventTrace, answer: &AnswerTrace) -> ExportCounts
+        ensures { result ≡ counted self event.now answer.now }
     {
         match answer {
             AnswerTrace::Accepted { .. } => self.with_arrival(event),
             AnswerTrace::Answered(_) => self.with_error(),
-            AnswerTrace::Picked { phase, .. } => self.with_choice(phase),
-            AnswerTrace::Performed { memory } => self.with_performed(memory),
+            AnswerTrace::Picked { phase, .. } => self.with_choice(*phase),
+            AnswerTrace::Performed { memory } => self.with_performed(*memory),
             _ => self,
         }
     }
 
-    fn with_arrival(self, event: EventTrace) -> ExportCounts
-        ensures { result ≡ with_arrival self event }
+    fn with_arrival(self, event: &EventTrace) -> ExportCounts
+        ensures { result ≡ with_arrival self event.now }
     {
         match event {
-            EventTrace::Arrive { head, .. } => self.with_data(head),
+            EventTrace::Arrive { head, .. } => self.with_data(*head),
             _ => self,
         }
     }

@@ -58,31 +58,31 @@ impl<A: Allocator + Copy> ExportTally<A> {
     }
 
     /// A turn of the export was made.
-    fn note(&mut self, event: EventTrace, answer: AnswerTrace)
-        ensures { self.new ≡ noted_turn self.old event answer }
+    fn note(&mut self, event: &EventTrace, answer: &AnswerTrace)
+        ensures { self.new ≡ noted_turn self.old event.now answer.now }
     {
         self.counts = self.counts.counted(event, answer);
         match answer {
-            AnswerTrace::Accepted { number, .. } => self.note_accepted(event, number),
-            AnswerTrace::Picked { number, .. } => self.note_picked(event, number),
+            AnswerTrace::Accepted { number, .. } => self.note_accepted(event, *number),
+            AnswerTrace::Picked { number, .. } => self.note_picked(event, *number),
             _ => {}
         }
     }
 
-    fn note_accepted(&mut self, event: EventTrace, number: u64)
-        ensures { self.new ≡ accepted_by self.old event number }
+    fn note_accepted(&mut self, event: &EventTrace, number: u64)
+        ensures { self.new ≡ accepted_by self.old event.now number }
     {
         match event {
-            EventTrace::Arrive { moment, .. } => self.note_arrival(number, moment),
+            EventTrace::Arrive { moment, .. } => self.note_arrival(number, *moment),
             _ => {}
         }
     }
 
-    fn note_picked(&mut self, event: EventTrace, number: u64)
-        ensures { self.new ≡ picked_by self.old event number }
+    fn note_picked(&mut self, event: &EventTrace, number: u64)
+        ensures { self.new ≡ picked_by self.old event.now number }
     {
         match event {
-            EventTrace::Dispatch { moment } => self.note_choice(number, moment),
+            EventTrace::Dispatch { moment } => self.note_choice(number, *moment),
             _ => {}
         }
     }
@@ -185,8 +185,8 @@ impl<A: Allocator + Copy> Tally<A> {
     }
 
     /// A turn was made that named this export, or chose it.
-    pub(crate) fn note(&mut self, export: u32, event: EventTrace, answer: AnswerTrace)
-        ensures { self.new ≡ record self.old { exports = change_at (λ known. noted_turn known event answer) export self.old.exports } }
+    pub(crate) fn note(&mut self, export: u32, event: &EventTrace, answer: &AnswerTrace)
+        ensures { self.new ≡ record self.old { exports = change_at (λ known. noted_turn known event.now answer.now) export self.old.exports } }
     {
         if let Some(tally) = self.exports.get_mut(export as usize) {
             tally.note(event, answer);

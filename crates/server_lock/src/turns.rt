@@ -332,8 +332,8 @@ pub fn turn_arrive<L: Ledger, I: Image, E: Eligibility<Alloc = I::Alloc>>(
         moment,
         head,
     };
+    booked.tally.note(export, &event, &told);
     pass.note(&mut booked.book, event, told);
-    booked.tally.note(export, event, told);
     answer
 }
 
@@ -352,10 +352,12 @@ pub fn turn_dispatch<L: Ledger, I: Image, E: Eligibility<Alloc = I::Alloc>>(
     let answer = booked.server.dispatch(moment);
     let told = told_dispatch::<I::Alloc>(&answer);
     let event = EventTrace::Dispatch { moment };
+    if let Some(chosen) = &answer {
+        booked.tally.note(chosen.ticket.export(), &event, &told);
+    }
     pass.note(&mut booked.book, event, told);
     if let Some(chosen) = &answer {
         pass.hold(chosen.ticket);
-        booked.tally.note(chosen.ticket.export(), event, told);
     }
     answer
 }
@@ -381,8 +383,8 @@ pub fn turn_perform<L: Ledger, I: Image, E: Eligibility<Alloc = I::Alloc>>(
         export: ticket.export(),
         number: ticket.number(),
     };
+    booked.tally.note(ticket.export(), &event, &told);
     pass.note(&mut booked.book, event, told);
-    booked.tally.note(ticket.export(), event, told);
     pass.let_go(ticket);
     answer
 }

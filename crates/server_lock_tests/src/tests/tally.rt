@@ -50,20 +50,20 @@ const PERFORM: EventTrace = EventTrace::Perform {
 /// What a READ, a WRITE and a FLUSH count that are accepted, and another READ that is refused.
 fn arrived() -> ExportCounts {
     ExportCounts::NOTHING
-        .counted(arrival(READ), ACCEPTED)
-        .counted(arrival(WRITE), ACCEPTED)
-        .counted(arrival(FLUSH), ACCEPTED)
-        .counted(arrival(READ), AnswerTrace::Answered(22))
+        .counted(&arrival(READ), &ACCEPTED)
+        .counted(&arrival(WRITE), &ACCEPTED)
+        .counted(&arrival(FLUSH), &ACCEPTED)
+        .counted(&arrival(READ), &AnswerTrace::Answered(22))
 }
 
 /// The same, with three choices, of which two are performed, one without memory.
 fn performed() -> ExportCounts {
     arrived()
-        .counted(choice(), picked(Phase::Weight))
-        .counted(choice(), picked(Phase::Reservation))
-        .counted(choice(), picked(Phase::Weight))
-        .counted(PERFORM, AnswerTrace::Performed { memory: true })
-        .counted(PERFORM, AnswerTrace::Performed { memory: false })
+        .counted(&choice(), &picked(Phase::Weight))
+        .counted(&choice(), &picked(Phase::Reservation))
+        .counted(&choice(), &picked(Phase::Weight))
+        .counted(&PERFORM, &AnswerTrace::Performed { memory: true })
+        .counted(&PERFORM, &AnswerTrace::Performed { memory: false })
 }
 
 #[test]
@@ -72,7 +72,7 @@ fn turns_are_counted(rt: HostRuntime) {
     assert!(rt; counts.read_bytes == 7 && counts.written_bytes == 7);
     assert!(rt; counts.by_reservation == 1 && counts.by_weight == 2);
     assert!(rt; counts.performed == 2 && counts.errors == 2);
-    assert!(rt; arrived().counted(choice(), AnswerTrace::Nothing) == arrived());
+    assert!(rt; arrived().counted(&choice(), &AnswerTrace::Nothing) == arrived());
 }
 
 fn one_export(alloc: Global) -> Option<Tally<Global>> {
