@@ -3,12 +3,12 @@ _nbdq() {
   local word=${COMP_WORDS[COMP_CWORD]} before=${COMP_WORDS[COMP_CWORD - 1]} choices=''
   COMPREPLY=()
   if [ "$COMP_CWORD" = 1 ]; then
-    choices='serve check talk replay help --help --version'
+    choices='serve check talk replay control help --help --version'
   elif [ "${COMP_WORDS[1]}" = help ]; then
-    [ "$COMP_CWORD" != 2 ] || choices='serve check talk replay'
+    [ "$COMP_CWORD" != 2 ] || choices='serve check talk replay control'
   else
     case $before in
-      --unix)
+      --unix | --control)
         compopt -o filenames
         mapfile -t COMPREPLY < <(compgen -f -- "$word")
         return
@@ -24,7 +24,8 @@ _nbdq() {
         ;;
       *)
         choices='--help'
-        [ "${COMP_WORDS[1]}" != serve ] || choices='--tcp --unix --workers --sessions --help'
+        [ "${COMP_WORDS[1]}" != serve ] || choices='--tcp --unix --control --workers --sessions --help'
+        [ "${COMP_WORDS[1]}" != control ] || choices='--unix --help'
         ;;
     esac
   fi

@@ -89,7 +89,7 @@ completes() {
     bash "$root/usr/share/bash-completion/completions/nbdq" "$@"
 }
 commands() {
-  [ "$(completes nbdq s)" = serve ] && [ "$(completes nbdq '')" = "serve check talk replay help --help --version" ]
+  [ "$(completes nbdq s)" = serve ] && [ "$(completes nbdq '')" = "serve check talk replay control help --help --version" ]
 }
 check "the completion offers the commands" commands
 offered() {
