@@ -154,7 +154,9 @@ impl Connections {
             .iter()
             .position(|listed| listed.id == connection.id);
         if let Some(at) = place {
-            drop(open.list.remove(at));
+            if at < open.list.len() {
+                drop(open.list.remove(at));
+            }
         }
     }
 

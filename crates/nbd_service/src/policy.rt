@@ -60,8 +60,8 @@ pub const KEEPALIVE_PROBES: u8 = 6;
 /// How many clients of the control socket are served at a time. One more is dropped.
 pub const CONTROL_CLIENTS: u64 = 8;
 
-/// How many milliseconds such a client has for each line.
-pub const CONTROL_LINE_MS: u64 = 10_000;
+/// How many nanoseconds such a client has for each line.
+pub const CONTROL_LINE_NS: u64 = 10_000_000_000;
 
 /// Behind how many milliseconds without a byte its thread looks whether the server is at its end.
 pub const CONTROL_LOOK_MS: u64 = 100;

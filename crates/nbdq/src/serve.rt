@@ -123,14 +123,14 @@ fn bind_tcp<R: Net<Listener = TcpListener, Stream = TcpStream>>(
 }
 
 /// Makes the file of the control socket, which its owner alone may use.
-fn bind_control<R: Net + Files>(
-    rt: &R,
-    path: &Option<String>,
-) -> io::Result<Option<UnixListener>> {
+fn bind_control<R: Net + Files>(rt: &R, path: &Option<String>) -> io::Result<Option<UnixListener>> {
     let bound = bind_unix(rt, path)?;
     if let Some(path) = path {
-        if let Err(error) = set_permissions(rt, path.as_str(), Permissions::from_mode(OWNER_ALONE))
-        {
+        if let Err(error) = set_permissions(
+            rt,
+            path.as_str(),
+            Permissions::from_mode(OWNER_ALONE),
+        ) {
             let _ = remove_file(rt, path.as_str());
             return Err(error);
         }

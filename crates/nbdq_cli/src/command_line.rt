@@ -258,8 +258,9 @@ fn with_serve<'a>(
 fn with_control<'a>(alloc: Global, program: Command<'a>) -> Result<Command<'a>, AllocError>
     ensures { IfOk result (λ command. app_of command ≡ with_subcommand (app_of program.entry) control_command.top) }
 {
-    let control = new_command(alloc, "control", CONTROL)
-        .arg(option(alloc, "unix", "PATH", CONTROLLED))?;
+    let control = new_command(alloc, "control", CONTROL).arg(option(
+        alloc, "unix", "PATH", CONTROLLED,
+    ))?;
     program.subcommand(control)
 }
 

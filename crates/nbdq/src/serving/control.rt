@@ -81,16 +81,17 @@ pub fn serve_control<L: Ledger + Send + Sync, R: Wait + Threads + Sync + time::C
                 return;
             }
             match accepted {
-                Ok(peer) if control.enter() => {
-                    let started = scope.spawn(move || {
-                        serve_lines(rt, service, config, doors, control, &peer);
-                        control.leave();
-                    });
-                    if started.is_err() {
-                        control.leave();
+                Ok(peer) => {
+                    if control.enter() {
+                        let started = scope.spawn(move || {
+                            serve_lines(rt, service, config, doors, control, &peer);
+                            control.leave();
+                        });
+                        if started.is_err() {
+                            control.leave();
+                        }
                     }
                 }
-                Ok(_) => {}
                 Err(error) if may_pass(&error) => {
                     thread::sleep(rt, Duration::from_millis(RETRY_MS))
                 }
@@ -119,7 +120,14 @@ fn serve_lines<L: Ledger, R: Wait + time::Clock>(
             return;
         }
         let mut text = Vec::new(service.alloc);
-        let answered = answer_line(rt, service, config, doors.entrances, lines.line(), &mut text);
+        let answered = answer_line(
+            rt,
+            service,
+            config,
+            doors.entrances,
+            lines.line(),
+            &mut text,
+        );
         let written = answered.is_ok() && writer.write_all(text.as_slice()).is_ok();
         if !written {
             return;
@@ -190,17 +198,21 @@ fn drop_session<L: Ledger, R: Wait>(
         .exports()
         .iter()
         .position(|export| export.name() == name.as_bytes());
-    let Some(export) = place else {
+    let Some(export) = number_of(place) else {
         return Answer::NoExport;
     };
-    let session = SessionId {
-        export: export as u32,
-        number,
-    };
+    let session = SessionId { export, number };
     if service.connections.cut(rt, session) {
         Answer::Gone
     } else {
         Answer::NoSession
+    }
+}
+
+fn number_of(place: Option<usize>) -> Option<u32> {
+    match place {
+        Some(at) => u32::try_from(at).ok(),
+        None => None,
     }
 }
 
@@ -214,13 +226,14 @@ fn put_figures<L: Ledger, R: Wait + time::Clock>(
 ) -> Result<Option<Answer>, NoMemory> {
     let mut exports = Vec::new(service.alloc);
     let mut in_service = 0u64;
-    for (at, export) in config.exports().iter().enumerate() {
-        let Some(figures) = service.export_figures(rt, at as u32)? else {
-            continue;
-        };
-        in_service = in_service.saturating_add(figures.in_service());
-        let sessions = service.connections.sessions_of(rt, at as u32);
-        exports.push(stats_of(export, &figures, sessions))?;
+    let mut number = 0u32;
+    for export in config.exports() {
+        if let Some(figures) = service.export_figures(rt, number)? {
+            in_service = in_service.saturating_add(figures.in_service());
+            let sessions = service.connections.sessions_of(rt, number);
+            exports.push(stats_of(export, &figures, sessions))?;
+        }
+        number = number.saturating_add(1);
     }
     let server = server_stats(rt, service, in_service);
     if is_for_prometheus {

@@ -3,7 +3,7 @@
 use super::control::ControlSocket;
 use nbd_base::NoMemory;
 use nbd_control::MAX_LINE;
-use nbd_service::policy::{CONTROL_LINE_MS, CONTROL_LOOK_MS};
+use nbd_service::policy::{CONTROL_LINE_NS, CONTROL_LOOK_MS};
 use std::alloc::Global;
 use std::io::{ErrorKind, Read};
 use std::net::TcpStream;
@@ -54,7 +54,7 @@ impl<'a> Lines<'a> {
                 return true;
             }
             let passed = clock.now().nanoseconds().saturating_sub(began);
-            if passed > CONTROL_LINE_MS * 1_000_000 || control.is_ended() || !self.fill() {
+            if passed > CONTROL_LINE_NS || control.is_ended() || !self.fill() {
                 return false;
             }
         }

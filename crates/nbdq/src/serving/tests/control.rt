@@ -66,9 +66,7 @@ fn tells(alloc: Global, stream: &mut UnixStream, line: &[u8], parts: &[&[u8]]) -
     let Ok(answer) = ask_line(alloc, stream, line) else {
         return false;
     };
-    parts
-        .iter()
-        .all(|part| answer.windows(part.len()).any(|piece| piece == *part))
+    parts.iter().all(|part| answer.windows(part.len()).any(|piece| piece == *part))
 }
 
 /// Opens a session of `a`, writes four bytes there and reads them.
