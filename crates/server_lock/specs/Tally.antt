@@ -86,6 +86,11 @@ timed k what said = k
 abbrev pub noted_turn : Known → EventTrace → AnswerTrace → Known
 noted_turn k what said = timed (record k { counts = counted k.counts what said }) what said
 
+-- the exports behind a turn of the one with this number, of which this is known
+abbrev pub noted_in : List Known → ℕ → EventTrace → AnswerTrace → Option Known → List Known
+noted_in exports export what said None = exports
+noted_in exports export what said (Some known) = slice_set exports export (noted_turn known what said)
+
 -- what is known of all exports, by number, and of the holds of the server
 pub record Tallied : Type 0 where
   pub exports : List Known

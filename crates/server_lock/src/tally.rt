@@ -1,8 +1,7 @@
 //! What is counted of each export beside the server, by the traces of the turns.
 ghost use Rattle.std.specs.Prelude.{◌≡◌, ◌%◌, ◌<◌, ◌++◌, ◌∷◌, [], length, map, option_map, replicate, slice_get, IfOk, OnErr};
-ghost use Rattle.nbd_base.specs.Words.{change_at};
 ghost use Rattle.nbd_measures.specs.Holds.{no_holds, noted};
-ghost use Rattle.server_lock.specs.Tally.{accepted_by, arrived, chosen, no_counts, noted_turn, picked_by, wait_of};
+ghost use Rattle.server_lock.specs.Tally.{accepted_by, arrived, chosen, no_counts, noted_in, noted_turn, picked_by, wait_of};
 
 use crate::counts::ExportCounts;
 use crate::trace::{AnswerTrace, EventTrace};
@@ -186,7 +185,7 @@ impl<A: Allocator + Copy> Tally<A> {
 
     /// A turn was made that named this export, or chose it.
     pub(crate) fn note(&mut self, export: u32, event: &EventTrace, answer: &AnswerTrace)
-        ensures { self.new ≡ record self.old { exports = change_at (λ known. noted_turn known event.now answer.now) export self.old.exports } }
+        ensures { self.new ≡ record self.old { exports = noted_in self.old.exports export event.now answer.now (slice_get self.old.exports export) } }
     {
         if let Some(tally) = self.exports.get_mut(export as usize) {
             tally.note(event, answer);
