@@ -102,3 +102,57 @@ fn copy_answer<A: Read + Drop, O: Write + Drop>(
         Ok(()) => Told::Answered,
     }
 }
+
+#[cfg(test)]
+mod tests {
+    use super::*;
+
+    /// What comes of these lines, where the server answers so: the end, what was sent, and what was written.
+    fn told(alloc: Global, lines: &[u8], answers: &[u8]) -> Option<(Ending, Vec<u8>, Vec<u8>)> {
+        let mut sent = Vec::new(alloc);
+        let mut written = Vec::new(alloc);
+        let input = BufReader::new(alloc, lines).ok()?;
+        let answers = BufReader::new(alloc, answers).ok()?;
+        let output = BufWriter::new(alloc, &mut written).ok()?;
+        let end = converse(alloc, input, &mut sent, answers, output);
+        Some((end, sent, written))
+    }
+
+    /// Whether that comes of it, and as much of the answers is written as came.
+    fn is_told(alloc: Global, lines: &[u8], answers: &[u8], sent: &[u8], end: Ending) -> bool {
+        match told(alloc, lines, answers) {
+            Some((told, text, written)) => {
+                told == end && text.as_slice() == sent && written.as_slice() == answers
+            }
+            None => false,
+        }
+    }
+
+    #[test]
+    fn lines_and_answers(rt: HostRuntime) {
+        let done = Ending::Ran(Outcome::Done);
+        let refused = Ending::Ran(Outcome::Refused);
+        let alloc = rt.alloc();
+        assert!(rt; is_told(alloc, b"", b"", b"", done));
+        assert!(rt; is_told(alloc, b"sessions\n", b"\n", b"sessions\n", done));
+        assert!(rt; is_told(alloc, b"stop", b"stopping\n\n", b"stop\n", done));
+        assert!(rt;
+            is_told(
+                alloc,
+                b"fly\nstop\n",
+                b"refused unknown command\n\nstopping\n\n",
+                b"fly\nstop\n",
+                refused
+            )
+        );
+    }
+
+    #[test]
+    fn answers_that_are_cut(rt: HostRuntime) {
+        let alloc = rt.alloc();
+        let first = told(alloc, b"stop\nstop\n", b"stopping\n\n").expect(&rt, "memory");
+        assert!(rt; first.0 == Ending::SocketFailed);
+        let half = told(alloc, b"stats\n", b"server ").expect(&rt, "memory");
+        assert!(rt; half.0 == Ending::SocketFailed);
+    }
+}
