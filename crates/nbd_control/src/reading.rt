@@ -25,7 +25,6 @@ const MAX_RATE: u64 = 1_000_000;
 /// Reads the command that a line spells, which is handed over without its line feed.
 ///
 /// The text of a quoted name lies in `heap` for the time of the call, all else in `alloc`.
-#[tactic(auto, using(crate::proofs::TextLemmas::is_text, crate::proofs::TextLemmas::is_no_text))]
 pub fn read_command<A: Allocator + Copy>(
     heap: Global,
     alloc: A,

@@ -58,11 +58,11 @@ pub fn serve_on<R: Wait + Threads + Sync + time::Clock>(
         control: control.as_ref(),
         crew,
     };
-    serve_booked::<Brand, R>(rt, alloc, config, doors, blank, passes)
+    serve_booked::<Brand, R>(rt, alloc, config, &doors, blank, passes)
 }
 
 /// Where clients come in, and how many threads serve them.
-#[derive(Clone, Copy)]
+#[derive(Drop)]
 struct Doors<'a> {
     entrances: &'a [Entrance],
     control: Option<&'a ControlSocket>,
@@ -74,7 +74,7 @@ fn serve_booked<L: Ledger + Send + Sync, R: Wait + Threads + Sync + time::Clock>
     rt: &R,
     alloc: Global,
     config: &Config<Global>,
-    doors: Doors<'_>,
+    doors: &Doors<'_>,
     blank: Blank,
     passes: u64,
 ) -> Result<u128, ServeFault>
@@ -107,7 +107,7 @@ fn run_threads<L: Ledger + Send + Sync, R: Wait + Threads + Sync + time::Clock>(
     rt: &R,
     service: &Service<L>,
     config: &Config<Global>,
-    doors: Doors<'_>,
+    doors: &Doors<'_>,
 ) -> bool {
     thread::scope(thread::scope_env(), rt, |scope| {
         let mut all = true;

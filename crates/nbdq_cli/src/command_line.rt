@@ -4,7 +4,7 @@ ghost use Rattle.std.specs.Prelude.{◌≡◌, false, true, map, option_map, str
 ghost use Rattle.clap.specs.declared.builder.command.Command.TheViews.{out-Command as fields_of};
 ghost use Rattle.clap.specs.Words.{app_of, found_of, new_app, rows_of, rule_of, subcommand_name_of, subcommand_rows_of, with_subcommand, FailsBy};
 ghost use Rattle.nbdq_cli.specs.Asked.{faults_in, number_faults, sessions_said, wants_number, AsksFor, IsControl, IsJob, IsServe, IsSessions};
-ghost use Rattle.nbdq_cli.specs.Commands.{control_command, number_rule, numbers_up_to, option_rule, program_with, serve_command};
+ghost use Rattle.nbdq_cli.specs.Commands.{control_command, number_rule, numbers_up_to, option_rule, program_with, serve_command, serving_program};
 
 use crate::crew::{Crew, Sessions};
 use clap::builder::ValueParser;
@@ -228,13 +228,21 @@ fn kept(alloc: Global, word: Option<&str>) -> Result<Option<String>, AllocError>
 fn command<'a>(alloc: Global, sessions: ValueParser<'a>) -> Result<Command<'a>, AllocError>
     ensures { IfOk result (λ command. app_of command ≡ program_with sessions.entry) }
 {
+    let program = serving_program(alloc, sessions)?;
+    with_control(alloc, program)
+}
+
+/// The same without its command `control`.
+fn serving_program<'a>(alloc: Global, sessions: ValueParser<'a>) -> Result<Command<'a>, AllocError>
+    ensures { IfOk result (λ command. app_of command ≡ serving_program sessions.entry) }
+{
     let program = new_command(alloc, "nbdq", PROGRAM)
         .version(VERSION)
         .subcommand_required(true)
         .subcommand(new_command(alloc, "check", CHECK))?
         .subcommand(new_command(alloc, "talk", TALK))?
         .subcommand(new_command(alloc, "replay", REPLAY))?;
-    with_control(alloc, with_serve(alloc, program, sessions)?)
+    with_serve(alloc, program, sessions)
 }
 
 /// The program with its command `serve`.

@@ -71,7 +71,7 @@ pub fn serve_control<L: Ledger + Send + Sync, R: Wait + Threads + Sync + time::C
     rt: &R,
     service: &Service<L>,
     config: &Config<Global>,
-    doors: Doors<'_>,
+    doors: &Doors<'_>,
     control: &ControlSocket,
 ) {
     thread::scope(thread::scope_env(), rt, |scope| {
@@ -106,7 +106,7 @@ fn serve_lines<L: Ledger, R: Wait + time::Clock>(
     rt: &R,
     service: &Service<L>,
     config: &Config<Global>,
-    doors: Doors<'_>,
+    doors: &Doors<'_>,
     control: &ControlSocket,
     peer: &TcpStream,
 ) {
