@@ -44,6 +44,7 @@ NO_MEMORY = "an empty list: any other takes memory"
 CONTRACT_ALONE = "it does nothing: its contract alone says something"
 MADE_OF = "it hands out what it was made of"
 GUARD = "it hands out the one server under the lock"
+OUT_OF_VIEW = "the view of its type doesn't tell of the tally"
 
 # Which functions have no edit, and why.
 NONE = {
@@ -66,6 +67,11 @@ NONE = {
     "session_turns ReplyWriter::into_writer": MADE_OF,
     "reply_box ReplyBox::laws": CONTRACT_ALONE,
     "server_core Server::kept": CONTRACT_ALONE,
+    "server_lock Booked::note_hold": OUT_OF_VIEW,
+    "server_lock Booked::set_tally": OUT_OF_VIEW,
+    "server_lock Booked::tally": OUT_OF_VIEW,
+    "server_lock ExportTally::waits": ONE_FIELD,
+    "server_lock Tally::new": NO_MEMORY,
     "server_lock Shared::hold": GUARD,
     "server_lock Shared::try_hold": GUARD,
     "server_lock Shared::end": GUARD,
