@@ -1,4 +1,4 @@
-use export_store::{Flat, Image, Paged};
+use export_store::{Flat, Image, Paged, Swept};
 use nbd_base::NoMemory;
 use payload::Payload;
 use refusing::Refusing;
@@ -406,15 +406,15 @@ fn outdated_pages_are_handed_out(rt: HostRuntime) -> Result<(), NoMemory> {
     let alloc = rt.alloc();
     let mut image: Paged<Global> = Paged::zeros(alloc, 12288)?;
     assert!(rt; puts(&mut image, 0, &sevens(alloc, 0, 12288)?));
-    let mut outdated = Vec::with_capacity(alloc, 4)?;
-    image.sweep(&mut outdated);
-    assert!(rt; outdated.is_empty());
+    let mut swept = Swept::with_room(alloc, 4)?;
+    image.sweep(&mut swept);
+    assert!(rt; swept.pages().is_empty());
     assert!(rt; writes(alloc, &mut image, 4096, &[1, 2, 3]));
     assert!(rt; writes(alloc, &mut image, 4097, &[7, 7]));
     assert!(rt; writes(alloc, &mut image, 4096, &[7]));
-    image.sweep(&mut outdated);
-    assert_eq!(rt; outdated.len(), 3);
-    for (page, first) in outdated.iter().zip([7u8, 1, 1]) {
+    image.sweep(&mut swept);
+    assert_eq!(rt; swept.pages().len(), 3);
+    for (page, first) in swept.pages().iter().zip([7u8, 1, 1]) {
         assert_eq!(rt; page.as_slice().first(), Some(&first));
     }
     assert!(rt; is_but(alloc, &image, 7, 0, 0)?);
@@ -425,10 +425,10 @@ fn outdated_pages_are_handed_out(rt: HostRuntime) -> Result<(), NoMemory> {
 fn one_piece_hands_nothing_out(rt: HostRuntime) -> Result<(), NoMemory> {
     let mut image: Flat<Global> = Flat::zeros(rt.alloc(), 6)?;
     assert!(rt; writes(rt.alloc(), &mut image, 1, &[7, 7]));
-    let mut outdated = Vec::with_capacity(rt.alloc(), 4)?;
-    image.sweep(&mut outdated);
+    let mut swept = Swept::with_room(rt.alloc(), 4)?;
+    image.sweep(&mut swept);
     let bytes = all_of(rt.alloc(), &image)?;
-    assert!(rt; outdated.is_empty());
+    assert!(rt; swept.pages().is_empty());
     assert_eq!(rt; bytes.as_slice(), [0, 7, 7, 0, 0, 0].as_slice());
     Ok(())
 }
