@@ -2,6 +2,7 @@
 use Rattle.std.proofs.Common.{◌≡◌, ◌≢◌, ℕ, zero, suc, ◌+◌, ◌*◌, ◌/◌, ◌%◌, ◌^◌, ◌<◌, ◌≤◌, Bool, true, false, not, ◌||◌, nat_eq, cond, List, [], ◌∷◌, length, get_or, set, take, drop, replicate, bit_and, bit_or, count_ones, w64, if◌then◌else◌, inl, inr, refl, sym, ap, ◌∙◌, arith, tests}
 use Rattle.std.specs.Int.{bit_at, bit_not}
 use Rattle.std.specs.Int.Count.{ones_step}
+use lib.Count.{ones}
 use Rattle.std.proofs.lemmas.Nat.{one_shl, pow_pos}
 use Rattle.std.proofs.lemmas.Nat.Bits.{and_pow, bit_at-lt, bit_at-zero, bit_at-suc, bit_at_lowest, bit_at_ones, bit_at_set_same, bit_at_set_other, bit_at_clear_same, bit_at_clear_other}
 use Rattle.std.proofs.lemmas.List.{get_or-set_same, get_or-set_other, get_or_past, get_or-take, get_or-drop}
@@ -109,8 +110,12 @@ low_bit word =
           let off : nat_eq (bit_at word 0) 1 ≡ false = ap (λ (b : ℕ). nat_eq b 1) (bit_at_lowest word ∙ none) in rw off (sym none)
     ]
 
+no_ones : count_ones 0 ≡ 0
+unfolding ones
+no_ones = refl
+
 ones_below : (n word : ℕ) → word < 2 ^ n → count_ones word ≡ count_of (λ i. nat_eq (bit_at word i) 1) 0 n
-ones_below zero word below = let none : word ≡ 0 = omega arith in rw none refl
+ones_below zero word below = let none : word ≡ 0 = omega arith in rw none no_ones
 ones_below (suc n) word below =
     let half : word / 2 < 2 ^ n = omega arith in
     let rest : count_of (λ i. nat_eq (bit_at word i) 1) 1 n ≡ count_of (λ i. nat_eq (bit_at (word / 2) i) 1) 0 n =

@@ -1,12 +1,13 @@
 -- A chunk after one of its places has changed.
-use Rattle.std.proofs.Common.{◌≡◌, ◌≢◌, ℕ, zero, suc, ◌+◌, ◌<◌, ◌≤◌, Bool, true, false, not, ◌||◌, ◌&&◌, ◌==◌, nat_eq, is_some, Option, Some, None, List, [], ◌∷◌, ◌++◌, length, get_or, set, replicate, refl, sym, ap, ◌∙◌, arith}
+use Rattle.std.proofs.Common.{◌≡◌, ◌≢◌, ℕ, zero, suc, ◌+◌, ◌<◌, ◌≤◌, Bool, true, false, not, ◌||◌, ◌&&◌, ◌==◌, nat_eq, is_some, inl, inr, Option, Some, None, List, [], ◌∷◌, ◌++◌, length, get_or, set, replicate, refl, sym, ap, ◌∙◌, arith}
 use Rattle.std.specs.List.{filter}
 use Rattle.std.proofs.lemmas.Bool.Decides.{nat_tests}
-use Rattle.std.proofs.lemmas.List.{get_or_default, get_or-set_same, get_or-set_other}
+use Rattle.std.proofs.lemmas.Bool.{cases_lt}
+use Rattle.std.proofs.lemmas.List.{get_or_default, get_or-set_same, get_or-set_other, get_or_past}
 use Rattle.page_table.specs.Bits.{is_between}
 use Rattle.page_table.specs.Table.{Chunk, no_chunk, is_hole, shown_page, in_place, taken, cleared}
 use Rattle.page_table.proofs.ShownLemmas.{page_none, page_same, page_dug}
-use Rattle.page_table.proofs.CountLemmas.{count_some}
+use Rattle.page_table.proofs.CountLemmas.{count_some, count_zero}
 
 abbrev pub Places : Type 0
 Places = List (Option (List ℕ))
@@ -36,7 +37,7 @@ nones_at zero i = refl
 nones_at (suc n) zero = refl
 nones_at (suc n) (suc i) = nones_at n i
 
-pub nones_taken : (n : ℕ) → length (filter (is_some {A = List ℕ}) (replicate n None)) ≡ 0
+pub nones_taken : (n : ℕ) → length (filter (λ (page : Option (List ℕ)). is_some page) (replicate n None)) ≡ 0
 nones_taken zero = refl
 nones_taken (suc n) = nones_taken n
 
@@ -116,9 +117,21 @@ module _ (old new : Chunk) (place start count : ℕ) (same : new.pages ≡ old.p
       (λ j. dug k j ∙ or_and_false (is_hole old.holes k j) (nat_eq k place) (is_between start (start + count) j) (eq_other k place apart))
       ∙ sym (place_is old k)
 
+absent_page : (page : Option (List ℕ)) → is_some page ≡ false → page ≡ None
+absent_page None absent = refl
+absent_page (Some page) absent = absurd (cc)
+
 -- a list of one chunk
 pub only : (chunks : List Chunk) (chunk : Chunk) → length chunks ≡ 1 → chunk ≡ get_or chunks 0 chunk → chunk ≡ get_or chunks 0 no_chunk
 only chunks chunk one read = read ∙ get_or_default chunks 0 chunk no_chunk (omega (arith, one))
 
 pub only_set : (chunks : List Chunk) (chunk : Chunk) → length chunks ≡ 1 → get_or (set chunks 0 chunk) 0 no_chunk ≡ chunk
 only_set chunks chunk one = get_or-set_same chunks 0 chunk no_chunk (omega (arith, one))
+
+-- where no place is taken
+pub none_taken_place : (chunk : Chunk) (k : ℕ) → taken chunk ≡ 0 → in_place chunk k ≡ None
+none_taken_place chunk k none =
+    none_place chunk k (elim (cases_lt k (length chunk.pages)) [
+      | inl lt ↦ absent_page (get_or chunk.pages k None) (count_zero is_some chunk.pages none k lt)
+      | inr le ↦ get_or_past chunk.pages k None le
+    ])

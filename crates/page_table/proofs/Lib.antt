@@ -5,3 +5,4 @@ pub mod ShownLemmas
 pub mod ChunkLemmas
 pub mod TableLemmas
 pub mod MarksLemmas
+pub mod LeastLemmas

@@ -1,11 +1,12 @@
 -- A set in bitmaps after one of these has changed.
-use Rattle.std.proofs.Common.{◌≡◌, ◌≢◌, ℕ, ◌+◌, ◌*◌, ◌/◌, ◌%◌, ◌<◌, ◌≤◌, inl, inr, Bool, true, false, unwrap_or, IsSome, IfSome, Option, None, Some, List, [], ◌∷◌, max, if◌then◌else◌, refl, sym, ap, subst, ◌∙◌, arith}
+use Rattle.std.proofs.Common.{◌≡◌, ◌≢◌, ℕ, ◌+◌, ◌-◌, ◌*◌, ◌/◌, ◌%◌, ◌<◌, ◌≤◌, inl, inr, Bool, true, false, unwrap_or, IsSome, IfSome, Option, None, Some, List, [], ◌∷◌, min, if◌then◌else◌, refl, sym, ap, subst, ◌∙◌, arith}
 use Rattle.std.specs.Ordering.{nat_cmp}
 use Rattle.std.specs.BTreeMap.{BTreeMap, get, UpdatesBy}
 use Rattle.std.proofs.lemmas.Bool.{cases_eq}
 use Rattle.page_table.specs.Bits.{is_set, any_set, is_between}
 use Rattle.page_table.specs.Marks.{bitmap_of, is_marked, AreUsed}
 use Rattle.page_table.proofs.CountLemmas.{count_of, count-none, count-shift}
+use Rattle.page_table.proofs.RangeLemmas.{between_block}
 use Rattle.page_table.proofs.BitsLemmas.{empty_set, not_any}
 use Rattle.page_table.proofs.TableLemmas.{updates_others, if_none}
 
@@ -84,3 +85,28 @@ count_absent bitmaps q n begin all begins absent = count-none (is_marked bitmaps
 -- between two bitmaps where there is none
 pub none_between : (bitmaps : Bitmaps) (from to : ℕ) → ((q : ℕ) → from ≤ q → q < to → bitmap_of bitmaps q ≡ None) → (k : ℕ) → 16384 * from ≤ k → k < 16384 * to → is_marked bitmaps k ≡ false
 none_between bitmaps from to none k above below = absent_marked bitmaps k (k / 16384) refl (none (k / 16384) (omega arith) (omega arith))
+
+-- A bitmap without members comes, or goes.
+module _ (m n : BTreeMap ℕ (List ℕ)) (q : ℕ) (words : List ℕ) where
+  pub made : get nat_cmp m q ≡ None → ((k : ℕ) → is_set words k ≡ false) → UpdatesBy nat_cmp (nat_cmp q) m n (Some words) → (k : ℕ) → is_marked n.entries k ≡ is_marked m.entries k
+  made absent none updates =
+      same_marked m.entries n.entries q (updates_others m n q (Some words) updates)
+      (λ k. ap (λ (w : Option (List ℕ)). is_set (unwrap_or w []) k) updates.1 ∙ none k ∙ sym (empty_set [] refl k) ∙ sym (ap (λ (w : Option (List ℕ)). is_set (unwrap_or w []) k) absent))
+
+  pub dropped : Some words ≡ get nat_cmp m q → any_set words ≡ false → UpdatesBy nat_cmp (nat_cmp q) m n None → (k : ℕ) → is_marked n.entries k ≡ is_marked m.entries k
+  dropped found none updates =
+      same_marked m.entries n.entries q (updates_others m n q None updates)
+      (λ k. ap (λ (w : Option (List ℕ)). is_set (unwrap_or w []) k) updates.1 ∙ empty_set [] refl k ∙ sym (not_any words none k) ∙ ap (λ (w : Option (List ℕ)). is_set (unwrap_or w []) k) found)
+
+-- Numbers of a bitmap are put.
+module _ (m n : BTreeMap ℕ (List ℕ)) (q first end : ℕ) (member : Bool) (words after : List ℕ) (found : Some words ≡ get nat_cmp m q) (updates : UpdatesBy nat_cmp (nat_cmp q) m n (Some after))
+    (put : (k : ℕ) → is_set after k ≡ (if is_between (first - q * 16384) (min (end - q * 16384) 16384) k then member else is_set words k)) where
+  pub put_here : (k : ℕ) → k / 16384 ≡ q → is_marked n.entries k ≡ (if is_between first end k then member else is_marked m.entries k)
+  put_here k is =
+      sym (found_marked n.entries k q after is (sym updates.1))
+      ∙ put (k % 16384)
+      ∙ ap (λ (b : Bool). if b then member else is_set words (k % 16384)) (between_block first end (q * 16384) 16384 k (k % 16384) (omega arith) (omega arith))
+      ∙ ap (λ (b : Bool). if is_between first end k then member else b) (found_marked m.entries k q words is found)
+
+  pub put_there : IsSome (bitmap_of n.entries q)
+  put_there = subst IsSome (sym updates.1) tt

@@ -1,5 +1,5 @@
 -- What stands under numbers once those of a range were changed, a part of them at a time.
-use Rattle.std.proofs.Common.{◌≡◌, ◌≢◌, ℕ, ◌+◌, ◌<◌, ◌≤◌, Bool, true, false, max, inl, inr, if◌then◌else◌, ap, ◌∙◌, refl, sym, arith}
+use Rattle.std.proofs.Common.{◌≡◌, ◌≢◌, ℕ, ◌+◌, ◌-◌, ◌<◌, ◌≤◌, Bool, true, false, max, min, inl, inr, if◌then◌else◌, ap, ◌∙◌, refl, sym, arith}
 use Rattle.std.proofs.lemmas.Bool.{cases_lt, cases_eq}
 use Rattle.std.proofs.lemmas.Bool.Decides.{nat_tests}
 use Rattle.page_table.specs.Bits.{is_between}
@@ -67,3 +67,66 @@ module _ {X : Type 0} (x : X) where
       → (k : ℕ) → new k ≡ (if is_between first end k then x else old k)
   put_end old new first next end begun upto done was k =
       was k ∙ ap (λ (b : Bool). if b then x else old k) (between_end first next end k begun upto done)
+
+pub between_less : (first end n q : ℕ) → first ≤ n → n < end → is_between first end q ≡ false → (q ≢ n) × (is_between first n q ≡ false)
+between_less first end n q above below outside =
+    (λ e. let bad : is_between first end q ≡ true = between_yes first end q (omega arith) (omega arith) in let no : true ≡ false = sym bad ∙ outside in cc,
+    elim (cases_lt q first) [
+      | inl lt ↦ between_before first n q lt
+      | inr ge ↦ elim (cases_lt q n) [
+          | inl lt ↦ let bad : true ≡ false = sym (between_yes first end q ge (omega arith)) ∙ outside in absurd (cc)
+          | inr le ↦ between_behind first n q le
+        ]
+    ])
+
+-- a part of a range, as it lies in a block
+pub between_block : (first end begin size k j : ℕ) → k ≡ begin + j → j < size → is_between (first - begin) (min (end - begin) size) j ≡ is_between first end k
+between_block first end begin size k j at below =
+    elim (cases_lt k first) [
+      | inl lt ↦ between_before (first - begin) (min (end - begin) size) j (omega arith) ∙ sym (between_before first end k lt)
+      | inr ge ↦ elim (cases_lt k end) [
+          | inl lt ↦ between_yes (first - begin) (min (end - begin) size) j (omega arith) (omega arith) ∙ sym (between_yes first end k ge lt)
+          | inr le ↦ between_behind (first - begin) (min (end - begin) size) j (omega arith) ∙ sym (between_behind first end k le)
+        ]
+    ]
+
+-- What stands under numbers that lie in blocks, while those of a range are put, a block at a time: in blocks that aren't there it is so already.
+module _ {X : Type 0} (x : X) (block : ℕ → ℕ) (first end : ℕ) where
+  pub record ArePut (old now : ℕ → X) (next : ℕ) : Type 0 where
+    pub before : (k : ℕ) → block k < next → now k ≡ (if is_between first end k then x else old k)
+    pub behind : (k : ℕ) → next ≤ block k → now k ≡ old k
+
+  if_same : (b : Bool) (y : X) → y ≡ x → x ≡ (if b then x else y)
+  if_same true y is = refl
+  if_same false y is = sym is
+
+  pub put_begun : (old : ℕ → X) (from : ℕ) → ((k : ℕ) → block k < from → is_between first end k ≡ false) → ArePut old old from
+  put_begun old from apart = record {
+    before = λ k lt. rw (apart k lt) refl;
+    behind = λ k le. refl;
+  }
+
+  pub put_more : (old before after : ℕ → X) (next at : ℕ) → ArePut old before next → next ≤ at → ((k : ℕ) → next ≤ block k → block k < at → before k ≡ x)
+      → ((k : ℕ) → block k ≡ at → after k ≡ (if is_between first end k then x else before k)) → ((k : ℕ) → block k ≢ at → after k ≡ before k) → ArePut old after (at + 1)
+  put_more old before after next at was on absent here others = record {
+    before = λ k lt. elim (cases_eq (block k) at) [
+      | inl e ↦ here k e ∙ ap (λ (y : X). if is_between first end k then x else y) (was.behind k (omega (arith, e)))
+      | inr apart ↦ elim (cases_lt (block k) next) [
+          | inl less ↦ others k apart ∙ was.before k less
+          | inr ge ↦ let none : before k ≡ x = absent k ge (omega arith) in
+              others k apart ∙ none ∙ if_same (is_between first end k) (old k) (sym (was.behind k ge) ∙ none)
+        ]
+    ];
+    behind = λ k le. others k (λ e. omega (arith, e)) ∙ was.behind k (omega arith);
+  }
+
+  pub put_done : (old now : ℕ → X) (next last : ℕ) → ArePut old now next → ((k : ℕ) → next ≤ block k → block k < last → now k ≡ x) → ((k : ℕ) → last ≤ block k → is_between first end k ≡ false)
+      → (k : ℕ) → now k ≡ (if is_between first end k then x else old k)
+  put_done old now next last was absent apart k =
+      elim (cases_lt (block k) next) [
+        | inl less ↦ was.before k less
+        | inr ge ↦ elim (cases_lt (block k) last) [
+            | inl lt ↦ let none : now k ≡ x = absent k ge lt in none ∙ if_same (is_between first end k) (old k) (sym (was.behind k ge) ∙ none)
+            | inr le ↦ was.behind k ge ∙ ap (λ (b : Bool). if b then x else old k) (sym (apart k le))
+          ]
+      ]

@@ -48,7 +48,7 @@ none_in_table chunks none k = absent_is chunks k (k / 256) refl (ap (λ (all : L
 pub none_taken : (chunks : List (ℕ × Chunk)) → chunks ≡ [] → AreTaken chunks
 none_taken chunks none number = subst (λ (all : List (ℕ × Chunk)). IfSome (chunk_of all number) (λ chunk. 0 < taken chunk)) (sym none) tt
 
-if_none : {X : Type 0} (o : Option X) (P : X → Type 0) → o ≡ None → IfSome o P
+pub if_none : {X : Type 0} (o : Option X) (P : X → Type 0) → o ≡ None → IfSome o P
 if_none o P none = subst (λ (p : Option _). IfSome p P) (sym none) tt
 
 -- One chunk has changed.

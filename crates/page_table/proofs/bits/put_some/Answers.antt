@@ -1,0 +1,9 @@
+use Rattle.std.proofs.Common.{ℕ, arith}
+use Rattle.page_table.specs.Bits.{is_set}
+use Rattle.page_table.proofs.RangeLemmas.{put_one}
+use Rattle.page_table.proofs.BitsLemmas.{word_put}
+use Rattle.page_table.proofs.bits.put_some.Goals as goal
+
+pub returns-clause-put : goal.returns-clause-put
+returns-clause-put c =
+    word_put c.args.words.now c.args.next c.word_of.result c.args.member ? ? c.word_of.ensures
