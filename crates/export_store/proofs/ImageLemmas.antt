@@ -1,5 +1,5 @@
 -- The image after one of its pages has changed.
-use Rattle.std.proofs.Common.{◌≡◌, ◌≢◌, ℕ, zero, suc, ◌+◌, ◌*◌, ◌/◌, ◌%◌, ◌<◌, ◌≤◌, inl, inr, Bool, true, false, ◌||◌, nat_eq, is_some, unwrap_or, Option, Some, None, List, ◌++◌, length, take, drop, get_or, replicate, min, if◌then◌else◌, refl, sym, ap, subst, ◌∙◌, arith, length-append}
+use Rattle.std.proofs.Common.{◌≡◌, ◌≢◌, ℕ, zero, suc, ◌+◌, ◌*◌, ◌/◌, ◌%◌, ◌<◌, ◌≤◌, inl, inr, Bool, true, false, ◌||◌, nat_eq, is_some, unwrap_or, Result, Ok, Err, OnErr, Option, Some, None, List, ◌++◌, length, take, drop, get_or, replicate, min, if◌then◌else◌, refl, sym, ap, subst, ◌∙◌, arith, length-append}
 use Rattle.std.proofs.lemmas.Bool.{cases_eq}
 use Rattle.std.proofs.lemmas.Bool.Decides.{nat_tests}
 use Rattle.std.proofs.lemmas.List.{length-take, length-replicate, replicate-append-replicate, take-replicate, get_or-take, get_or-replicate}
@@ -171,6 +171,19 @@ image_written old new at bytes is size one within here others =
     overwritten-in_a_row (page_of old) (page_of new) is.whole count (at / 4096) (at % 4096) bytes (omega arith) one here others
     ∙ ap (λ (k : ℕ). overwritten row k (length bytes) bytes) place in
     rw (size, written) (take-overwritten old.size row bytes at (omega arith) (omega arith))
+
+-- what holds anyhow holds after a failure
+pub on_err : {T E : Type 0} (r : Result T E) (P : Type 0) → P → OnErr r P
+on_err (Ok x) P p = tt
+on_err (Err e) P p = p
+
+-- where the same pages are held
+pub IsPaged-same : (old new : Pages) → IsPaged old → new.size ≡ old.size → ((k : ℕ) → stored_page new k ≡ stored_page old k) → ((k : ℕ) → is_held_zeros new k ≡ is_held_zeros old k) → IsPaged new
+IsPaged-same old new is size stored zeros = record {
+  whole = λ k. ap (λ (p : Option (List ℕ)). length (shown p)) (stored k) ∙ is.whole k;
+  within = λ k held. rw size (is.within k (sym (or_same (is_stored new k) (is_held_zeros new k) (is_stored old k) (is_held_zeros old k) (ap is_some (stored k)) (zeros k)) ∙ held));
+  apart = λ k there. zeros k ∙ is.apart k (ap is_some (sym (stored k)) ∙ there);
+}
 
 -- the image after a page was stored as it is
 pub image_stored : (old new : Pages) (number : ℕ) (page : List ℕ) → page ≡ zero_page → new.size ≡ old.size → stored_page new number ≡ Some page

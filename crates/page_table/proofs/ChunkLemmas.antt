@@ -41,10 +41,6 @@ pub nones_taken : (n : ℕ) → length (filter (λ (page : Option (List ℕ)). i
 nones_taken zero = refl
 nones_taken (suc n) = nones_taken n
 
--- a page that is stored in a place counts
-pub taken_some : (chunk : Chunk) (place : ℕ) (page : List ℕ) → place < length chunk.pages → in_place chunk place ≡ Some page → 0 < taken chunk
-taken_some chunk place page below there = count_some is_some chunk.pages place below (sym (some_place chunk place) ∙ ap is_some there)
-
 -- the bits of other places, and those of one
 eq_self : (k : ℕ) → nat_eq k k ≡ true
 eq_self k = grind (arith, nat_tests)
@@ -135,3 +131,11 @@ none_taken_place chunk k none =
       | inl lt ↦ absent_page (get_or chunk.pages k None) (count_zero is_some chunk.pages none k lt)
       | inr le ↦ get_or_past chunk.pages k None le
     ])
+
+-- a page that is stored in a place counts
+pub taken_some : (chunk : Chunk) (place : ℕ) (page : List ℕ) → in_place chunk place ≡ Some page → 0 < taken chunk
+taken_some chunk place page there =
+    elim (cases_lt place (length chunk.pages)) [
+      | inl lt ↦ count_some is_some chunk.pages place lt (sym (some_place chunk place) ∙ ap is_some there)
+      | inr le ↦ let bad : false ≡ true = ap is_some (sym (none_place chunk place (get_or_past chunk.pages place None le)) ∙ there) in absurd (cc)
+    ]

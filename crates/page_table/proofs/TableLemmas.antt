@@ -1,5 +1,5 @@
 -- A table after one of its chunks has changed.
-use Rattle.std.proofs.Common.{◌≡◌, ◌≢◌, ℕ, ◌+◌, ◌*◌, ◌/◌, ◌%◌, ◌<◌, ◌≤◌, inl, inr, Bool, true, false, is_some, IsSome, IfSome, Result, Ok, Err, OnErr, Option, None, Some, List, [], ◌∷◌, length, if◌then◌else◌, refl, sym, ap, subst, ◌∙◌, arith}
+use Rattle.std.proofs.Common.{◌≡◌, ◌≢◌, ℕ, ◌+◌, ◌-◌, ◌*◌, ◌/◌, ◌%◌, ◌<◌, ◌≤◌, inl, inr, Bool, true, false, min, is_some, IsSome, IfSome, Result, Ok, Err, OnErr, Option, None, Some, List, [], ◌∷◌, length, if◌then◌else◌, refl, sym, ap, subst, ◌∙◌, arith}
 use Rattle.std.specs.Ordering.{nat_cmp, is_eq}
 use Rattle.std.specs.Cmp.{nat_cmp_is}
 use Rattle.std.specs.declared.cmp.Ordering.TheVariants.{Less, Greater}
@@ -7,9 +7,9 @@ use Rattle.std.specs.BTreeMap.{BTreeMap, is_at, get, UpdatesBy}
 use Rattle.std.proofs.lemmas.Bool.{cases_lt, cases_eq}
 use Rattle.page_table.specs.Bits.{is_between}
 use Rattle.page_table.specs.Table.{Chunk, in_place, in_chunk, chunk_of, in_table, taken, AreTaken}
-use Rattle.page_table.proofs.ChunkLemmas.{some_place}
+use Rattle.page_table.proofs.ChunkLemmas.{some_place, none_taken_place}
 use Rattle.page_table.proofs.CountLemmas.{count_of, count-none, count_list}
-use Rattle.page_table.proofs.RangeLemmas.{between_yes}
+use Rattle.page_table.proofs.RangeLemmas.{between_yes, between_block}
 
 -- what holds anyhow holds after a failure
 pub on_err : {T E : Type 0} (r : Result T E) (P : Type 0) → P → OnErr r P
@@ -50,6 +50,10 @@ none_taken chunks none number = subst (λ (all : List (ℕ × Chunk)). IfSome (c
 
 pub if_none : {X : Type 0} (o : Option X) (P : X → Type 0) → o ≡ None → IfSome o P
 if_none o P none = subst (λ (p : Option _). IfSome p P) (sym none) tt
+
+-- a chunk that is there
+pub taken_found : (chunks : List (ℕ × Chunk)) (q : ℕ) (chunk : Chunk) → AreTaken chunks → Some chunk ≡ chunk_of chunks q → 0 < taken chunk
+taken_found chunks q chunk all found = subst (λ (c : Option Chunk). IfSome c (λ chunk. 0 < taken chunk)) (sym found) (all q)
 
 -- One chunk has changed.
 module _ (old new : List (ℕ × Chunk)) (q : ℕ) (others : (p : ℕ) → p ≢ q → chunk_of new p ≡ chunk_of old p) where
@@ -115,3 +119,36 @@ count_absent chunks q n begin all begins absent =
 -- between two chunks where there is none
 pub none_between : (chunks : List (ℕ × Chunk)) (from to : ℕ) → ((q : ℕ) → from ≤ q → q < to → chunk_of chunks q ≡ None) → (k : ℕ) → 256 * from ≤ k → k < 256 * to → in_table chunks k ≡ None
 none_between chunks from to none k above below = absent_is chunks k (k / 256) refl (none (k / 256) (omega arith) (omega arith))
+
+-- Pages of a chunk are stored no longer, and the chunk goes, or stays as long as a place is taken.
+module _ (old new : List (ℕ × Chunk)) (q first end : ℕ) (others : (p : ℕ) → p ≢ q → chunk_of new p ≡ chunk_of old p) where
+  pub whole_gone : first ≤ q * 256 → q * 256 + 256 ≤ end → chunk_of new q ≡ None → (k : ℕ) → k / 256 ≡ q → in_table new k ≡ (if is_between first end k then None else in_table old k)
+  whole_gone above below gone k is =
+      let inside : is_between first end k ≡ true = between_yes first end k (omega arith) (omega arith) in
+      absent_is new k q is gone ∙ ap (λ (b : Bool). if b then None else in_table old k) (sym inside)
+
+  pub places_gone : ((k : ℕ) → in_chunk (chunk_of new q) k ≡ (if is_between (first - q * 256) (min (end - q * 256) 256) k then None else in_chunk (chunk_of old q) k))
+      → (k : ℕ) → k / 256 ≡ q → in_table new k ≡ (if is_between first end k then None else in_table old k)
+  places_gone here k is =
+      table_is new k q is ∙ here (k % 256)
+      ∙ ap (λ (b : Bool). if b then None else in_chunk (chunk_of old q) (k % 256)) (between_block first end (q * 256) 256 k (k % 256) (omega arith) (omega arith))
+      ∙ ap (λ (page : Option (List ℕ)). if is_between first end k then None else page) (sym (table_is old k q is))
+
+-- of a chunk in which no place is taken nothing is stored
+none_in_chunk : (chunk : Option Chunk) (n k : ℕ) → IfSome chunk (λ c. n ≡ taken c) → n ≡ 0 → in_chunk chunk k ≡ None
+none_in_chunk None n k left none = refl
+none_in_chunk (Some chunk) n k left none = none_taken_place chunk k (sym left ∙ none)
+
+some_in_chunk : (chunk : Option Chunk) (n : ℕ) → IfSome chunk (λ c. n ≡ taken c) → 0 < n → IfSome chunk (λ c. 0 < taken c)
+some_in_chunk None n left some = tt
+some_in_chunk (Some chunk) n left some = omega (arith, left)
+
+-- the same where it is empty and goes
+pub places_all_gone : (old mid new : List (ℕ × Chunk)) (q first end n : ℕ) → ((p : ℕ) → p ≢ q → chunk_of mid p ≡ chunk_of old p)
+    → ((k : ℕ) → in_chunk (chunk_of mid q) k ≡ (if is_between (first - q * 256) (min (end - q * 256) 256) k then None else in_chunk (chunk_of old q) k))
+    → IfSome (chunk_of mid q) (λ c. n ≡ taken c) → n ≡ 0 → chunk_of new q ≡ None → (k : ℕ) → k / 256 ≡ q → in_table new k ≡ (if is_between first end k then None else in_table old k)
+places_all_gone old mid new q first end n others here left none gone k is =
+    absent_is new k q is gone ∙ sym (table_is mid k q is ∙ none_in_chunk (chunk_of mid q) n (k % 256) left none) ∙ places_gone old mid q first end others here k is
+
+pub taken_left : (old mid : List (ℕ × Chunk)) (q n : ℕ) → ((p : ℕ) → p ≢ q → chunk_of mid p ≡ chunk_of old p) → AreTaken old → IfSome (chunk_of mid q) (λ c. n ≡ taken c) → (n ≡ 0 → ⊥) → AreTaken mid
+taken_left old mid q n others was left some = taken_after old mid q others was (some_in_chunk (chunk_of mid q) n left (omega arith))

@@ -227,10 +227,10 @@ impl<A: Allocator + Copy> HeldZeros<A> {
         ensures { result ≡ length (filter (is_marked self.now) (range_with_len 0 (16384 * bitmaps))) }
     {
         let mut count = 0;
-        let mut next = 0;
-        while let Some(bitmap) = self.next_bitmap(next, bitmaps) {
+        let mut from = 0;
+        while let Some(bitmap) = self.next_bitmap(from, bitmaps) {
             count += self.count_in(bitmap);
-            next = bitmap + 1;
+            from = bitmap + 1;
         }
         count
     }

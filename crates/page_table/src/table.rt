@@ -202,10 +202,10 @@ impl<A: Allocator + Copy> Table<A> {
         ensures { result ≡ length (filter (λ k. is_some (in_table self.now k)) (range_with_len 0 (256 * chunks))) }
     {
         let mut count = 0;
-        let mut next = 0;
-        while let Some(chunk) = self.next_chunk(next, chunks) {
+        let mut from = 0;
+        while let Some(chunk) = self.next_chunk(from, chunks) {
             count += self.stored_in(chunk);
-            next = chunk + 1;
+            from = chunk + 1;
         }
         count
     }

@@ -1,0 +1,4 @@
+use Rattle.export_store.proofs.paged.Paged.held.Goals as goal
+
+pub returns : goal.returns
+returns g c = ?
