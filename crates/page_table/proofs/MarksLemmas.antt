@@ -13,7 +13,6 @@ use Rattle.page_table.proofs.TableLemmas.{updates_others, if_none}
 abbrev pub Bitmaps : Type 0
 Bitmaps = List (ℕ × List ℕ)
 
-
 -- what is said of a number
 pub marked_is : (bitmaps : Bitmaps) (k q : ℕ) → k / 16384 ≡ q → is_marked bitmaps k ≡ is_set (unwrap_or (bitmap_of bitmaps q) []) (k % 16384)
 unfolding is_marked

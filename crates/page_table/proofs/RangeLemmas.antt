@@ -69,15 +69,16 @@ module _ {X : Type 0} (x : X) where
       was k ∙ ap (λ (b : Bool). if b then x else old k) (between_end first next end k begun upto done)
 
 pub between_less : (first end n q : ℕ) → first ≤ n → n < end → is_between first end q ≡ false → (q ≢ n) × (is_between first n q ≡ false)
-between_less first end n q above below outside =
-    (λ e. let bad : is_between first end q ≡ true = between_yes first end q (omega arith) (omega arith) in let no : true ≡ false = sym bad ∙ outside in cc,
-    elim (cases_lt q first) [
-      | inl lt ↦ between_before first n q lt
-      | inr ge ↦ elim (cases_lt q n) [
-          | inl lt ↦ let bad : true ≡ false = sym (between_yes first end q ge (omega arith)) ∙ outside in absurd (cc)
-          | inr le ↦ between_behind first n q le
-        ]
-    ])
+between_less first end n q above below outside = (
+  λ e. let bad : is_between first end q ≡ true = between_yes first end q (omega arith) (omega arith) in let no : true ≡ false = sym bad ∙ outside in cc,
+  elim (cases_lt q first) [
+    | inl lt ↦ between_before first n q lt
+    | inr ge ↦ elim (cases_lt q n) [
+      | inl lt ↦ let bad : true ≡ false = sym (between_yes first end q ge (omega arith)) ∙ outside in absurd (cc)
+      | inr le ↦ between_behind first n q le
+    ]
+  ],
+)
 
 -- a part of a range, as it lies in a block
 pub between_block : (first end begin size k j : ℕ) → k ≡ begin + j → j < size → is_between (first - begin) (min (end - begin) size) j ≡ is_between first end k
@@ -85,9 +86,9 @@ between_block first end begin size k j at below =
     elim (cases_lt k first) [
       | inl lt ↦ between_before (first - begin) (min (end - begin) size) j (omega arith) ∙ sym (between_before first end k lt)
       | inr ge ↦ elim (cases_lt k end) [
-          | inl lt ↦ between_yes (first - begin) (min (end - begin) size) j (omega arith) (omega arith) ∙ sym (between_yes first end k ge lt)
-          | inr le ↦ between_behind (first - begin) (min (end - begin) size) j (omega arith) ∙ sym (between_behind first end k le)
-        ]
+        | inl lt ↦ between_yes (first - begin) (min (end - begin) size) j (omega arith) (omega arith) ∙ sym (between_yes first end k ge lt)
+        | inr le ↦ between_behind (first - begin) (min (end - begin) size) j (omega arith) ∙ sym (between_behind first end k le)
+      ]
     ]
 
 -- What stands under numbers that lie in blocks, while those of a range are put, a block at a time: in blocks that aren't there it is so already.
@@ -112,10 +113,10 @@ module _ {X : Type 0} (x : X) (block : ℕ → ℕ) (first end : ℕ) where
     before = λ k lt. elim (cases_eq (block k) at) [
       | inl e ↦ here k e ∙ ap (λ (y : X). if is_between first end k then x else y) (was.behind k (omega (arith, e)))
       | inr apart ↦ elim (cases_lt (block k) next) [
-          | inl less ↦ others k apart ∙ was.before k less
-          | inr ge ↦ let none : before k ≡ x = absent k ge (omega arith) in
-              others k apart ∙ none ∙ if_same (is_between first end k) (old k) (sym (was.behind k ge) ∙ none)
-        ]
+        | inl less ↦ others k apart ∙ was.before k less
+        | inr ge ↦ let none : before k ≡ x = absent k ge (omega arith) in
+            others k apart ∙ none ∙ if_same (is_between first end k) (old k) (sym (was.behind k ge) ∙ none)
+      ]
     ];
     behind = λ k le. others k (λ e. omega (arith, e)) ∙ was.behind k (omega arith);
   }
@@ -126,7 +127,7 @@ module _ {X : Type 0} (x : X) (block : ℕ → ℕ) (first end : ℕ) where
       elim (cases_lt (block k) next) [
         | inl less ↦ was.before k less
         | inr ge ↦ elim (cases_lt (block k) last) [
-            | inl lt ↦ let none : now k ≡ x = absent k ge lt in none ∙ if_same (is_between first end k) (old k) (sym (was.behind k ge) ∙ none)
-            | inr le ↦ was.behind k ge ∙ ap (λ (b : Bool). if b then x else old k) (sym (apart k le))
-          ]
+          | inl lt ↦ let none : now k ≡ x = absent k ge lt in none ∙ if_same (is_between first end k) (old k) (sym (was.behind k ge) ∙ none)
+          | inr le ↦ was.behind k ge ∙ ap (λ (b : Bool). if b then x else old k) (sym (apart k le))
+        ]
       ]

@@ -70,11 +70,13 @@ fn drop_empty<A: Allocator + Copy>(bitmaps: &mut BTreeMap<usize, Bitmap<A>, A>, 
     ensures used { IfSome (bitmap_of bitmaps.new.entries number) (λ words. any_set words ≡ true) }
     ensures others { (q : ℕ) → q ≢ number → bitmap_of bitmaps.new.entries q ≡ bitmap_of bitmaps.old.entries q }
 {
-    if let Some(bitmap) = bitmaps.get(&number) {
-        if !bitmap.any() {
-            bitmaps.remove(&number);
-        }
+    let Some(bitmap) = bitmaps.get(&number) else {
+        return;
+    };
+    if bitmap.any() {
+        return;
     }
+    bitmaps.remove(&number);
 }
 
 // Those from one on before an end that have no member go.
@@ -109,9 +111,10 @@ fn put_in<A: Allocator + Copy>(
 {
     let begin = bitmap * BITMAP;
     let upto = (end - begin).min(BITMAP);
-    if let Some(found) = bitmaps.get_mut(&bitmap) {
-        found.put(first.saturating_sub(begin), upto, member);
-    }
+    let Some(found) = bitmaps.get_mut(&bitmap) else {
+        unreachable!();
+    };
+    found.put(first.saturating_sub(begin), upto, member);
 }
 
 // Numbers from the first on before an end are members from now on, all of whose bitmaps are there.

@@ -46,10 +46,10 @@ fn remove_places<A: Allocator + Copy>(
     ensures left { IfSome (chunk_of chunks.new.entries number) (λ chunk. result ≡ taken chunk) }
     ensures others { (q : ℕ) → q ≢ number → chunk_of chunks.new.entries q ≡ chunk_of chunks.old.entries q }
 {
-    match chunks.get_mut(&number) {
-        Some(node) => node.remove(first, end, swept),
-        None => 0,
-    }
+    let Some(node) = chunks.get_mut(&number) else {
+        unreachable!();
+    };
+    node.remove(first, end, swept)
 }
 
 // A chunk is there no longer.
@@ -131,9 +131,10 @@ impl<A: Allocator + Copy> Table<A> {
         ensures here { in_table self.new number ≡ cleared start count (in_table self.old number) }
         ensures others { (k : ℕ) → k ≢ number → in_table self.new k ≡ in_table self.old k }
     {
-        if let Some(node) = self.chunks.get_mut(&(number / CHUNK)) {
-            node.clear(alloc, number % CHUNK, start, count, swept);
-        }
+        let Some(node) = self.chunks.get_mut(&(number / CHUNK)) else {
+            return;
+        };
+        node.clear(alloc, number % CHUNK, start, count, swept);
     }
 
     // The first chunk that is there, from one on before an end.

@@ -1,5 +1,5 @@
 use Rattle.page_table.proofs.MarksLemmas.{dropped}
 use Rattle.page_table.proofs.held_zeros.drop_empty.Goals as goal
 
-pub returns-then-not-any-clause-same : goal.returns-then-not-any-clause-same
-returns-then-not-any-clause-same g c = ?
+pub returns-clause-same : goal.returns-clause-same
+returns-clause-same g c = dropped _ _ c.args.number c.in-Some.bitmap.now c.in-Some.ensures.value ? c.remove.ensures.updates
