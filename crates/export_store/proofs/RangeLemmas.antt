@@ -29,9 +29,9 @@ hold_none false first number k held =
     elim (cases_lt k number) [
       | inr le ↦ grind (arith, nat_tests)
       | inl lt ↦ elim (cases_lt k first) [
-          | inl less ↦ grind (arith, nat_tests)
-          | inr above ↦ let bad : false ≡ true = held above lt in absurd (cc)
-        ]
+        | inl less ↦ grind (arith, nat_tests)
+        | inr above ↦ let bad : false ≡ true = held above lt in absurd (cc)
+      ]
     ]
 
 -- what is held after one more page has become held
@@ -90,19 +90,22 @@ untouched_at offset count k some apart =
     elim (cases_lt offset (4096 * k + 4096)) [
       | inr le ↦ inl le
       | inl lt ↦ elim (cases_lt (4096 * k) (offset + count)) [
-          | inr le ↦ inr le
-          | inl less ↦ let bad : has_byte_of offset count k ≡ true = grind (arith, nat_tests) in absurd (cc)
-        ]
+        | inr le ↦ inr le
+        | inl less ↦ let bad : has_byte_of offset count k ≡ true = grind (arith, nat_tests) in absurd (cc)
+      ]
     ]
 
 pub edge_at : (size offset count k : ℕ) → offset + count ≤ size → has_byte_of offset count k ≡ true → lies_whole_in size offset count k ≡ false
     → (offset < 4096 * k + 4096) × (4096 * k < offset + count) × ((4096 * k < offset) ⊎ (offset + count < min (4096 * k + 4096) size))
 edge_at size offset count k within touched part =
-    let places = byte_places offset count k touched in
-    (places.0, places.1, elim (cases_lt (4096 * k) offset) [
-      | inl lt ↦ inl lt
-      | inr le ↦ elim (cases_lt (offset + count) (min (4096 * k + 4096) size)) [
+    let places = byte_places offset count k touched in (
+      places.0,
+      places.1,
+      elim (cases_lt (4096 * k) offset) [
+        | inl lt ↦ inl lt
+        | inr le ↦ elim (cases_lt (offset + count) (min (4096 * k + 4096) size)) [
           | inl lt ↦ inr lt
           | inr ge ↦ let bad : lies_whole_in size offset count k ≡ true = grind (arith, nat_tests) in absurd (cc)
         ]
-    ])
+      ],
+    )

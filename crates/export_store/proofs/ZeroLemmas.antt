@@ -244,30 +244,30 @@ emptied size offset count first last a e k stays some within begins ends goes af
           let front : k < a = elim after [ inl p ↦ omega arith | inr p ↦ omega arith ] in
           rw (between_before a e k front, apart) refl
       | inr ge ↦ elim (cases_lt last k) [
-          | inl gt ↦ let apart : has_byte_of offset count k ≡ false = let past : offset + count ≤ 4096 * k = omega arith in grind (arith, nat_tests) in
-              let behind : e ≤ k = elim upto [ inl p ↦ omega arith | inr p ↦ omega arith ] in
-              rw (between_behind a e k behind, apart) refl
-          | inr le ↦ let touched : has_byte_of offset count k ≡ true = let from : offset < 4096 * k + 4096 = omega arith in let to : 4096 * k < offset + count = omega arith in grind (arith, nat_tests) in
-              rw touched (elim (either (stays k)) [
-                | inl stay ↦ rw stay (elim (cases_eq k first) [
-                    | inl e1 ↦ elim after [
-                        | inl p ↦ between_before a e k (omega arith)
-                        | inr p ↦ let bad : true ≡ false = sym stay ∙ ap stays e1 ∙ p.0 in absurd (cc)
-                      ]
-                    | inr apart ↦ elim (cases_eq k last) [
-                        | inl e2 ↦ elim upto [
-                            | inl p ↦ between_behind a e k (omega arith)
-                            | inr p ↦ let bad : true ≡ false = sym stay ∙ ap stays e2 ∙ p.0 in absurd (cc)
-                          ]
-                        | inr inside ↦ let whole : lies_whole_in size offset count k ≡ true = let from : offset ≤ 4096 * k = omega arith in let to : min (4096 * k + 4096) size ≤ offset + count = omega arith in grind (arith, nat_tests) in
-                            let bad : true ≡ false = sym stay ∙ goes k whole in absurd (cc)
-                      ]
-                  ])
-                | inr goes_out ↦ rw goes_out (between_yes a e k
-                    (elim after [ inl p ↦ elim (cases_eq k first) [ inl e1 ↦ let bad : true ≡ false = sym p.0 ∙ ap stays (sym e1) ∙ goes_out in absurd (cc) | inr apart ↦ omega arith ] | inr p ↦ omega arith ])
-                    (elim upto [ inl p ↦ elim (cases_eq k last) [ inl e1 ↦ let bad : true ≡ false = sym p.0 ∙ ap stays (sym e1) ∙ goes_out in absurd (cc) | inr apart ↦ omega arith ] | inr p ↦ omega arith ]))
+        | inl gt ↦ let apart : has_byte_of offset count k ≡ false = let past : offset + count ≤ 4096 * k = omega arith in grind (arith, nat_tests) in
+            let behind : e ≤ k = elim upto [ inl p ↦ omega arith | inr p ↦ omega arith ] in
+            rw (between_behind a e k behind, apart) refl
+        | inr le ↦ let touched : has_byte_of offset count k ≡ true = let from : offset < 4096 * k + 4096 = omega arith in let to : 4096 * k < offset + count = omega arith in grind (arith, nat_tests) in
+            rw touched (elim (either (stays k)) [
+              | inl stay ↦ rw stay (elim (cases_eq k first) [
+                | inl e1 ↦ elim after [
+                  | inl p ↦ between_before a e k (omega arith)
+                  | inr p ↦ let bad : true ≡ false = sym stay ∙ ap stays e1 ∙ p.0 in absurd (cc)
+                ]
+                | inr apart ↦ elim (cases_eq k last) [
+                  | inl e2 ↦ elim upto [
+                    | inl p ↦ between_behind a e k (omega arith)
+                    | inr p ↦ let bad : true ≡ false = sym stay ∙ ap stays e2 ∙ p.0 in absurd (cc)
+                  ]
+                  | inr inside ↦ let whole : lies_whole_in size offset count k ≡ true = let from : offset ≤ 4096 * k = omega arith in let to : min (4096 * k + 4096) size ≤ offset + count = omega arith in grind (arith, nat_tests) in
+                      let bad : true ≡ false = sym stay ∙ goes k whole in absurd (cc)
+                ]
               ])
-        ]
+              | inr goes_out ↦ rw goes_out (between_yes a e k
+                  (elim after [ inl p ↦ elim (cases_eq k first) [ inl e1 ↦ let bad : true ≡ false = sym p.0 ∙ ap stays (sym e1) ∙ goes_out in absurd (cc) | inr apart ↦ omega arith ] | inr p ↦ omega arith ])
+                  (elim upto [ inl p ↦ elim (cases_eq k last) [ inl e1 ↦ let bad : true ≡ false = sym p.0 ∙ ap stays (sym e1) ∙ goes_out in absurd (cc) | inr apart ↦ omega arith ] | inr p ↦ omega arith ]))
+            ])
+      ]
     ]
 
 -- The page of a number after the whole pages of a range are removed and those at its edges cleared.
@@ -287,9 +287,9 @@ module _ (size offset count first last start m n k : ℕ) (some : 0 < count) (wi
       elim (cases_eq k last) [
         | inr apart ↦ beside apart ∙ front_none none
         | inl e ↦ elim (cases_eq last first) [
-            | inl one ↦ alone one ∙ front_none none
-            | inr two ↦ there e two ∙ ap (cleared 0 n) (front_none none)
-          ]
+          | inl one ↦ alone one ∙ front_none none
+          | inr two ↦ there e two ∙ ap (cleared 0 n) (front_none none)
+        ]
       ]
 
   -- one at the first edge, and one at the last
@@ -330,11 +330,11 @@ module _ (size offset count first last start m n k : ℕ) (some : 0 < count) (wi
         | inr beyond ↦ let none : was ≡ None = not_there was (λ stored. let lt : 4096 * k < size = inside stored in omega arith) in
             back_none (absent none) ∙ sym (zeroed_none size offset count k) ∙ ap (zeroed size offset count k) (sym none)
         | inl lt ↦ elim (either (lies_whole_in size offset count k)) [
-            | inl whole ↦ back_none (removed lt ∙ ap (λ (b : Bool). if b then None else was) whole) ∙ sym (zeroed_whole size offset count k was whole)
-            | inr part ↦ let stays : gone ≡ was = removed lt ∙ ap (λ (b : Bool). if b then None else was) part in
-                elim (either (has_byte_of offset count k)) [
-                  | inl touched ↦ at_edge stays touched part
-                  | inr untouched ↦ at_neither stays untouched part
-                ]
-          ]
+          | inl whole ↦ back_none (removed lt ∙ ap (λ (b : Bool). if b then None else was) whole) ∙ sym (zeroed_whole size offset count k was whole)
+          | inr part ↦ let stays : gone ≡ was = removed lt ∙ ap (λ (b : Bool). if b then None else was) part in
+              elim (either (has_byte_of offset count k)) [
+                | inl touched ↦ at_edge stays touched part
+                | inr untouched ↦ at_neither stays untouched part
+              ]
+        ]
       ]
