@@ -4,3 +4,4 @@ pub mod PieceLemmas
 pub mod RangeLemmas
 pub mod ZeroLemmas
 pub mod FlatLemmas
+pub mod HeldLemmas

@@ -13,7 +13,7 @@ use Rattle.export_store.specs.Pages.{Pages, IsPaged, stored_page, is_stored, is_
 use Rattle.export_store.proofs.ImageLemmas.{shown, at_zero_page, length-zero_page, length-image_of, at_image}
 use Rattle.export_store.proofs.RangeLemmas.{whole_touched, untouched_at, edge_at, byte_places}
 
-either : (b : Bool) → (b ≡ true) ⊎ (b ≡ false)
+pub either : (b : Bool) → (b ≡ true) ⊎ (b ≡ false)
 either true = inl refl
 either false = inr refl
 
@@ -183,6 +183,13 @@ given_apart s m true w apart stored = refl
 given_apart true m false w apart stored = apart refl
 given_apart false m false w apart stored = absurd (cc)
 
+or_true : (a : Bool) → (a || true) ≡ true
+or_true true = refl
+or_true false = refl
+
+pub held_of_zeros : (pages : Pages) (k : ℕ) → is_held_zeros pages k ≡ true → is_held pages k ≡ true
+held_of_zeros pages k zeros = ap (λ (b : Bool). is_stored pages k || b) zeros ∙ or_true (is_stored pages k)
+
 or_same : (a b c d : Bool) → a ≡ c → b ≡ d → (a || b) ≡ (c || d)
 or_same a b c d e f = rw (e, f) refl
 
@@ -270,6 +277,10 @@ emptied size offset count first last a e k stays some within begins ends goes af
       ]
     ]
 
+pub none_either : (b : Bool) (page : Option (List ℕ)) → page ≡ None → (if b then None else page) ≡ None
+none_either true page none = refl
+none_either false page none = none
+
 -- The page of a number after the whole pages of a range are removed and those at its edges cleared.
 module _ (size offset count first last start m n k : ℕ) (some : 0 < count) (within : offset + count ≤ size) (begins : first ≡ offset / 4096) (starts : start ≡ offset % 4096) (covers : m ≡ min count (4096 - start))
     (ends : last ≡ (offset + count - 1) / 4096) (rest : n ≡ offset + count - last * 4096) (was gone front back : Option (List ℕ)) (here : k ≡ first → front ≡ cleared start m gone) (others : k ≢ first → front ≡ gone)
@@ -338,3 +349,16 @@ module _ (size offset count first last start m n k : ℕ) (some : 0 < count) (wi
               ]
         ]
       ]
+
+-- the same of all numbers
+pub all_zeroed : (size offset count first last start m n begin end : ℕ) → 0 < count → offset + count ≤ size → first ≡ offset / 4096 → start ≡ offset % 4096 → m ≡ min count (4096 - start)
+    → last ≡ (offset + count - 1) / 4096 → n ≡ offset + count - last * 4096 → (was gone front back : ℕ → Option (List ℕ))
+    → ((k : ℕ) → 4096 * k < size → is_between begin end k ≡ lies_whole_in size offset count k) → ((k : ℕ) → gone k ≡ (if is_between begin end k then None else was k))
+    → front first ≡ cleared start m (gone first) → ((k : ℕ) → k ≢ first → front k ≡ gone k)
+    → (last ≢ first → back last ≡ cleared 0 n (front last)) → (last ≡ first → (k : ℕ) → back k ≡ front k) → ((k : ℕ) → k ≢ last → back k ≡ front k)
+    → ((k : ℕ) → is_some (was k) ≡ true → 4096 * k < size) → (k : ℕ) → back k ≡ zeroed size offset count k (was k)
+all_zeroed size offset count first last start m n begin end some within begins starts covers ends rest was gone front back between removed here others there alone beside inside k =
+    page_zeroed size offset count first last start m n k some within begins starts covers ends rest (was k) (gone k) (front k) (back k)
+    (λ e. ap front e ∙ here ∙ ap (λ (j : ℕ). cleared start m (gone j)) (sym e)) (others k)
+    (λ e two. ap back e ∙ there two ∙ ap (λ (j : ℕ). cleared 0 n (front j)) (sym e)) (λ one. alone one k) (beside k)
+    (inside k) (λ lt. removed k ∙ ap (λ (b : Bool). if b then None else was k) (between k lt)) (λ none. removed k ∙ none_either (is_between begin end k) (was k) none)

@@ -99,7 +99,8 @@ pub(crate) fn zero_pages<A: Allocator + Copy>(
     let (first, start) = (offset / PAGE, offset % PAGE);
     pages.clear(alloc, first, start, count.min(PAGE - start), swept);
     let last = (offset + count - 1) / PAGE;
-    if last != first {
-        pages.clear(alloc, last, 0, offset + count - last * PAGE, swept);
+    if last == first {
+        return;
     }
+    pages.clear(alloc, last, 0, offset + count - last * PAGE, swept);
 }

@@ -348,7 +348,8 @@ fn what_was_read_stays_as_it_was(rt: HostRuntime) -> Result<(), NoMemory> {
     Ok(())
 }
 
-// A list of the pages takes memory, the pages of the payload none. A page of the image that isn't one of them is copied.
+// A list of the pages takes memory, the pages of the payload none. A page of the image that isn't one of them is copied, which takes
+// memory for its bytes and for the count of their owners.
 #[test]
 fn pages_are_taken_from_a_payload(rt: HostRuntime) -> Result<(), NoMemory> {
     let heap = Refusing::new(rt.alloc(), 0);
@@ -358,8 +359,8 @@ fn pages_are_taken_from_a_payload(rt: HostRuntime) -> Result<(), NoMemory> {
         (0usize, 0, 65536, 1u64),
         (4096, 0, 4096, 0),
         (4096, 0, 8192, 1),
-        (4100, 4100, 4096, 3),
-        (4096, 1, 4096, 1),
+        (4100, 4100, 4096, 5),
+        (4096, 1, 4096, 2),
     ] {
         heap.arm(0);
         let piece = sevens(&heap, begin, count)?;

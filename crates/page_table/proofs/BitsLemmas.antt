@@ -9,7 +9,7 @@ use Rattle.std.proofs.lemmas.List.{get_or-set_same, get_or-set_other, get_or_pas
 use Rattle.std.proofs.lemmas.Bool.{cases_lt, cases_eq}
 use Rattle.std.proofs.lemmas.Bool.Decides.{nat_tests}
 use Rattle.page_table.specs.Bits.{is_set, any_set, is_between}
-use Rattle.page_table.proofs.CountLemmas.{count_of, count-cons, count-shift}
+use Rattle.page_table.proofs.CountLemmas.{count_of, count_le, count-zero, count-cons, count-append, count-shift}
 use Rattle.page_table.proofs.RangeLemmas.{between_yes, between_before, between_behind}
 
 pub bit_test : (word k : ℕ) → k < 64 → not (nat_eq (bit_and word (1 * 2 ^ k % 18446744073709551616)) 0) ≡ nat_eq (bit_at word k) 1
@@ -115,7 +115,7 @@ unfolding ones
 no_ones = refl
 
 ones_below : (n word : ℕ) → word < 2 ^ n → count_ones word ≡ count_of (λ i. nat_eq (bit_at word i) 1) 0 n
-ones_below zero word below = let none : word ≡ 0 = omega arith in rw none no_ones
+ones_below zero word below = let none : word ≡ 0 = omega arith in rw none (no_ones ∙ sym (count-zero (λ i. nat_eq (bit_at 0 i) 1) 0))
 ones_below (suc n) word below =
     let half : word / 2 < 2 ^ n = omega arith in
     let rest : count_of (λ i. nat_eq (bit_at word i) 1) 1 n ≡ count_of (λ i. nat_eq (bit_at (word / 2) i) 1) 0 n =
@@ -130,3 +130,13 @@ ones_in words i word first n begins all is below =
     let place : j / 64 ≡ i = omega arith in
     let bit : j % 64 ≡ k = omega arith in
     rw (place, bit) (ap (λ (w : ℕ). nat_eq (bit_at w k) 1) (sym is))))
+
+-- a word has no more of them than bits
+pub ones_few : (n word : ℕ) → word < 2 ^ n → count_ones word ≤ n
+ones_few n word below = omega (arith, ones_below n word below, count_le (λ i. nat_eq (bit_at word i) 1) 0 n)
+
+-- those of one more word are counted
+pub count_next : (words : List ℕ) (i word count first n next : ℕ) → first ≡ 64 * i → n ≡ 64 → next ≡ first + n → word ≡ get_or words i 0 → word < 2 ^ n → count ≡ count_of (is_set words) 0 first
+    → count + count_ones word ≡ count_of (is_set words) 0 next
+count_next words i word count first n next begins all ends is below was =
+    omega (arith, was, ones_in words i word first n begins all is below, count-append (is_set words) 0 first n next first ends refl)

@@ -1,13 +1,15 @@
 -- A chunk after one of its places has changed.
-use Rattle.std.proofs.Common.{◌≡◌, ◌≢◌, ℕ, zero, suc, ◌+◌, ◌<◌, ◌≤◌, Bool, true, false, not, ◌||◌, ◌&&◌, ◌==◌, nat_eq, is_some, inl, inr, Option, Some, None, List, [], ◌∷◌, ◌++◌, length, get_or, set, replicate, refl, sym, ap, ◌∙◌, arith}
+use Rattle.std.proofs.Common.{◌≡◌, ◌≢◌, ℕ, zero, suc, ◌+◌, ◌<◌, ◌≤◌, Bool, true, false, not, ◌||◌, ◌&&◌, ◌==◌, nat_eq, is_some, inl, inr, Option, Some, None, List, [], ◌∷◌, ◌++◌, length, get_or, set, replicate, take, drop, cond, ◌*◌, if◌then◌else◌, Result, Ok, Err, IfOk, refl, sym, ap, ◌∙◌, arith}
 use Rattle.std.specs.List.{filter}
 use Rattle.std.proofs.lemmas.Bool.Decides.{nat_tests}
 use Rattle.std.proofs.lemmas.Bool.{cases_lt}
-use Rattle.std.proofs.lemmas.List.{get_or_default, get_or-set_same, get_or-set_other, get_or_past}
-use Rattle.page_table.specs.Bits.{is_between}
-use Rattle.page_table.specs.Table.{Chunk, no_chunk, is_hole, shown_page, in_place, taken, cleared}
+use Rattle.std.proofs.lemmas.List.{take-replicate, length-replicate, get_or_default, get_or-set_same, get_or-set_other, get_or_past}
+use Rattle.payload.specs.Rows.{zero_page}
+use Rattle.page_table.specs.Bits.{is_set, any_set, is_between}
+use Rattle.page_table.specs.Table.{Chunk, no_chunk, is_hole, shown, shown_page, in_place, taken, cleared}
 use Rattle.page_table.proofs.ShownLemmas.{page_none, page_same, page_dug}
-use Rattle.page_table.proofs.CountLemmas.{count_some, count_zero}
+use Rattle.page_table.proofs.BitsLemmas.{part_set, not_any}
+use Rattle.page_table.proofs.CountLemmas.{count_set, count_some, count_zero}
 
 abbrev pub Places : Type 0
 Places = List (Option (List ℕ))
@@ -113,7 +115,7 @@ module _ (old new : Chunk) (place start count : ℕ) (same : new.pages ≡ old.p
       (λ j. dug k j ∙ or_and_false (is_hole old.holes k j) (nat_eq k place) (is_between start (start + count) j) (eq_other k place apart))
       ∙ sym (place_is old k)
 
-absent_page : (page : Option (List ℕ)) → is_some page ≡ false → page ≡ None
+pub absent_page : (page : Option (List ℕ)) → is_some page ≡ false → page ≡ None
 absent_page None absent = refl
 absent_page (Some page) absent = absurd (cc)
 
@@ -139,3 +141,61 @@ taken_some chunk place page there =
       | inl lt ↦ count_some is_some chunk.pages place lt (sym (some_place chunk place) ∙ ap is_some there)
       | inr le ↦ let bad : false ≡ true = ap is_some (sym (none_place chunk place (get_or_past chunk.pages place None le)) ∙ there) in absurd (cc)
     ]
+
+-- what holds of a result by what is told of it
+pub if_ok : {T E : Type 0} (r : Result T E) (P Q : T → Type 0) → ((x : T) → P x → Q x) → IfOk r P → IfOk r Q
+if_ok (Ok x) P Q so p = so x p
+if_ok (Err e) P Q so p = tt
+
+-- a page in a place, as it is shown
+pub shown_place : (chunk : Chunk) (place : ℕ) (page : List ℕ) → get_or chunk.pages place None ≡ Some page → in_place chunk place ≡ Some (shown (is_hole chunk.holes place) 0 page)
+shown_place chunk place page there = place_is chunk place ∙ ap (shown_page (is_hole chunk.holes place)) there
+
+-- a part of a page of zeros
+zero_page_is : (n : ℕ) → n ≡ 4096 → zero_page ≡ replicate n 0
+unfolding zero_page
+zero_page_is n e = ap (λ (k : ℕ). replicate k 0) (sym e)
+
+zeros_part : (n count : ℕ) → n ≡ 4096 → count ≤ 4096 → take count zero_page ≡ replicate count 0
+zeros_part n count all within = ap (take count) (zero_page_is n all) ∙ take-replicate count n 0 (omega arith)
+
+pub zeros_of : (zeros : List ℕ) (count : ℕ) → zeros ≡ zero_page → count ≤ 4096 → take count zeros ≡ replicate count 0
+zeros_of zeros count is within = ap (take count) is ∙ zeros_part 4096 count refl within
+
+-- where no word of a page has a bit
+and_false : (a b : Bool) → b ≡ false → (a && b) ≡ false
+and_false true b e = e
+and_false false b e = refl
+
+pub none_dug : (words : List ℕ) (first n place : ℕ) → first ≡ 64 * place → n ≡ 64 → any_set (take n (drop first words)) ≡ false → (k : ℕ) → is_hole words place k ≡ false
+none_dug words first n place begins all none k =
+    elim (cases_lt k 4096) [
+      | inl lt ↦ let at : 4096 * place + k ≡ 64 * first + k = omega arith in
+          and_false (nat_lt k 4096) (is_set words (4096 * place + k))
+          (ap (is_set words) at ∙ sym (part_set words first n k (omega arith)) ∙ not_any (take n (drop first words)) none k)
+      | inr le ↦ let over : nat_lt k 4096 ≡ false = grind (arith, nat_tests) in ap (λ (b : Bool). b && is_set words (4096 * place + k)) over
+    ]
+
+-- how many places are taken once another page, a first one or none is in one
+module _ (pages : Places) (place : ℕ) (before after : Option (List ℕ)) (below : place < length pages) (was : get_or pages place None ≡ before) where
+  counted : length (filter is_some (set pages place after)) + cond (is_some before) 1 0 ≡ length (filter is_some pages) + cond (is_some after) 1 0
+  counted = omega (arith, count_set is_some pages place after below, ap {B = ℕ} (λ (p : Option (List ℕ)). cond (is_some p) 1 0) was)
+
+  pub taken_again : (old new : List ℕ) → before ≡ Some old → after ≡ Some new → length (filter is_some (set pages place after)) ≡ length (filter is_some pages)
+  taken_again old new there is =
+      omega (arith, counted, ap {B = ℕ} (λ (p : Option (List ℕ)). cond (is_some p) 1 0) there, ap {B = ℕ} (λ (p : Option (List ℕ)). cond (is_some p) 1 0) is)
+
+  pub taken_more : (new : List ℕ) → before ≡ None → after ≡ Some new → length (filter is_some (set pages place after)) ≡ length (filter is_some pages) + 1
+  taken_more new there is =
+      omega (arith, counted, ap {B = ℕ} (λ (p : Option (List ℕ)). cond (is_some p) 1 0) there, ap {B = ℕ} (λ (p : Option (List ℕ)). cond (is_some p) 1 0) is)
+
+  pub taken_less : (old : List ℕ) → before ≡ Some old → after ≡ None → length (filter is_some (set pages place after)) + 1 ≡ length (filter is_some pages)
+  taken_less old there is =
+      omega (arith, counted, ap {B = ℕ} (λ (p : Option (List ℕ)). cond (is_some p) 1 0) there, ap {B = ℕ} (λ (p : Option (List ℕ)). cond (is_some p) 1 0) is)
+
+-- the same as contracts see it
+pub taken_seen : (found now : Chunk) (place : ℕ) (before : Option (List ℕ)) (count : ℕ) → found ≡ now → get_or found.pages place None ≡ before → count ≡ taken found + (if is_some before then 0 else 1)
+    → count ≡ taken now + (if is_some (in_place now place) then 0 else 1)
+taken_seen found now place before count seen was is =
+    is ∙ ap (λ (b : Bool). taken found + (if b then 0 else 1)) (sym (some_place found place ∙ ap is_some was))
+    ∙ ap (λ (chunk : Chunk). taken chunk + (if is_some (in_place chunk place) then 0 else 1)) seen

@@ -1,15 +1,23 @@
 -- How many numbers in a row pass a test.
-use Rattle.std.proofs.Common.{◌≡◌, ℕ, zero, suc, ◌+◌, ◌-◌, ◌<◌, ◌≤◌, Bool, true, false, ◌||◌, cond, get_or, set, Option, None, List, [], ◌∷◌, length, refl, ap, ◌∙◌, arith}
+use Rattle.std.proofs.Common.{◌≡◌, ℕ, zero, suc, ◌+◌, ◌-◌, ◌<◌, ◌≤◌, Bool, true, false, ◌||◌, cond, get_or, set, Option, None, List, [], ◌∷◌, length, refl, sym, ap, ◌∙◌, arith}
 use Rattle.std.specs.List.{filter, range_with_len}
+pub use Rattle.page_table.specs.Bits.{count_of}
 
-abbrev pub count_of : (ℕ → Bool) → ℕ → ℕ → ℕ
-count_of p from n = length (filter p (range_with_len from n))
+-- as a list of those that pass
+pub count_is : (p : ℕ → Bool) (from n : ℕ) → count_of p from n ≡ length (filter p (range_with_len from n))
+unfolding count_of
+count_is p from n = refl
+
+pub count-zero : (p : ℕ → Bool) (from : ℕ) → count_of p from zero ≡ 0
+unfolding count_of
+count-zero p from = refl
 
 length-cond : {X : Type 0} (b : Bool) (x : X) (xs : List X) → length (cond b (x ∷ xs) xs) ≡ cond b 1 0 + length xs
 length-cond true x xs = omega arith
 length-cond false x xs = omega arith
 
 pub count-cons : (p : ℕ → Bool) (from n : ℕ) → count_of p from (suc n) ≡ cond (p from) 1 0 + count_of p (from + 1) n
+unfolding count_of
 count-cons p from n = length-cond (p from) from (filter p (range_with_len (from + 1) n))
 
 cond_le : (b : Bool) → cond b 1 0 ≤ 1
@@ -17,11 +25,11 @@ cond_le true = omega arith
 cond_le false = omega arith
 
 pub count_le : (p : ℕ → Bool) (from n : ℕ) → count_of p from n ≤ n
-count_le p from zero = omega arith
+count_le p from zero = omega (arith, count-zero p from)
 count_le p from (suc n) = omega (arith, count-cons p from n, cond_le (p from), count_le p (from + 1) n)
 
 pub count-none : (p : ℕ → Bool) (from n : ℕ) → ((k : ℕ) → from ≤ k → k < from + n → p k ≡ false) → count_of p from n ≡ 0
-count-none p from zero none = refl
+count-none p from zero none = count-zero p from
 count-none p from (suc n) none =
     let here : p from ≡ false = none from (omega arith) (omega arith) in
     let rest : count_of p (from + 1) n ≡ 0 = count-none p (from + 1) n (λ k above below. none k (omega arith) (omega arith)) in
@@ -31,7 +39,7 @@ pub count-append : (p : ℕ → Bool) (from m n all mid : ℕ) → all ≡ m + n
 count-append p from zero n all mid both next =
     let same : all ≡ n = omega arith in
     let begin : mid ≡ from = omega arith in
-    let none : count_of p from zero ≡ 0 = refl in
+    let none : count_of p from zero ≡ 0 = count-zero p from in
     rw (same, begin) (omega (arith, none))
 count-append p from (suc m) n all mid both next =
     let more : all ≡ suc (m + n) = omega arith in
@@ -40,7 +48,7 @@ count-append p from (suc m) n all mid both next =
 
 -- of one test here, and of another there that says the same
 pub count-shift : (p q : ℕ → Bool) (from to n : ℕ) → ((i j : ℕ) → from ≤ i → i < from + n → j + from ≡ to + i → q j ≡ p i) → count_of q to n ≡ count_of p from n
-count-shift p q from to zero same = refl
+count-shift p q from to zero same = count-zero q to ∙ sym (count-zero p from)
 count-shift p q from to (suc n) same =
     let here : q to ≡ p from = same from to (omega arith) (omega arith) (omega arith) in
     let rest : count_of q (to + 1) n ≡ count_of p (from + 1) n = count-shift p q (from + 1) (to + 1) n (λ i j above below is. same i j (omega arith) (omega arith) (omega arith)) in
@@ -65,14 +73,14 @@ either_cond false true apart = refl
 either_cond false false apart = refl
 
 pub count_both : (p q : ℕ → Bool) (from n : ℕ) → ((k : ℕ) → p k ≡ true → q k ≡ false) → count_of (λ k. p k || q k) from n ≡ count_of p from n + count_of q from n
-count_both p q from zero apart = refl
+count_both p q from zero apart = omega (arith, count-zero (λ k. p k || q k) from, count-zero p from, count-zero q from)
 count_both p q from (suc n) apart =
     omega (arith, count-cons (λ k. p k || q k) from n, count-cons p from n, count-cons q from n, either_cond (p from) (q from) (apart from), count_both p q (from + 1) n apart)
 
 -- how many elements of a list pass one, by their places
 pub count_list : {X : Type 0} (test : Option X → Bool) (xs : List (Option X)) (p : ℕ → Bool) (from n : ℕ) → n ≡ length xs
     → ((i j : ℕ) → i < n → j ≡ from + i → p j ≡ test (get_or xs i None)) → count_of p from n ≡ length (filter test xs)
-count_list test [] p from zero long same = refl
+count_list test [] p from zero long same = count-zero p from
 count_list test [] p from (suc n) long same = absurd (omega arith)
 count_list test (x ∷ xs) p from zero long same = absurd (omega arith)
 count_list test (x ∷ xs) p from (suc n) long same =

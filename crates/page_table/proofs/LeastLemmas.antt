@@ -5,7 +5,7 @@ use Rattle.std.specs.Cmp.{nat_cmp_is}
 use Rattle.std.specs.Option.{IfSome}
 use Rattle.std.specs.List.{slice_get}
 use Rattle.std.specs.declared.cmp.Ordering.TheVariants.{Less, Equal}
-use Rattle.std.specs.declared.ops.bounds.Bound.TheVariants.{Included, Excluded}
+use Rattle.std.specs.declared.ops.Bound.TheVariants.{Included, Excluded}
 use Rattle.std.specs.BTreeMap.{BTreeMap, get}
 use Rattle.std.specs.BTreeMap.Range.{IsLeBy, IsInRange, IsRangeOf}
 use Rattle.std.proofs.lemmas.Bool.{cases_lt}
@@ -14,7 +14,7 @@ use Rattle.std.proofs.lemmas.Map.Keys.{le_from_not_gt}
 module _ {V : Type 0} where
   not_some : (found : Option V) → (IsSome found → ⊥) → found ≡ None
   not_some None bad = refl
-  not_some (Some value) bad = absurd (bad tt)
+  not_some (Some value) bad = absurd (bad refl)
 
   not_below : (a b : ℕ) → a ≤ b → is_gt (nat_cmp a b) ≡ false
   not_below a b le =

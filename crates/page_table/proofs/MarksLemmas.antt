@@ -1,12 +1,13 @@
 -- A set in bitmaps after one of these has changed.
-use Rattle.std.proofs.Common.{◌≡◌, ◌≢◌, ℕ, ◌+◌, ◌-◌, ◌*◌, ◌/◌, ◌%◌, ◌<◌, ◌≤◌, inl, inr, Bool, true, false, unwrap_or, IsSome, IfSome, Option, None, Some, List, [], ◌∷◌, min, if◌then◌else◌, refl, sym, ap, subst, ◌∙◌, arith}
+use Rattle.std.proofs.Common.{◌≡◌, ◌≢◌, ℕ, ◌+◌, ◌-◌, ◌*◌, ◌/◌, ◌%◌, ◌<◌, ◌≤◌, inl, inr, Bool, true, false, unwrap_or, IsSome, IfSome, Option, None, Some, List, [], ◌∷◌, min, max, if◌then◌else◌, refl, sym, ap, subst, ◌∙◌, arith}
 use Rattle.std.specs.Ordering.{nat_cmp}
 use Rattle.std.specs.BTreeMap.{BTreeMap, get, UpdatesBy}
-use Rattle.std.proofs.lemmas.Bool.{cases_eq}
+use Rattle.std.specs.Int.{div_ceil}
+use Rattle.std.proofs.lemmas.Bool.{cases_lt, cases_eq}
 use Rattle.page_table.specs.Bits.{is_set, any_set, is_between}
 use Rattle.page_table.specs.Marks.{bitmap_of, is_marked, AreUsed}
 use Rattle.page_table.proofs.CountLemmas.{count_of, count-none, count-shift}
-use Rattle.page_table.proofs.RangeLemmas.{between_block}
+use Rattle.page_table.proofs.RangeLemmas.{between_yes, between_before, between_behind, between_block}
 use Rattle.page_table.proofs.BitsLemmas.{empty_set, not_any}
 use Rattle.page_table.proofs.TableLemmas.{updates_others, if_none}
 
@@ -108,4 +109,37 @@ module _ (m n : BTreeMap ℕ (List ℕ)) (q first end : ℕ) (member : Bool) (wo
       ∙ ap (λ (b : Bool). if is_between first end k then member else b) (found_marked m.entries k q words is found)
 
   pub put_there : IsSome (bitmap_of n.entries q)
-  put_there = subst IsSome (sym updates.1) tt
+  put_there = subst IsSome (sym updates.1) refl
+
+-- a bitmap all of whose numbers are in the range goes
+pub whole_unmarked : (old new : Bitmaps) (q first end : ℕ) → first ≤ q * 16384 → q * 16384 + 16384 ≤ end → bitmap_of new q ≡ None
+    → (k : ℕ) → k / 16384 ≡ q → is_marked new k ≡ (if is_between first end k then false else is_marked old k)
+whole_unmarked old new q first end above below gone k is =
+    let inside : is_between first end k ≡ true = between_yes first end k (omega arith) (omega arith) in
+    absent_marked new k q is gone ∙ ap (λ (b : Bool). if b then false else is_marked old k) (sym inside)
+
+-- bitmaps were made, and have members now
+module _ (old mid new : Bitmaps) (first end : ℕ) (some : first < end) (was : AreUsed old)
+    (made : (q : ℕ) → is_between (first / 16384) (div_ceil end 16384) q ≡ false → bitmap_of mid q ≡ bitmap_of old q)
+    (others : (q : ℕ) → is_between (first / 16384) (div_ceil end 16384) q ≡ false → bitmap_of new q ≡ bitmap_of mid q) where
+  used_outside : (p : ℕ) → is_between (first / 16384) (div_ceil end 16384) p ≡ false → IfSome (bitmap_of new p) (λ words. any_set words ≡ true)
+  used_outside p outside = subst (λ (w : Option (List ℕ)). IfSome w (λ words. any_set words ≡ true)) (sym (others p outside ∙ made p outside)) (was p)
+
+  used_where : ((p : ℕ) → first / 16384 ≤ p → p < div_ceil end 16384 → IfSome (bitmap_of new p) (λ words. any_set words ≡ true)) → AreUsed new
+  used_where inside p =
+      elim (cases_lt p (first / 16384)) [
+        | inl lt ↦ used_outside p (between_before (first / 16384) (div_ceil end 16384) p lt)
+        | inr ge ↦ elim (cases_lt p (div_ceil end 16384)) [
+          | inl lt ↦ inside p ge lt
+          | inr le ↦ used_outside p (between_behind (first / 16384) (div_ceil end 16384) p le)
+        ]
+      ]
+
+  pub used_put : ((k : ℕ) → is_marked new k ≡ (if is_between first end k then true else is_marked mid k)) → AreUsed new
+  used_put put =
+      used_where (λ p ge lt.
+      let k : ℕ = max first (16384 * p) in
+      used_member new k p (omega arith) (put k ∙ ap (λ (b : Bool). if b then true else is_marked mid k) (between_yes first end k (omega arith) (omega arith))))
+
+  pub used_dropped : ((q : ℕ) → first / 16384 ≤ q → q < div_ceil end 16384 → IfSome (bitmap_of new q) (λ words. any_set words ≡ true)) → AreUsed new
+  used_dropped left = used_where left

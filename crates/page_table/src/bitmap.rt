@@ -1,6 +1,5 @@
-ghost use Rattle.std.specs.Prelude.{◌≡◌, ℕ, ◌≤◌, length, false, IfOk, if◌then◌else◌};
-ghost use Rattle.std.specs.List.{filter, range_with_len};
-ghost use Rattle.page_table.specs.Bits.{is_set, any_set, is_between};
+ghost use Rattle.std.specs.Prelude.{◌≡◌, ℕ, ◌≤◌, false, IfOk, if◌then◌else◌};
+ghost use Rattle.page_table.specs.Bits.{is_set, any_set, is_between, count_of};
 
 use crate::bits;
 use nbd_base::NoMemory;
@@ -53,7 +52,7 @@ impl<A: Allocator + Copy> Bitmap<A> {
 
     /// How many members there are.
     pub(crate) fn count(&self) -> usize
-        ensures count { result ≡ length (filter (is_set self.now) (range_with_len 0 16384)) }
+        ensures count { result ≡ count_of (is_set self.now) 0 16384 }
         ensures few { result ≤ 16384 }
     {
         bits::count(self.words.as_slice())

@@ -1,8 +1,7 @@
 //! Sets of numbers as bits, 64 in a word, the lowest of the first word for 0.
 ghost use Rattle.std.specs.Prelude.{◌≡◌, ◌≢◌, ℕ, ◌+◌, ◌*◌, ◌<◌, ◌≤◌, ◌==◌, length, if◌then◌else◌};
 ghost use Rattle.std.specs.Int.{bit_at};
-ghost use Rattle.std.specs.List.{filter, range_with_len};
-ghost use Rattle.page_table.specs.Bits.{is_set, any_set, is_between};
+ghost use Rattle.page_table.specs.Bits.{is_set, any_set, is_between, count_of};
 
 /// Whether a number is a member.
 pub(crate) fn has(words: &[u64], number: usize) -> bool
@@ -24,7 +23,7 @@ pub(crate) fn any(words: &[u64]) -> bool
 /// How many members there are.
 pub(crate) fn count(words: &[u64]) -> usize
     requires { length words.now ≤ 256 }
-    ensures { result ≡ length (filter (is_set words.now) (range_with_len 0 (64 * length words.now))) }
+    ensures { result ≡ count_of (is_set words.now) 0 (64 * length words.now) }
 {
     let mut count = 0;
     for word in words {

@@ -1,4 +1,4 @@
-ghost use Rattle.std.specs.Prelude.{◌≡◌, ℕ, ◌+◌, ◌<◌, ◌≤◌, ◌≢◌, None, Some, IfOk, is_some, slice_index_or, if◌then◌else◌};
+ghost use Rattle.std.specs.Prelude.{◌≡◌, ℕ, ◌+◌, ◌<◌, ◌≤◌, ◌≢◌, None, Some, IfOk, is_some, length, slice_index_or, if◌then◌else◌};
 ghost use Rattle.page_table.specs.Bits.{is_between};
 ghost use Rattle.page_table.specs.Table.{in_place, taken, cleared};
 
@@ -56,6 +56,7 @@ impl<A: Allocator + Copy> Chunk<A> {
     pub(crate) fn taken(&self) -> usize
         ensures count { result ≡ taken self.now }
         ensures few { result ≤ 256 }
+        ensures long { length self.now.pages ≡ 256 }
     {
         self.taken
     }

@@ -1,7 +1,6 @@
-ghost use Rattle.std.specs.Prelude.{◌≡◌, ℕ, ◌+◌, ◌*◌, ◌/◌, ◌%◌, ◌<◌, ◌≤◌, ◌^◌, ◌≢◌, ◌||◌, ◌&&◌, not, unwrap_or, [], None, Some, IsSome, IfSome, OnOk, OnErr, true, false, length, if◌then◌else◌};
+ghost use Rattle.std.specs.Prelude.{◌≡◌, ℕ, ◌+◌, ◌*◌, ◌/◌, ◌%◌, ◌<◌, ◌≤◌, ◌^◌, ◌≢◌, ◌||◌, ◌&&◌, not, unwrap_or, [], None, Some, IsSome, IfSome, OnOk, OnErr, true, false, if◌then◌else◌};
 ghost use Rattle.std.specs.Int.{div_ceil};
-ghost use Rattle.std.specs.List.{filter, range_with_len};
-ghost use Rattle.page_table.specs.Bits.{is_set, any_set, is_between};
+ghost use Rattle.page_table.specs.Bits.{is_set, any_set, is_between, count_of};
 ghost use Rattle.page_table.specs.Marks.{bitmap_of, is_marked};
 
 use crate::bitmap::{BITMAP, Bitmap};
@@ -215,7 +214,7 @@ impl<A: Allocator + Copy> HeldZeros<A> {
 
     // How many pages of a bitmap are.
     fn count_in(&self, bitmap: usize) -> usize
-        ensures count { result ≡ length (filter (is_marked self.now) (range_with_len (16384 * bitmap) 16384)) }
+        ensures count { result ≡ count_of (is_marked self.now) (16384 * bitmap) 16384 }
         ensures few { result ≤ 16384 }
     {
         match self.bitmaps.get(&bitmap) {
@@ -227,7 +226,7 @@ impl<A: Allocator + Copy> HeldZeros<A> {
     /// How many pages of the first bitmaps are. It looks at those that are there alone.
     pub fn count(&self, bitmaps: usize) -> usize
         requires { 16384 * bitmaps < 2 ^ 64 }
-        ensures { result ≡ length (filter (is_marked self.now) (range_with_len 0 (16384 * bitmaps))) }
+        ensures { result ≡ count_of (is_marked self.now) 0 (16384 * bitmaps) }
     {
         let mut count = 0;
         let mut from = 0;

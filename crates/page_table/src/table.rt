@@ -1,6 +1,5 @@
-ghost use Rattle.std.specs.Prelude.{◌≡◌, ℕ, ◌+◌, ◌*◌, ◌/◌, ◌%◌, ◌<◌, ◌≤◌, ◌^◌, ◌≢◌, None, Some, IfOk, IsOk, IsSome, IfSome, OnOk, OnErr, is_some, true, length, if◌then◌else◌};
-ghost use Rattle.std.specs.List.{filter, range_with_len};
-ghost use Rattle.page_table.specs.Bits.{is_between};
+ghost use Rattle.std.specs.Prelude.{◌≡◌, ℕ, ◌+◌, ◌*◌, ◌/◌, ◌%◌, ◌<◌, ◌≤◌, ◌^◌, ◌≢◌, None, Some, IfOk, IsOk, IsSome, IfSome, OnOk, OnErr, is_some, true, if◌then◌else◌};
+ghost use Rattle.page_table.specs.Bits.{is_between, count_of};
 ghost use Rattle.page_table.specs.Table.{in_table, cleared, chunk_of, in_chunk, taken};
 
 use crate::chunk::CHUNK;
@@ -188,7 +187,7 @@ impl<A: Allocator + Copy> Table<A> {
 
     // How many pages of a chunk are stored.
     fn stored_in(&self, chunk: usize) -> usize
-        ensures count { result ≡ length (filter (λ k. is_some (in_table self.now k)) (range_with_len (256 * chunk) 256)) }
+        ensures count { result ≡ count_of (λ k. is_some (in_table self.now k)) (256 * chunk) 256 }
         ensures few { result ≤ 256 }
     {
         match self.chunks.get(&chunk) {
@@ -200,7 +199,7 @@ impl<A: Allocator + Copy> Table<A> {
     /// How many pages are stored in the first chunks. It looks at those that are there alone.
     pub fn stored(&self, chunks: usize) -> usize
         requires { 256 * chunks < 2 ^ 64 }
-        ensures { result ≡ length (filter (λ k. is_some (in_table self.now k)) (range_with_len 0 (256 * chunks))) }
+        ensures { result ≡ count_of (λ k. is_some (in_table self.now k)) 0 (256 * chunks) }
     {
         let mut count = 0;
         let mut from = 0;

@@ -9,11 +9,11 @@ loop-next-init c = record { begun = omega arith; upto = omega arith; put = put_n
 pub loop-next-preserved : goal.loop-next-preserved
 loop-next-preserved c =
     let before = c.loop-next.invariant in
-    let after = c.put_some.ensures in
+    let after = c.put_some-next.ensures in
     record {
       begun = omega (arith, before.begun, after.more);
       upto = omega (arith, after.upto);
-      put = put_step c.args.member (is_set c.args.words.now) (is_set c.loop-next.words) (is_set c.put_some.new.words) c.args.first c.loop-next.next c.put_some.result before.begun (omega (arith, after.more)) before.put after.put;
+      put = put_step c.args.member (is_set c.args.words.now) (is_set c.loop-next.words) (is_set c.put_some-next.new.words) c.args.first c.loop-next.next c.put_some-next.result before.begun (omega (arith, after.more)) before.put after.put;
     }
 
 pub returns : goal.returns

@@ -1,7 +1,8 @@
 use Rattle.std.proofs.Common.{◌≡◌, ◌∙◌, ◌/◌, ◌<◌, true, ℕ, IsSome, inl, inr, refl, sym, subst, arith}
+use Rattle.std.specs.Int.{div_ceil}
 use Rattle.std.proofs.lemmas.Bool.{cases_eq}
 use Rattle.page_table.specs.Marks.{bitmap_of, is_marked}
-use Rattle.page_table.proofs.RangeLemmas.{between_before, between_behind, put_begun, put_more, put_done}
+use Rattle.page_table.proofs.RangeLemmas.{between_less, between_before, between_behind, put_begun, put_more, put_done}
 use Rattle.page_table.proofs.MarksLemmas.{other_bitmap}
 use Rattle.page_table.proofs.held_zeros.put_all.Goals as goal
 
@@ -26,7 +27,7 @@ loop-bitmap-preserved g c =
         | inl e ↦ subst (λ (n : ℕ). IsSome (bitmap_of c.put_in.new.bitmaps.entries n)) (sym e) after.there
         | inr apart ↦ subst IsSome (sym (after.others q apart)) (before.there q above below)
       ];
-      others = λ q outside. after.others q ? ∙ before.others q outside;
+      others = λ q outside. after.others q (between_less (c.args.first / 16384) (div_ceil c.args.end 16384) at q before.begun (omega (arith, c.loop-bitmap-test.true, c.div_ceil-bitmap-end.ensures)) outside).0 ∙ before.others q outside;
     }
 
 pub returns-clause-put : goal.returns-clause-put

@@ -1,4 +1,4 @@
-use Rattle.std.proofs.Common.{◌≡◌, ◌∙◌, ◌++◌, ◌∷◌, [], None, replicate, length, is_some, refl, sym, ap, arith}
+use Rattle.std.proofs.Common.{◌≡◌, ◌∙◌, ◌++◌, ◌∷◌, [], None, replicate, length, get_or, is_some, refl, sym, ap, arith}
 use Rattle.std.specs.List.{filter}
 use Rattle.std.proofs.lemmas.List.{length-replicate, replicate_more}
 use Rattle.page_table.proofs.ChunkLemmas.{Places, nones_taken, nones_at, none_place}
@@ -14,4 +14,4 @@ invariant_of-result g c =
     (ap length c.loop.invariant ∙ length-replicate c.loop.counter None ∙ all, sym (ap (λ (pages : Places). length (filter is_some pages)) c.loop.invariant ∙ nones_taken c.loop.counter))
 
 pub returns : goal.returns
-returns g c = λ k. none_place _ k ?
+returns g c = λ k. none_place (record { pages = c.loop.pages.items; holes = c.in_ok-holes.holes }) k (ap (λ (pages : Places). get_or pages k None) c.loop.invariant ∙ nones_at c.loop.counter k)

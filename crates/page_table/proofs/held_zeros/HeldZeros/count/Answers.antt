@@ -5,7 +5,8 @@ use Rattle.page_table.proofs.MarksLemmas.{none_between}
 use Rattle.page_table.proofs.held_zeros.HeldZeros.count.Goals as goal
 
 pub overflow_add-count : goal.overflow_add-count
-overflow_add-count g c = ?
+overflow_add-count g c =
+    omega (arith, c.loop-bitmap.invariant.count, count_le (is_marked c.args.self.now) 0 (16384 * c.loop-bitmap.next), c.count_in.ensures.few, c.in-Some.ensures.ends, c.in-Some.ensures.begins, c.requires)
 
 pub loop-bitmap-preserved : goal.loop-bitmap-preserved
 loop-bitmap-preserved g c =
@@ -13,11 +14,11 @@ loop-bitmap-preserved g c =
     let self = c.args.self.now in
     record {
       within = omega arith;
-      count = count_more (is_marked self) (16384 * c.loop-bitmap.from) (16384 * c.in-Some.bitmap) (16384 * (c.in-Some.bitmap + 1)) 16384 c.loop-bitmap.count c.count_in.result before.count (omega (arith, c.in-Some.ensures.begins))
-          (none_between self c.loop-bitmap.from c.in-Some.bitmap c.in-Some.ensures.first) c.count_in.ensures.count (omega arith);
+      count = count_more (is_marked self) (16384 * c.loop-bitmap.next) (16384 * c.in-Some.bitmap) (16384 * (c.in-Some.bitmap + 1)) 16384 c.loop-bitmap.count c.count_in.result before.count (omega (arith, c.in-Some.ensures.begins))
+          (none_between self c.loop-bitmap.next c.in-Some.bitmap c.in-Some.ensures.first) c.count_in.ensures.count (omega arith);
     }
 
 pub returns : goal.returns
 returns g c =
     let before = c.loop-bitmap.invariant in
-    before.count ∙ count-upto (is_marked c.args.self.now) (16384 * c.loop-bitmap.from) (16384 * c.args.bitmaps) (omega (arith, before.within)) (none_between c.args.self.now c.loop-bitmap.from c.args.bitmaps ?)
+    before.count ∙ count-upto (is_marked c.args.self.now) (16384 * c.loop-bitmap.next) (16384 * c.args.bitmaps) (omega (arith, before.within)) (none_between c.args.self.now c.loop-bitmap.next c.args.bitmaps ?)

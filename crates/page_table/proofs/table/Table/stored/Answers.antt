@@ -5,7 +5,8 @@ use Rattle.page_table.proofs.TableLemmas.{none_between}
 use Rattle.page_table.proofs.table.Table.stored.Goals as goal
 
 pub overflow_add-count : goal.overflow_add-count
-overflow_add-count g c = ?
+overflow_add-count g c =
+    omega (arith, c.loop-chunk.invariant.count, count_le (λ k. is_some (in_table c.args.self.now k)) 0 (256 * c.loop-chunk.from), c.stored_in.ensures.few, c.in-Some.ensures.ends, c.in-Some.ensures.begins, c.requires)
 
 pub loop-chunk-preserved : goal.loop-chunk-preserved
 loop-chunk-preserved g c =

@@ -7,7 +7,7 @@ pub returns-in-Some : goal.returns-in-Some
 returns-in-Some g c =
     let n = c.args.number in
     c.stores.ensures
-    ∙ ap (λ (chunk : Chunk). is_some (in_place chunk (n % 256))) c.get-2.ensures
+    ∙ ap (λ (chunk : Chunk). is_some (in_place chunk (n % 256))) c.get-in-Some.ensures
     ∙ ap is_some (found_is c.self.inside.chunks.entries n (n / 256) c.in-Some.node.now refl c.in-Some.ensures.value)
     ∙ ap (λ (all : List (ℕ × Chunk)). is_some (in_table all n)) c.self.view_is
 
