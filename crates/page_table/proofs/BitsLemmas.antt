@@ -139,4 +139,4 @@ ones_few n word below = omega (arith, ones_below n word below, count_le (λ i. n
 pub count_next : (words : List ℕ) (i word count first n next : ℕ) → first ≡ 64 * i → n ≡ 64 → next ≡ first + n → word ≡ get_or words i 0 → word < 2 ^ n → count ≡ count_of (is_set words) 0 first
     → count + count_ones word ≡ count_of (is_set words) 0 next
 count_next words i word count first n next begins all ends is below was =
-    omega (arith, was, ones_in words i word first n begins all is below, count-append (is_set words) 0 first n next first ends refl)
+    omega (arith, was, ones_in words i word first n begins all is below, count-append (is_set words) 0 first n next first ends (omega arith))

@@ -1,5 +1,5 @@
 -- A chunk after one of its places has changed.
-use Rattle.std.proofs.Common.{◌≡◌, ◌≢◌, ℕ, zero, suc, ◌+◌, ◌<◌, ◌≤◌, Bool, true, false, not, ◌||◌, ◌&&◌, ◌==◌, nat_eq, is_some, inl, inr, Option, Some, None, List, [], ◌∷◌, ◌++◌, length, get_or, set, replicate, take, drop, cond, ◌*◌, if◌then◌else◌, Result, Ok, Err, IfOk, refl, sym, ap, ◌∙◌, arith}
+use Rattle.std.proofs.Common.{◌≡◌, ◌≢◌, ℕ, zero, suc, ◌+◌, ◌<◌, ◌≤◌, Bool, true, false, not, ◌||◌, ◌&&◌, ◌==◌, nat_eq, nat_lt, is_some, inl, inr, Option, Some, None, List, [], ◌∷◌, ◌++◌, length, get_or, set, replicate, take, drop, cond, ◌*◌, if◌then◌else◌, Result, Ok, Err, IfOk, refl, sym, ap, ◌∙◌, arith}
 use Rattle.std.specs.List.{filter}
 use Rattle.std.proofs.lemmas.Bool.Decides.{nat_tests}
 use Rattle.std.proofs.lemmas.Bool.{cases_lt}
@@ -199,3 +199,6 @@ pub taken_seen : (found now : Chunk) (place : ℕ) (before : Option (List ℕ)) 
 taken_seen found now place before count seen was is =
     is ∙ ap (λ (b : Bool). taken found + (if b then 0 else 1)) (sym (some_place found place ∙ ap is_some was))
     ∙ ap (λ (chunk : Chunk). taken chunk + (if is_some (in_place chunk place) then 0 else 1)) seen
+
+pub some_is : (a b : List ℕ) → ◌≡◌ {A = Option (List ℕ)} (Some a) (Some b) → a ≡ b
+some_is a b same = cc

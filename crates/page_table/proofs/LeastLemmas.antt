@@ -11,20 +11,20 @@ use Rattle.std.specs.BTreeMap.Range.{IsLeBy, IsInRange, IsRangeOf}
 use Rattle.std.proofs.lemmas.Bool.{cases_lt}
 use Rattle.std.proofs.lemmas.Map.Keys.{le_from_not_gt}
 
+not_below : (a b : ℕ) → a ≤ b → is_gt (nat_cmp a b) ≡ false
+not_below a b le =
+    elim (cases_lt a b) [
+      | inl lt ↦ ap is_gt (sym (nat_cmp_is a b Less lt))
+      | inr ge ↦ ap is_gt (sym (nat_cmp_is a b Equal (omega arith)))
+    ]
+
+in_range : (from end q : ℕ) → from ≤ q → q < end → IsInRange nat_cmp (Included from) (Excluded end) q
+in_range from end q above below = (not_below from q above, sym (nat_cmp_is q end Less below))
+
 module _ {V : Type 0} where
   not_some : (found : Option V) → (IsSome found → ⊥) → found ≡ None
   not_some None bad = refl
   not_some (Some value) bad = absurd (bad refl)
-
-  not_below : (a b : ℕ) → a ≤ b → is_gt (nat_cmp a b) ≡ false
-  not_below a b le =
-      elim (cases_lt a b) [
-        | inl lt ↦ ap is_gt (sym (nat_cmp_is a b Less lt))
-        | inr ge ↦ ap is_gt (sym (nat_cmp_is a b Equal (omega arith)))
-      ]
-
-  in_range : (from end q : ℕ) → from ≤ q → q < end → IsInRange nat_cmp (Included from) (Excluded end) q
-  in_range from end q above below = (not_below from q above, sym (nat_cmp_is q end Less below))
 
   pub none_before : (m : BTreeMap ℕ V) (rest : List (ℕ × V)) (from end : ℕ) → IsRangeOf nat_cmp (Included from) (Excluded end) m rest → (e : ℕ × V) (more : List (ℕ × V)) → rest ≡ e ∷ more → e.0 < end
       → (q : ℕ) → from ≤ q → q < e.0 → get nat_cmp m q ≡ None

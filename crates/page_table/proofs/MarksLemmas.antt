@@ -7,7 +7,7 @@ use Rattle.std.proofs.lemmas.Bool.{cases_lt, cases_eq}
 use Rattle.page_table.specs.Bits.{is_set, any_set, is_between}
 use Rattle.page_table.specs.Marks.{bitmap_of, is_marked, AreUsed}
 use Rattle.page_table.proofs.CountLemmas.{count_of, count-none, count-shift}
-use Rattle.page_table.proofs.RangeLemmas.{between_yes, between_before, between_behind, between_block}
+use Rattle.page_table.proofs.RangeLemmas.{between_yes, between_before, between_behind, between_part}
 use Rattle.page_table.proofs.BitsLemmas.{empty_set, not_any}
 use Rattle.page_table.proofs.TableLemmas.{updates_others, if_none}
 
@@ -99,13 +99,13 @@ module _ (m n : BTreeMap ℕ (List ℕ)) (q : ℕ) (words : List ℕ) where
       (λ k. ap (λ (w : Option (List ℕ)). is_set (unwrap_or w []) k) updates.1 ∙ empty_set [] refl k ∙ sym (not_any words none k) ∙ ap (λ (w : Option (List ℕ)). is_set (unwrap_or w []) k) found)
 
 -- Numbers of a bitmap are put.
-module _ (m n : BTreeMap ℕ (List ℕ)) (q first end : ℕ) (member : Bool) (words after : List ℕ) (found : Some words ≡ get nat_cmp m q) (updates : UpdatesBy nat_cmp (nat_cmp q) m n (Some after))
-    (put : (k : ℕ) → is_set after k ≡ (if is_between (first - q * 16384) (min (end - q * 16384) 16384) k then member else is_set words k)) where
+module _ (m n : BTreeMap ℕ (List ℕ)) (q first end from to : ℕ) (member : Bool) (words after : List ℕ) (begins : from ≡ first - q * 16384) (ends : to ≡ min (end - q * 16384) 16384)
+    (found : Some words ≡ get nat_cmp m q) (updates : UpdatesBy nat_cmp (nat_cmp q) m n (Some after)) (put : (k : ℕ) → is_set after k ≡ (if is_between from to k then member else is_set words k)) where
   pub put_here : (k : ℕ) → k / 16384 ≡ q → is_marked n.entries k ≡ (if is_between first end k then member else is_marked m.entries k)
   put_here k is =
       sym (found_marked n.entries k q after is (sym updates.1))
       ∙ put (k % 16384)
-      ∙ ap (λ (b : Bool). if b then member else is_set words (k % 16384)) (between_block first end (q * 16384) 16384 k (k % 16384) (omega arith) (omega arith))
+      ∙ ap (λ (b : Bool). if b then member else is_set words (k % 16384)) (between_part first end (q * 16384) 16384 from to k (k % 16384) begins ends (omega arith) (omega arith))
       ∙ ap (λ (b : Bool). if is_between first end k then member else b) (found_marked m.entries k q words is found)
 
   pub put_there : IsSome (bitmap_of n.entries q)

@@ -91,6 +91,11 @@ between_block first end begin size k j at below =
       ]
     ]
 
+-- the same where the part is told in other words
+pub between_part : (first end begin size f e k j : ℕ) → f ≡ first - begin → e ≡ min (end - begin) size → k ≡ begin + j → j < size → is_between f e j ≡ is_between first end k
+between_part first end begin size f e k j begins ends at below =
+    ap (λ (n : ℕ). is_between n e j) begins ∙ ap (λ (n : ℕ). is_between (first - begin) n j) ends ∙ between_block first end begin size k j at below
+
 -- What stands under numbers that lie in blocks, while those of a range are put, a block at a time: in blocks that aren't there it is so already.
 module _ {X : Type 0} (x : X) (block : ℕ → ℕ) (first end : ℕ) where
   pub record ArePut (old now : ℕ → X) (next : ℕ) : Type 0 where

@@ -9,7 +9,7 @@ use Rattle.page_table.specs.Bits.{is_between}
 use Rattle.page_table.specs.Table.{Chunk, in_place, in_chunk, chunk_of, in_table, taken, AreTaken}
 use Rattle.page_table.proofs.ChunkLemmas.{some_place, none_taken_place}
 use Rattle.page_table.proofs.CountLemmas.{count_of, count-none, count_list}
-use Rattle.page_table.proofs.RangeLemmas.{between_yes, between_block}
+use Rattle.page_table.proofs.RangeLemmas.{between_yes, between_part}
 
 -- what holds anyhow holds after a failure
 pub on_err : {T E : Type 0} (r : Result T E) (P : Type 0) → P → OnErr r P
@@ -127,11 +127,11 @@ module _ (old new : List (ℕ × Chunk)) (q first end : ℕ) (others : (p : ℕ)
       let inside : is_between first end k ≡ true = between_yes first end k (omega arith) (omega arith) in
       absent_is new k q is gone ∙ ap (λ (b : Bool). if b then None else in_table old k) (sym inside)
 
-  pub places_gone : ((k : ℕ) → in_chunk (chunk_of new q) k ≡ (if is_between (first - q * 256) (min (end - q * 256) 256) k then None else in_chunk (chunk_of old q) k))
+  pub places_gone : (from to : ℕ) → from ≡ first - q * 256 → to ≡ min (end - q * 256) 256 → ((k : ℕ) → in_chunk (chunk_of new q) k ≡ (if is_between from to k then None else in_chunk (chunk_of old q) k))
       → (k : ℕ) → k / 256 ≡ q → in_table new k ≡ (if is_between first end k then None else in_table old k)
-  places_gone here k is =
+  places_gone from to begins ends here k is =
       table_is new k q is ∙ here (k % 256)
-      ∙ ap (λ (b : Bool). if b then None else in_chunk (chunk_of old q) (k % 256)) (between_block first end (q * 256) 256 k (k % 256) (omega arith) (omega arith))
+      ∙ ap (λ (b : Bool). if b then None else in_chunk (chunk_of old q) (k % 256)) (between_part first end (q * 256) 256 from to k (k % 256) begins ends (omega arith) (omega arith))
       ∙ ap (λ (page : Option (List ℕ)). if is_between first end k then None else page) (sym (table_is old k q is))
 
 -- of a chunk in which no place is taken nothing is stored
@@ -144,11 +144,11 @@ some_in_chunk None n left some = tt
 some_in_chunk (Some chunk) n left some = omega (arith, left)
 
 -- the same where it is empty and goes
-pub places_all_gone : (old mid new : List (ℕ × Chunk)) (q first end n : ℕ) → ((p : ℕ) → p ≢ q → chunk_of mid p ≡ chunk_of old p)
-    → ((k : ℕ) → in_chunk (chunk_of mid q) k ≡ (if is_between (first - q * 256) (min (end - q * 256) 256) k then None else in_chunk (chunk_of old q) k))
+pub places_all_gone : (old mid new : List (ℕ × Chunk)) (q first end from to n : ℕ) → from ≡ first - q * 256 → to ≡ min (end - q * 256) 256 → ((p : ℕ) → p ≢ q → chunk_of mid p ≡ chunk_of old p)
+    → ((k : ℕ) → in_chunk (chunk_of mid q) k ≡ (if is_between from to k then None else in_chunk (chunk_of old q) k))
     → IfSome (chunk_of mid q) (λ c. n ≡ taken c) → n ≡ 0 → chunk_of new q ≡ None → (k : ℕ) → k / 256 ≡ q → in_table new k ≡ (if is_between first end k then None else in_table old k)
-places_all_gone old mid new q first end n others here left none gone k is =
-    absent_is new k q is gone ∙ sym (table_is mid k q is ∙ none_in_chunk (chunk_of mid q) n (k % 256) left none) ∙ places_gone old mid q first end others here k is
+places_all_gone old mid new q first end from to n begins ends others here left none gone k is =
+    absent_is new k q is gone ∙ sym (table_is mid k q is ∙ none_in_chunk (chunk_of mid q) n (k % 256) left none) ∙ places_gone old mid q first end others from to begins ends here k is
 
 pub taken_left : (old mid : List (ℕ × Chunk)) (q n : ℕ) → ((p : ℕ) → p ≢ q → chunk_of mid p ≡ chunk_of old p) → AreTaken old → IfSome (chunk_of mid q) (λ c. n ≡ taken c) → (n ≡ 0 → ⊥) → AreTaken mid
 taken_left old mid q n others was left some = taken_after old mid q others was (some_in_chunk (chunk_of mid q) n left (omega arith))

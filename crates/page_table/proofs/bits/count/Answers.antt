@@ -1,6 +1,6 @@
-use Rattle.std.proofs.Common.{◌≡◌, ◌*◌, ◌+◌, ◌<◌, ◌^◌, ℕ, get_or, refl, arith}
+use Rattle.std.proofs.Common.{◌≡◌, ◌*◌, ◌+◌, ◌<◌, ◌^◌, ℕ, get_or, refl, sym, arith}
 use Rattle.page_table.specs.Bits.{is_set}
-use Rattle.page_table.proofs.CountLemmas.{count_le}
+use Rattle.page_table.proofs.CountLemmas.{count-zero, count_le}
 use Rattle.page_table.proofs.BitsLemmas.{ones_few, count_next}
 use Rattle.page_table.proofs.bits.count.Goals as goal
 
@@ -10,6 +10,9 @@ overflow_add-count c =
     let words = c.args.words.now in
     let below : get_or words i 0 < 2 ^ 64 = omega (arith, c.type_inv.words i) in
     omega (arith, ones_few 64 (get_or words i 0) below, c.loop-word.invariant, count_le (is_set words) 0 (64 * i), c.requires, c.loop-word-test.true)
+
+pub loop-word-init : goal.loop-word-init
+loop-word-init c = sym (count-zero (is_set c.args.words.now) 0)
 
 pub loop-word-preserved : goal.loop-word-preserved
 loop-word-preserved c =

@@ -7,4 +7,5 @@ returns-clause-here g c =
     let after = c.put.new.self in
     let found = c.in-Some.ensures.value in
     let updates = (c.get_mut.follows.holds after).3 (subst IsSome found refl) in
-    put_here c.args.bitmaps.now (c.get_mut.follows.lender after) c.args.bitmap c.args.first c.args.end c.args.member c.in-Some.found.now after found updates c.put.ensures
+    put_here c.args.bitmaps.now (c.get_mut.follows.lender after) c.args.bitmap c.args.first c.args.end c.saturating_sub.result c.min-upto.result c.args.member c.in-Some.found.now after
+    c.saturating_sub.ensures c.min-upto.ensures found updates c.put.ensures

@@ -5,9 +5,9 @@ use Rattle.page_table.proofs.held_zeros.HeldZeros.count.Given as goal
 
 abbrev pub invariant-loop-bitmap : goal.invariant-loop-bitmap
 invariant-loop-bitmap g l = record {
-  within : l.next ≤ l.bitmaps;
-  count : l.count ≡ count_of (is_marked l.self) 0 (16384 * l.next);
+  within : l.from ≤ l.bitmaps;
+  count : l.count ≡ count_of (is_marked l.self) 0 (16384 * l.from);
 }
 
 abbrev pub decreases-loop-bitmap : goal.decreases-loop-bitmap
-decreases-loop-bitmap g l = l.bitmaps - l.next
+decreases-loop-bitmap g l = l.bitmaps - l.from

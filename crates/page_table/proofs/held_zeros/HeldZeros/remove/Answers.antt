@@ -18,7 +18,7 @@ loop-bitmap-preserved g c =
     let at : ℕ = c.in-Some.bitmap in
     record {
       begun = omega (arith, before.begun, c.in-Some.ensures.begins);
-      within = omega arith;
+      within = omega (arith, c.in-Some.ensures.ends);
       put = put_more false (λ k. k / 16384) c.args.first c.args.end (is_marked c.args.self.now) (is_marked c.loop-bitmap.self) (is_marked c.remove_in.new.self) c.loop-bitmap.next at
           before.put c.in-Some.ensures.begins (λ k above below. absent_marked c.loop-bitmap.self k (k / 16384) refl (c.in-Some.ensures.first (k / 16384) above below)) after.here (other_bitmap c.loop-bitmap.self c.remove_in.new.self at after.others);
     }
@@ -26,4 +26,4 @@ loop-bitmap-preserved g c =
 pub returns : goal.returns
 returns g c =
     put_done false (λ k. k / 16384) c.args.first c.args.end (is_marked c.args.self.now) (is_marked c.loop-bitmap.self) c.loop-bitmap.next c.div_ceil-last.result
-    c.loop-bitmap.invariant.put (λ k above below. absent_marked c.loop-bitmap.self k (k / 16384) refl ?) (λ k above. between_behind c.args.first c.args.end k (omega (arith, c.div_ceil-last.ensures)))
+    c.loop-bitmap.invariant.put (λ k above below. absent_marked c.loop-bitmap.self k (k / 16384) refl (c.in_default.ensures.none refl (k / 16384) above below)) (λ k above. between_behind c.args.first c.args.end k (omega (arith, c.div_ceil-last.ensures)))

@@ -6,5 +6,5 @@ use Rattle.page_table.proofs.holes.Holes.any.Goals as goal
 pub returns : goal.returns
 returns g c = λ none k.
     let place : ℕ = c.args.place in
-    none_dug c.deref.result.now (place * 64) (place * 64 + 64 - place * 64) place (omega arith) (omega arith) (sym c.any.ensures ∙ none) k
-    ∙ ap (λ (holes : List ℕ). is_hole holes place k) (c.deref.ensures.value ∙ c.self.view_is)
+    ap (λ (holes : List ℕ). is_hole holes place k) (sym (c.deref.ensures.value ∙ c.self.view_is))
+    ∙ none_dug c.deref.result.now (place * 64) (place * 64 + 64 - place * 64) place (omega arith) (omega arith) (sym c.any.ensures ∙ none) k

@@ -18,7 +18,7 @@ loop-chunk-preserved g c =
     let at : ℕ = c.in-Some.chunk in
     record {
       begun = omega (arith, before.begun, c.in-Some.ensures.begins);
-      within = omega arith;
+      within = omega (arith, c.in-Some.ensures.ends);
       put = put_more None (λ k. k / 256) c.args.first c.args.end (in_table c.args.self.now) (in_table c.loop-chunk.self) (in_table c.remove_in.new.self) c.loop-chunk.next at
           before.put c.in-Some.ensures.begins (λ k above below. absent_is c.loop-chunk.self k (k / 256) refl (c.in-Some.ensures.first (k / 256) above below)) after.here (other_chunk c.loop-chunk.self c.remove_in.new.self at after.others);
     }
@@ -26,4 +26,4 @@ loop-chunk-preserved g c =
 pub returns : goal.returns
 returns g c =
     put_done None (λ k. k / 256) c.args.first c.args.end (in_table c.args.self.now) (in_table c.loop-chunk.self) c.loop-chunk.next c.div_ceil-last.result
-    c.loop-chunk.invariant.put (λ k above below. absent_is c.loop-chunk.self k (k / 256) refl ?) (λ k above. between_behind c.args.first c.args.end k (omega (arith, c.div_ceil-last.ensures)))
+    c.loop-chunk.invariant.put (λ k above below. absent_is c.loop-chunk.self k (k / 256) refl (c.in_default.ensures.none refl (k / 256) above below)) (λ k above. between_behind c.args.first c.args.end k (omega (arith, c.div_ceil-last.ensures)))
