@@ -1,5 +1,5 @@
 -- The image after one of its pages has changed.
-use Rattle.std.proofs.Common.{◌≡◌, ◌≢◌, ℕ, zero, suc, ◌+◌, ◌*◌, ◌/◌, ◌%◌, ◌<◌, ◌≤◌, inl, inr, Bool, true, false, ◌||◌, nat_eq, is_some, unwrap_or, Result, Ok, Err, OnErr, Option, Some, None, List, ◌++◌, length, take, drop, get_or, replicate, min, if◌then◌else◌, refl, sym, ap, subst, ◌∙◌, arith, length-append}
+use Rattle.std.proofs.Common.{◌≡◌, ◌≢◌, ℕ, zero, suc, ◌+◌, ◌*◌, ◌/◌, ◌%◌, ◌<◌, ◌≤◌, inl, inr, Bool, true, false, ◌||◌, nat_eq, is_some, unwrap_or, Result, Ok, Err, OnOk, OnErr, Option, Some, None, List, ◌++◌, length, take, drop, get_or, replicate, min, if◌then◌else◌, refl, sym, ap, subst, ◌∙◌, arith, length-append}
 use Rattle.std.proofs.lemmas.Bool.{cases_eq}
 use Rattle.std.proofs.lemmas.Bool.Decides.{nat_tests}
 use Rattle.std.proofs.lemmas.List.{length-take, length-replicate, replicate-append-replicate, take-replicate, get_or-take, get_or-replicate}
@@ -176,6 +176,11 @@ image_written old new at bytes is size one within here others =
 pub on_err : {T E : Type 0} (r : Result T E) (P : Type 0) → P → OnErr r P
 on_err (Ok x) P p = tt
 on_err (Err e) P p = p
+
+-- what follows from success and from failure follows
+pub either_way : {T E : Type 0} (r : Result T E) (P Q R : Type 0) → OnOk r P → OnErr r Q → (P → R) → (Q → R) → R
+either_way (Ok x) P Q R p q from_p from_q = from_p p
+either_way (Err e) P Q R p q from_p from_q = from_q q
 
 -- where the same pages are held
 pub IsPaged-same : (old new : Pages) → IsPaged old → new.size ≡ old.size → ((k : ℕ) → stored_page new k ≡ stored_page old k) → ((k : ℕ) → is_held_zeros new k ≡ is_held_zeros old k) → IsPaged new

@@ -240,6 +240,9 @@ module _ (old new : Pages) (offset count : ℕ) (is : IsPaged old) (size : new.s
         ∙ given_apart (is_stored old k) (is_held_zeros old k) (is_between first end k) (lies_whole_in old.size offset count k) (is.apart k) (sym (is_left k) ∙ there);
   }
 
+pub goes_whole : (a b : Bool) → b ≡ true → (a && not b) ≡ false
+goes_whole a b whole = sym (and_not_true a b whole)
+
 -- the pages that have a byte of a range and aren't stored once it is zero
 pub emptied : (size offset count first last a e k : ℕ) (stays : ℕ → Bool) → 0 < count → offset + count ≤ size → first ≡ offset / 4096 → last ≡ (offset + count - 1) / 4096
     → ((j : ℕ) → lies_whole_in size offset count j ≡ true → stays j ≡ false)

@@ -1,5 +1,5 @@
 -- One bit of a word, and of words in a row.
-use Rattle.std.proofs.Common.{◌≡◌, ◌≢◌, ℕ, zero, suc, ◌+◌, ◌*◌, ◌/◌, ◌%◌, ◌^◌, ◌<◌, ◌≤◌, Bool, true, false, not, ◌||◌, nat_eq, cond, List, [], ◌∷◌, length, get_or, set, take, drop, replicate, bit_and, bit_or, count_ones, w64, if◌then◌else◌, inl, inr, refl, sym, ap, ◌∙◌, arith, tests}
+use Rattle.std.proofs.Common.{◌≡◌, ◌≢◌, ℕ, zero, suc, ◌+◌, ◌*◌, ◌/◌, ◌%◌, ◌^◌, ◌<◌, ◌≤◌, Bool, true, false, not, nat_eq, cond, List, [], ◌∷◌, length, get_or, set, take, drop, replicate, bit_and, bit_or, count_ones, w64, if◌then◌else◌, inl, inr, refl, sym, ap, ◌∙◌, arith, tests}
 use Rattle.std.specs.Int.{bit_at, bit_not}
 use Rattle.std.specs.Int.Count.{ones_step}
 use lib.Count.{ones}

@@ -1,9 +1,9 @@
 -- A chunk after one of its places has changed.
-use Rattle.std.proofs.Common.{◌≡◌, ◌≢◌, ℕ, zero, suc, ◌+◌, ◌<◌, ◌≤◌, Bool, true, false, not, ◌||◌, ◌&&◌, ◌==◌, nat_eq, nat_lt, is_some, inl, inr, Option, Some, None, List, [], ◌∷◌, ◌++◌, length, get_or, set, replicate, take, drop, cond, ◌*◌, if◌then◌else◌, Result, Ok, Err, IfOk, refl, sym, ap, ◌∙◌, arith}
+use Rattle.std.proofs.Common.{◌≡◌, ◌≢◌, ℕ, zero, suc, ◌+◌, ◌<◌, ◌≤◌, Bool, true, false, not, ◌||◌, ◌&&◌, ◌==◌, nat_eq, nat_lt, is_some, inl, inr, Option, Some, None, List, length, get_or, set, replicate, take, drop, cond, ◌*◌, if◌then◌else◌, Result, Ok, Err, IfOk, refl, sym, ap, ◌∙◌, arith}
 use Rattle.std.specs.List.{filter}
 use Rattle.std.proofs.lemmas.Bool.Decides.{nat_tests}
 use Rattle.std.proofs.lemmas.Bool.{cases_lt}
-use Rattle.std.proofs.lemmas.List.{take-replicate, length-replicate, get_or_default, get_or-set_same, get_or-set_other, get_or_past}
+use Rattle.std.proofs.lemmas.List.{take-replicate, get_or_default, get_or-set_same, get_or-set_other, get_or_past}
 use Rattle.payload.specs.Rows.{zero_page}
 use Rattle.page_table.specs.Bits.{is_set, any_set, is_between}
 use Rattle.page_table.specs.Table.{Chunk, no_chunk, is_hole, shown, shown_page, in_place, taken, cleared}

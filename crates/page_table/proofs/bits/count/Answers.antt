@@ -1,4 +1,4 @@
-use Rattle.std.proofs.Common.{◌≡◌, ◌*◌, ◌+◌, ◌<◌, ◌^◌, ℕ, get_or, refl, sym, arith}
+use Rattle.std.proofs.Common.{◌*◌, ◌+◌, ◌<◌, ◌^◌, ℕ, get_or, refl, sym, arith}
 use Rattle.page_table.specs.Bits.{is_set}
 use Rattle.page_table.proofs.CountLemmas.{count-zero, count_le}
 use Rattle.page_table.proofs.BitsLemmas.{ones_few, count_next}

@@ -1,6 +1,6 @@
-use Rattle.std.proofs.Common.{◌∙◌, ◌/◌, ◌%◌, ℕ, nat_eq, ap, arith}
+use Rattle.std.proofs.Common.{◌∙◌, ◌%◌, ℕ, nat_eq, ap, arith}
 use Rattle.std.specs.Int.{bit_at}
-use Rattle.page_table.proofs.BitsLemmas.{bit_test, past_set}
+use Rattle.page_table.proofs.BitsLemmas.{bit_test}
 use Rattle.page_table.proofs.bits.has.Goals as goal
 
 pub returns-in-Some : goal.returns-in-Some

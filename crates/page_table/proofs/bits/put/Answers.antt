@@ -1,4 +1,4 @@
-use Rattle.std.proofs.Common.{ℕ, refl, arith}
+use Rattle.std.proofs.Common.{arith}
 use Rattle.page_table.specs.Bits.{is_set}
 use Rattle.page_table.proofs.RangeLemmas.{put_none, put_step, put_end}
 use Rattle.page_table.proofs.bits.put.Goals as goal

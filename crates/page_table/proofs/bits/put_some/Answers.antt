@@ -1,6 +1,4 @@
-use Rattle.std.proofs.Common.{ℕ, arith}
-use Rattle.page_table.specs.Bits.{is_set}
-use Rattle.page_table.proofs.RangeLemmas.{put_one}
+use Rattle.std.proofs.Common.{arith}
 use Rattle.page_table.proofs.BitsLemmas.{word_put}
 use Rattle.page_table.proofs.bits.put_some.Goals as goal
 

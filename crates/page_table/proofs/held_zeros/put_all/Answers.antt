@@ -1,4 +1,4 @@
-use Rattle.std.proofs.Common.{◌≡◌, ◌∙◌, ◌/◌, ◌<◌, true, ℕ, IsSome, inl, inr, refl, sym, subst, arith}
+use Rattle.std.proofs.Common.{◌∙◌, ◌/◌, true, ℕ, IsSome, inl, inr, refl, sym, subst, arith}
 use Rattle.std.specs.Int.{div_ceil}
 use Rattle.std.proofs.lemmas.Bool.{cases_eq}
 use Rattle.page_table.specs.Marks.{bitmap_of, is_marked}

@@ -1,4 +1,4 @@
-use Rattle.std.proofs.Common.{◌≡◌, ℕ, ◌/◌, ◌<◌, ◌≤◌, true, false, max, IsSome}
+use Rattle.std.proofs.Common.{◌≡◌, ℕ, ◌/◌, ◌<◌, ◌≤◌, true, false, IsSome}
 use Rattle.std.specs.Int.{div_ceil}
 use Rattle.page_table.specs.Bits.{is_between}
 use Rattle.page_table.specs.Marks.{bitmap_of, is_marked}

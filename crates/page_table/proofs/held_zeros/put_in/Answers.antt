@@ -1,5 +1,5 @@
 use Rattle.std.proofs.Common.{IsSome, refl, subst}
-use Rattle.page_table.proofs.MarksLemmas.{put_here, put_there}
+use Rattle.page_table.proofs.MarksLemmas.{put_here}
 use Rattle.page_table.proofs.held_zeros.put_in.Goals as goal
 
 pub returns-clause-here : goal.returns-clause-here

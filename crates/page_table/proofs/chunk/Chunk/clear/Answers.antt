@@ -1,4 +1,4 @@
-use Rattle.std.proofs.Common.{◌≡◌, ◌∙◌, ℕ, List, Some, None, length, get_or, refl, sym, ap, arith}
+use Rattle.std.proofs.Common.{◌≡◌, ◌∙◌, ℕ, Some, None, length, get_or, refl, sym, ap, arith}
 use Rattle.page_table.specs.Table.{Chunk, in_place, cleared}
 use Rattle.page_table.proofs.ChunkLemmas.{some_is, read_place, none_place, dug_here, dug_others}
 use Rattle.page_table.proofs.chunk.Chunk.clear.Goals as goal

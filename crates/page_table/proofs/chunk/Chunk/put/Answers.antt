@@ -1,4 +1,4 @@
-use Rattle.std.proofs.Common.{◌≡◌, ◌∙◌, ◌<◌, ℕ, List, Option, None, Some, is_some, length, set, get_or, refl, sym, ap, arith}
+use Rattle.std.proofs.Common.{◌≡◌, ◌∙◌, ◌<◌, None, Some, is_some, length, set, get_or, refl, sym, ap, arith}
 use Rattle.std.proofs.lemmas.List.{length-set}
 use Rattle.page_table.specs.Table.{Chunk, in_place}
 use Rattle.page_table.proofs.ChunkLemmas.{Places, read_place, put_here, put_others, taken_again, taken_more, taken_seen}
@@ -9,8 +9,7 @@ pub invariant_of-self : goal.invariant_of-self
 invariant_of-self g c =
     let pages : Places = c.self.inside.pages.items in
     let below : c.args.place < length pages = omega (arith, c.self.invariant.0, c.requires) in
-    let was : get_or pages c.args.place None ≡ Some c.in-Some.before = sym (c.in-Some.ensures.value ∙ read_place pages c.args.place c.index_mut.result.now below c.index_mut.ensures.value) in
-    (
+    let was : get_or pages c.args.place None ≡ Some c.in-Some.before = sym (c.in-Some.ensures.value ∙ read_place pages c.args.place c.index_mut.result.now below c.index_mut.ensures.value) in (
       length-set pages c.args.place c.replace.new.dest ∙ c.self.invariant.0,
       c.self.invariant.1 ∙ sym (taken_again pages c.args.place (Some c.in-Some.before) c.replace.new.dest below was c.in-Some.before c.args.page refl c.replace.ensures.after),
     )
@@ -22,8 +21,7 @@ pub invariant_of-self-in-None : goal.invariant_of-self-in-None
 invariant_of-self-in-None g c =
     let pages : Places = c.self.inside.pages.items in
     let below : c.args.place < length pages = omega (arith, c.self.invariant.0, c.requires) in
-    let was : get_or pages c.args.place None ≡ None = sym (c.in-None.ensures.value ∙ read_place pages c.args.place c.index_mut.result.now below c.index_mut.ensures.value) in
-    (
+    let was : get_or pages c.args.place None ≡ None = sym (c.in-None.ensures.value ∙ read_place pages c.args.place c.index_mut.result.now below c.index_mut.ensures.value) in (
       length-set pages c.args.place c.replace.new.dest ∙ c.self.invariant.0,
       omega (arith, c.self.invariant.1, taken_more pages c.args.place None c.replace.new.dest below was c.args.page refl c.replace.ensures.after),
     )

@@ -1,4 +1,4 @@
-use Rattle.std.proofs.Common.{ℕ, ◌+◌, None, Option, List, arith}
+use Rattle.std.proofs.Common.{◌+◌, None, arith}
 use Rattle.page_table.specs.Table.{in_place}
 use Rattle.page_table.proofs.RangeLemmas.{put_none, put_one, put_step, put_end}
 use Rattle.page_table.proofs.chunk.Chunk.remove.Goals as goal

@@ -1,4 +1,4 @@
-use Rattle.std.proofs.Common.{◌≡◌, ◌∙◌, ◌<◌, ℕ, List, Option, None, Some, is_some, length, set, get_or, refl, sym, ap, arith}
+use Rattle.std.proofs.Common.{◌≡◌, ◌∙◌, ◌<◌, None, Some, length, set, get_or, refl, sym, ap, arith}
 use Rattle.std.proofs.lemmas.List.{length-set}
 use Rattle.page_table.specs.Table.{Chunk, in_place}
 use Rattle.page_table.proofs.ChunkLemmas.{Places, read_place, removed_here, removed_others, taken_less}
@@ -15,8 +15,7 @@ pub invariant_of-self : goal.invariant_of-self
 invariant_of-self g c =
     let pages : Places = c.self.inside.pages.items in
     let below : c.args.place < length pages = omega (arith, c.self.invariant.0, c.requires) in
-    let was : get_or pages c.args.place None ≡ Some c.in-Some.page = sym (c.in-Some.ensures.value ∙ read_place pages c.args.place c.index_mut.result.now below c.index_mut.ensures.value) in
-    (
+    let was : get_or pages c.args.place None ≡ Some c.in-Some.page = sym (c.in-Some.ensures.value ∙ read_place pages c.args.place c.index_mut.result.now below c.index_mut.ensures.value) in (
       length-set pages c.args.place c.take.new.self ∙ c.self.invariant.0,
       omega (arith, c.self.invariant.1, taken_less pages c.args.place (Some c.in-Some.page) c.take.new.self below was c.in-Some.page refl c.take.ensures.after),
     )

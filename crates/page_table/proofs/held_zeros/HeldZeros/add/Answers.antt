@@ -1,5 +1,4 @@
-use Rattle.std.proofs.Common.{◌<◌, ◌∙◌, ◌/◌, ℕ, ap, sym, arith}
-use Rattle.std.specs.Int.{div_ceil}
+use Rattle.std.proofs.Common.{◌∙◌, ◌/◌, ℕ, ap, arith}
 use Rattle.page_table.specs.Bits.{is_between}
 use Rattle.page_table.proofs.MarksLemmas.{used_put, used_dropped}
 use Rattle.page_table.proofs.held_zeros.HeldZeros.add.Goals as goal

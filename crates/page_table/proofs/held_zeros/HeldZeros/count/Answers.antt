@@ -1,6 +1,6 @@
-use Rattle.std.proofs.Common.{◌≡◌, ◌∙◌, ◌+◌, ◌*◌, ℕ, refl, sym, arith}
+use Rattle.std.proofs.Common.{◌∙◌, ◌+◌, ◌*◌, refl, sym, arith}
 use Rattle.page_table.specs.Marks.{is_marked}
-use Rattle.page_table.proofs.CountLemmas.{count_of, count-zero, count_le, count_more, count-upto}
+use Rattle.page_table.proofs.CountLemmas.{count-zero, count_le, count_more, count-upto}
 use Rattle.page_table.proofs.MarksLemmas.{none_between}
 use Rattle.page_table.proofs.held_zeros.HeldZeros.count.Goals as goal
 

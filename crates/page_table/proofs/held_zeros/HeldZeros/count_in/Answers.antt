@@ -1,4 +1,4 @@
-use Rattle.std.proofs.Common.{◌≡◌, ◌∙◌, ◌*◌, ℕ, refl, sym, ap}
+use Rattle.std.proofs.Common.{◌∙◌, ◌*◌, ℕ, refl, sym, ap}
 use Rattle.page_table.specs.Marks.{is_marked}
 use Rattle.page_table.proofs.CountLemmas.{count_of}
 use Rattle.page_table.proofs.MarksLemmas.{Bitmaps, count_bitmap, count_absent}

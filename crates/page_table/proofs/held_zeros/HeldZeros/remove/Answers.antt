@@ -1,4 +1,4 @@
-use Rattle.std.proofs.Common.{◌≡◌, ◌∙◌, ◌+◌, ◌/◌, false, ℕ, refl, arith}
+use Rattle.std.proofs.Common.{◌/◌, false, ℕ, refl, arith}
 use Rattle.page_table.specs.Marks.{is_marked}
 use Rattle.page_table.proofs.RangeLemmas.{between_before, between_behind, put_begun, put_more, put_done}
 use Rattle.page_table.proofs.MarksLemmas.{other_bitmap, absent_marked}

@@ -1,4 +1,4 @@
-use Rattle.std.proofs.Common.{ℕ, ◌-◌, ◌/◌, ◌≤◌, false}
+use Rattle.std.proofs.Common.{◌-◌, ◌/◌, ◌≤◌, false}
 use Rattle.page_table.specs.Marks.{is_marked}
 use Rattle.page_table.proofs.RangeLemmas.{ArePut}
 use Rattle.page_table.proofs.held_zeros.HeldZeros.remove.Given as goal

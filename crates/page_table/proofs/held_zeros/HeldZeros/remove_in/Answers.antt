@@ -1,4 +1,4 @@
-use Rattle.std.proofs.Common.{◌*◌, ◌+◌, ◌≤◌, ℕ, arith}
+use Rattle.std.proofs.Common.{arith}
 use Rattle.page_table.proofs.MarksLemmas.{whole_unmarked}
 use Rattle.page_table.proofs.held_zeros.HeldZeros.remove_in.Goals as goal
 

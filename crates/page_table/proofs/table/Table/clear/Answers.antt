@@ -1,4 +1,4 @@
-use Rattle.std.proofs.Common.{◌≡◌, ◌∙◌, ◌/◌, ◌%◌, ℕ, List, Option, None, Some, IsSome, refl, sym, ap, subst, arith}
+use Rattle.std.proofs.Common.{◌≡◌, ◌∙◌, ◌/◌, ℕ, List, None, Some, IsSome, refl, sym, ap, subst, arith}
 use Rattle.std.specs.BTreeMap.{BTreeMap}
 use Rattle.page_table.specs.Table.{Chunk, in_table, cleared}
 use Rattle.page_table.proofs.TableLemmas.{found_is, absent_is, taken_found, map_here, map_others, map_taken}

@@ -1,4 +1,4 @@
-use Rattle.std.proofs.Common.{◌≡◌, ◌∙◌, ◌/◌, ◌%◌, ℕ, List, None, Some, IsSome, is_some, refl, sym, ap, subst}
+use Rattle.std.proofs.Common.{◌∙◌, ◌/◌, ◌%◌, ℕ, List, None, Some, IsSome, is_some, refl, sym, ap, subst}
 use Rattle.std.specs.Ordering.{nat_cmp}
 use Rattle.std.specs.BTreeMap.{BTreeMap, UpdatesBy}
 use Rattle.page_table.specs.Table.{Chunk, in_table}

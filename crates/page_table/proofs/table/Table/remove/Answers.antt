@@ -1,4 +1,4 @@
-use Rattle.std.proofs.Common.{◌≡◌, ◌∙◌, ◌+◌, ◌/◌, None, ℕ, refl, arith}
+use Rattle.std.proofs.Common.{◌/◌, None, ℕ, refl, arith}
 use Rattle.page_table.specs.Table.{in_table}
 use Rattle.page_table.proofs.RangeLemmas.{between_before, between_behind, put_begun, put_more, put_done}
 use Rattle.page_table.proofs.TableLemmas.{other_chunk, absent_is}

@@ -1,4 +1,4 @@
-use Rattle.std.proofs.Common.{ℕ, ◌-◌, ◌/◌, ◌≤◌, None}
+use Rattle.std.proofs.Common.{◌-◌, ◌/◌, ◌≤◌, None}
 use Rattle.page_table.specs.Table.{in_table}
 use Rattle.page_table.proofs.RangeLemmas.{ArePut}
 use Rattle.page_table.proofs.table.Table.remove.Given as goal

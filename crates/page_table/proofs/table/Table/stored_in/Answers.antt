@@ -1,4 +1,4 @@
-use Rattle.std.proofs.Common.{◌≡◌, ◌∙◌, ◌*◌, ℕ, List, length, is_some, refl, sym, ap}
+use Rattle.std.proofs.Common.{◌∙◌, ◌*◌, ℕ, List, length, is_some, refl, sym, ap}
 use Rattle.page_table.specs.Table.{Chunk, in_table, taken}
 use Rattle.page_table.proofs.CountLemmas.{count_of}
 use Rattle.page_table.proofs.TableLemmas.{count_chunk, count_absent}
