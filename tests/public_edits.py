@@ -65,8 +65,17 @@ NONE = {
     "payload Page::as_bytes": ONE_FIELD,
     "payload Page::into_bytes": MADE_OF,
     "nbd_session Counted::into_inner": MADE_OF,
+<<<<<<< HEAD
     "session_turns Door::into_pass": MADE_OF,
     "session_turns ReplyWriter::into_writer": MADE_OF,
+||||||| parent of becd517 (Not proved yet: must-fail edits of page_table and export_store as the code is now)
+    "nbd_session Door::into_pass": MADE_OF,
+=======
+    "nbd_session Door::into_pass": MADE_OF,
+    "page_table HeldZeros::none": NO_MEMORY,
+    "page_table Swept::new": NO_MEMORY,
+    "page_table Table::new": NO_MEMORY,
+>>>>>>> becd517 (Not proved yet: must-fail edits of page_table and export_store as the code is now)
     "reply_box ReplyBox::laws": CONTRACT_ALONE,
     "server_core Server::kept": CONTRACT_ALONE,
     "server_lock Shared::hold": GUARD,
