@@ -1,13 +1,13 @@
 -- An image once a range of it was made zero: its pages, its bytes, and which pages are held.
-use Rattle.std.proofs.Common.{◌≡◌, ◌≢◌, ℕ, ◌+◌, ◌-◌, ◌*◌, ◌/◌, ◌%◌, ◌<◌, ◌≤◌, ◌⊎◌, inl, inr, Bool, true, false, ◌||◌, ◌&&◌, not, nat_lt, nat_le, min, is_some, unwrap_or, Option, None, Some, List, [], ◌++◌, length, replicate, get_or, if◌then◌else◌, refl, sym, ap, subst, ◌∙◌, arith, rules}
+use Rattle.std.proofs.Common.{◌≡◌, ◌≢◌, ℕ, ◌+◌, ◌-◌, ◌*◌, ◌/◌, ◌%◌, ◌<◌, ◌≤◌, ◌⊎◌, inl, inr, Bool, true, false, ◌||◌, ◌&&◌, not, nat_lt, nat_le, min, is_some, Option, None, Some, List, length, replicate, get_or, if◌then◌else◌, refl, sym, ap, ◌∙◌, arith, rules}
 use Rattle.std.proofs.lemmas.Bool.{cases_lt, cases_eq}
 use Rattle.std.proofs.lemmas.Bool.Decides.{nat_tests}
-use Rattle.std.proofs.lemmas.List.{places, same_lists, length-replicate, get_or-replicate}
+use Rattle.std.proofs.lemmas.List.{places, same_lists, length-replicate}
 use Rattle.payload.specs.Bytes.{overwritten}
 use Rattle.payload.specs.Rows.{zero_page}
 use Rattle.payload.proofs.BytesLemmas.{length-overwritten}
 use Rattle.page_table.specs.Bits.{is_between}
-use Rattle.page_table.specs.Table.{Chunk, cleared, in_table}
+use Rattle.page_table.specs.Table.{cleared}
 use Rattle.page_table.proofs.RangeLemmas.{between_yes, between_before, between_behind}
 use Rattle.export_store.specs.Pages.{Pages, IsPaged, stored_page, is_stored, is_held_zeros, is_held, page_of, image_of, has_byte_of, lies_whole_in, zeroed}
 use Rattle.export_store.proofs.ImageLemmas.{shown, at_zero_page, length-zero_page, length-image_of, at_image}

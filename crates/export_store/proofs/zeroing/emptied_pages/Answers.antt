@@ -1,4 +1,4 @@
-use Rattle.std.proofs.Common.{◌≡◌, ◌∙◌, ◌+◌, ◌-◌, ◌*◌, ◌/◌, ℕ, Bool, ◌&&◌, not, is_some, refl, ap, arith}
+use Rattle.std.proofs.Common.{◌≡◌, ◌∙◌, ◌+◌, ◌-◌, ◌/◌, ℕ, Bool, ◌&&◌, not, is_some, refl, ap, arith}
 use Rattle.page_table.specs.Table.{in_table}
 use Rattle.export_store.specs.Pages.{lies_whole_in}
 use Rattle.export_store.proofs.ZeroLemmas.{emptied, goes_whole, behind_it, before_it}

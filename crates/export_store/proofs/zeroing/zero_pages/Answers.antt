@@ -1,4 +1,4 @@
-use Rattle.std.proofs.Common.{◌≡◌, ◌∙◌, ◌+◌, ◌-◌, ◌*◌, ◌%◌, ◌/◌, ℕ, min, refl, arith}
+use Rattle.std.proofs.Common.{◌+◌, ◌-◌, ◌*◌, ◌%◌, ◌/◌, ℕ, refl}
 use Rattle.page_table.specs.Table.{in_table}
 use Rattle.export_store.proofs.ZeroLemmas.{all_zeroed}
 use Rattle.export_store.proofs.zeroing.zero_pages.Goals as goal

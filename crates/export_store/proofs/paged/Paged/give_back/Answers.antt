@@ -1,4 +1,4 @@
-use Rattle.std.proofs.Common.{◌≡◌, ◌∙◌, ℕ, ◌+◌, ◌≤◌, ◌&&◌, not, length, replicate, refl, ap, arith}
+use Rattle.std.proofs.Common.{◌∙◌, ◌+◌, ◌≤◌, ◌&&◌, not, replicate, refl, ap, arith}
 use Rattle.payload.specs.Bytes.{overwritten}
 use Rattle.export_store.specs.Pages.{Pages, image_of, is_held, lies_whole_in}
 use Rattle.export_store.proofs.ImageLemmas.{length_seen, held_of_stored}

@@ -1,4 +1,4 @@
-use Rattle.std.proofs.Common.{◌≡◌, ◌∙◌, ℕ, ◌+◌, ◌≤◌, ◌||◌, length, replicate, refl, ap, arith}
+use Rattle.std.proofs.Common.{◌∙◌, ◌+◌, ◌≤◌, ◌||◌, replicate, refl, ap, arith}
 use Rattle.payload.specs.Bytes.{overwritten}
 use Rattle.export_store.specs.Pages.{Pages, image_of, is_held, has_byte_of}
 use Rattle.export_store.proofs.ImageLemmas.{length_seen, on_err, image_same, IsPaged-same, held_of_stored}

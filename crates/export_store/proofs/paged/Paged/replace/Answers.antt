@@ -1,6 +1,6 @@
-use Rattle.std.proofs.Common.{◌≡◌, Some, length, refl, ap, arith}
+use Rattle.std.proofs.Common.{◌≡◌, length, refl, ap, arith}
 use Rattle.export_store.specs.Pages.{image_of}
-use Rattle.export_store.proofs.ImageLemmas.{Changes, changes, length_seen, on_err, IsPaged-replace, length-replace, held_replace, image_same, IsPaged-same}
+use Rattle.export_store.proofs.ImageLemmas.{changes, length_seen, on_err, IsPaged-replace, length-replace, held_replace, image_same, IsPaged-same}
 use Rattle.export_store.proofs.paged.Paged.replace.Goals as goal
 
 pub invariant_of-self : goal.invariant_of-self

@@ -1,4 +1,4 @@
-use Rattle.std.proofs.Common.{◌≡◌, ◌∙◌, ◌/◌, ◌||◌, true, inl, inr, nat_eq, Bool, ℕ, refl, ap, arith}
+use Rattle.std.proofs.Common.{◌∙◌, ◌/◌, ◌||◌, inl, inr, nat_eq, Bool, ℕ, refl, ap, arith}
 use Rattle.std.proofs.lemmas.Bool.{cases_eq}
 use Rattle.export_store.specs.Pages.{is_stored, is_held}
 use Rattle.export_store.proofs.ImageLemmas.{held_of_stored}

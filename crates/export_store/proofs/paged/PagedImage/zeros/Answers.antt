@@ -1,4 +1,3 @@
-use Rattle.export_store.specs.Pages.{Pages}
 use Rattle.export_store.proofs.ImageLemmas.{IsPaged-none, image_of-none, none_is_held}
 use Rattle.export_store.proofs.paged.PagedImage.zeros.Goals as goal
 
