@@ -8,6 +8,7 @@ ghost use Rattle.server_table.specs.Table.{Table, Setup};
 ghost use Rattle.core_laws.specs.Runs.{Run, answers_in, table_in};
 ghost use Rattle.core_laws.specs.Statements.{IsToldAsAlone, EndsAsAlone, IsToldTheSame, EndsTheSame, LeavesOthers, LeavesUnchosen, LeavesAll, QueueCountsItsOwn, QueuesCountTheirOwn, WeightWaitsForItsLimit, WeightsWait, ReservationBeforeWeight, ReservationsBeforeWeights, HasUnrolledTags, HeadsSuffice, ChoosesNoneBefore, ChoosesByLimit, ChoosesByReservation, KeepsOtherAnswers, KeepsLastTable};
 ghost use Rattle.core_laws.specs.Shares.{WeightsTakeTheLeast, SharesByWeight, RisesByItsChoices, SharesByRatio};
+ghost use Rattle.core_laws.specs.Between.{SharesBetween, RatioBetween};
 
 use std::alloc::Allocator;
 
@@ -87,6 +88,8 @@ pub fn shares<A: Allocator>()
     ensures bound { (run : Run A) → SharesByWeight run.setup run.events (answers_in run) run.marks }
     ensures tags { (run : Run A) → RisesByItsChoices run.setup run.events (answers_in run) run.marks }
     ensures ratio { (run : Run A) → SharesByRatio run.setup run.events (answers_in run) run.marks }
+    ensures between { (run : Run A) → SharesBetween run.setup run.events (answers_in run) run.marks }
+    ensures ratio_between { (run : Run A) → RatioBetween run.setup run.events (answers_in run) run.marks }
 {}
 
 /// Where the events that found no memory are taken out of a run with their marks, every other answer stays, and the last
