@@ -11,9 +11,9 @@ use Rattle.server_table.specs.declared.event.Answer.{Answer}
 use Rattle.server_table.specs.declared.event.Answer.TheVariants as said
 use Rattle.server_table.specs.Table.{Row, Table, Setup, waits_in, is_idle, choice, opening_table}
 use Rattle.server_table.specs.Steps.{Outcome, step, run_answers}
-use Rattle.core_laws.specs.Counts.{is_phase, is_choice_in}
+use Rattle.core_laws.specs.Counts.{is_choice_in}
 use Rattle.core_laws.specs.Statements.{StandsAt, WaitsInItsLimit, table_before}
-use Rattle.core_laws.specs.Shares.{first_of, WaitsThrough, GoesFrom}
+use Rattle.core_laws.specs.Shares.{first_of, GoesFrom}
 use Rattle.core_laws.specs.Between.{IsChosenAt, IsChosenTwice, WaitBetween}
 use Rattle.lone_export.proofs.Cases.{true_false, some_told}
 use Rattle.core_laws.proofs.Order.{Mem, mem_all, mem_filter}
@@ -48,11 +48,11 @@ some_wait (x ∷ xs) k row at = more (length xs)
 
 -- ---- a choice is of the first request
 
-module _ {A : Type 0} where
-  -- request n is the first of export f
-  abbrev IsFirst : ℕ → ℕ → Table → Type 0
-  IsFirst f n table = (c : Row) × (first_of f table ≡ Some c) × (c.number ≡ n)
+-- request n is the first of export f
+abbrev IsFirst : ℕ → ℕ → Table → Type 0
+IsFirst f n table = (c : Row) × (first_of f table ≡ Some c) × (c.number ≡ n)
 
+module _ {A : Type 0} where
   picks_first : (setup : Setup) (terms : Terms) (table : Table) (f n t : ℕ) (phase : Phase) (memory : Bool) → Tidy terms f table →
       (step {A = A} setup table (Dispatch t) memory).answer ≡ said.Picked f n phase → IsFirst f n table
   picks_first setup terms table f n t phase memory tidy =
@@ -78,7 +78,7 @@ module _ {A : Type 0} where
   chosen_is_first setup terms f k events marks row there at =
       let table : Table = table_before k setup events marks in
       let tidy : Tidy terms f table = (reached_before setup terms f k events marks there).tidy in
-      let first : IsFirst f row.number table = at_place setup (λ told. told ≡ said.Picked f row.number at.phase → IsFirst f row.number table) (Dispatch at.moment) events (opening_table setup) marks k at.stands.0
+      let first : IsFirst f row.number table = at_place setup (λ answer. answer ≡ said.Picked f row.number at.phase → IsFirst f row.number table) (Dispatch at.moment) events (opening_table setup) marks k at.stands.0
       (λ memory. picks_first setup terms table f row.number at.moment at.phase memory tidy) (said.Picked f row.number at.phase) at.stands.1 refl in
       one_of_number (filter (waits_in f) table.rows) first.0 row (waiting_sorted f table.rows tidy.sorted) first.1 (at_mem row (filter (waits_in f) table.rows) at.place at.waits) (sym first.2)
 
@@ -99,7 +99,7 @@ module _ {A : Type 0} where
       StandsAt k events (run_answers setup events marks) (Dispatch t) (said.Picked f n Weight) → row.number ≡ n →
       first_of f (table_before k setup events marks) ≡ Some row → row.l ≤ℤ pos (max (table_before k setup events marks).now t)
   due_where_chosen setup terms f k n t events marks row there stands number first =
-      go (at_place setup (λ told. told ≡ said.Picked f n Weight → WaitsInItsLimit table t f n) (Dispatch t) events (opening_table setup) marks k stands.0
+      go (at_place setup (λ answer. answer ≡ said.Picked f n Weight → WaitsInItsLimit table t f n) (Dispatch t) events (opening_table setup) marks k stands.0
       (λ memory. weight_waits setup table f n t memory) (said.Picked f n Weight) stands.1 refl)
     where
       table : Table
@@ -119,7 +119,7 @@ module _ {A : Type 0} where
       IsChosenTwice f i j setup events (run_answers setup events marks) marks start end → WaitBetween e f i j setup events marks start → Alongside e f i j setup events marks start
   along_between setup terms e f i j events marks start end there twice waits = record {
     f_waits = λ k low up. waits_at (eqb i k) k refl low up;
-    f_due = λ k t row told low lt stands chosen first. due_at (eqb i k) k t row told refl low lt stands chosen first;
+    f_due = λ k t row answer low lt stands chosen first. due_at (eqb i k) k t row answer refl low lt stands chosen first;
     e_waits = waits.e_waits;
     not_below = waits.not_below;
   }
@@ -141,20 +141,20 @@ module _ {A : Type 0} where
       by_weight Weight h = refl
       by_weight Reservation h = true_false (sym (and_right (eqb f e) _ h))
 
-      at_first : (t : ℕ) (row : Row) (told : Answer A) → StandsAt i events (run_answers setup events marks) (Dispatch t) told → is_choice_in e Weight told ≡ true →
+      at_first : (t : ℕ) (row : Row) (answer : Answer A) → StandsAt i events (run_answers setup events marks) (Dispatch t) answer → is_choice_in e Weight answer ≡ true →
           first_of f (at i) ≡ Some row → row.l ≤ℤ pos (max (at i).now t)
-      at_first t row told stands chosen first =
-          let is : said.Picked f start.number twice.first.phase ≡ told = same_Some _ told (sym twice.first.stands.1 ∙ stands.1) in
+      at_first t row answer stands chosen first =
+          let is : said.Picked f start.number twice.first.phase ≡ answer = same_Some _ answer (sym twice.first.stands.1 ∙ stands.1) in
           let phase : twice.first.phase ≡ Weight = by_weight twice.first.phase (subst (λ (x : Answer A). is_choice_in e Weight x ≡ true) (sym is) chosen) in
           due_where_chosen setup terms f i start.number t events marks row there
           (stands.0, subst (λ (p : Phase). slice_get (run_answers setup events marks) i ≡ Some (said.Picked f start.number p)) phase twice.first.stands.1)
           (ap (λ (r : Row). r.number) (same_Some row start (sym first ∙ chosen_is_first setup terms f i events marks start there twice.first))) first
 
-      due_at : (b : Bool) (k t : ℕ) (row : Row) (told : Answer A) → eqb i k ≡ b → i ≤ k → k < j → StandsAt k events (run_answers setup events marks) (Dispatch t) told → is_choice_in e Weight told ≡ true →
+      due_at : (b : Bool) (k t : ℕ) (row : Row) (answer : Answer A) → eqb i k ≡ b → i ≤ k → k < j → StandsAt k events (run_answers setup events marks) (Dispatch t) answer → is_choice_in e Weight answer ≡ true →
           first_of f (at k) ≡ Some row → row.l ≤ℤ pos (max (at k).now t)
-      due_at true k t row told h low lt stands chosen first =
+      due_at true k t row answer h low lt stands chosen first =
           let back : k ≡ i = sym (same k h) in
           subst (λ (x : ℕ). row.l ≤ℤ pos (max (at x).now t)) (same k h)
-          (at_first t row told (subst (λ (x : ℕ). StandsAt x events (run_answers setup events marks) (Dispatch t) told) back stands) chosen
+          (at_first t row answer (subst (λ (x : ℕ). StandsAt x events (run_answers setup events marks) (Dispatch t) answer) back stands) chosen
           (subst (λ (x : ℕ). first_of f (at x) ≡ Some row) back first))
-      due_at false k t row told h low lt stands chosen first = waits.f_due k t row (above k h low) lt stands.0 first
+      due_at false k t row answer h low lt stands chosen first = waits.f_due k t row (above k h low) lt stands.0 first

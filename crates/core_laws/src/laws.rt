@@ -81,8 +81,9 @@ pub fn choice_count<A: Allocator>()
 /// Where exports e and f wait side by side from one place of a run to a later one, f's first request is within its limit at
 /// each dispatch between, and e's first P tag wasn't below f's at the start, e is chosen by weight once at most, and once
 /// more for each interval of e by which f's first P tag has risen, the shifts between taken off. Where f's requests arrived
-/// in time that is an interval of f for each choice of f, so it follows from the weights alone. Nothing is said of time, of
-/// how long a request takes, or of an export that begins to wait in between.
+/// in time that is an interval of f for each choice of f, so it follows from the weights alone. `between` and
+/// `ratio_between` say it from a choice of f to a later choice of f, where f has to wait and to be due only between the two.
+/// Nothing is said of time, of how long a request takes, or of an export that begins to wait in between.
 pub fn shares<A: Allocator>()
     ensures least { (run : Run A) → WeightsTakeTheLeast run.setup run.events (answers_in run) run.marks }
     ensures bound { (run : Run A) → SharesByWeight run.setup run.events (answers_in run) run.marks }

@@ -1,6 +1,6 @@
 //! Runs that were worked out by hand.
 ghost use Rattle.core_laws.specs.Worked.{GreaterWeightGoesSooner, LimitHoldsBack, TagsComeFromTheArrival, MomentsComeInAnyOrder, WeightIsCredited, CreditMovesTheLastTag, CreditMovesTheWaiting, ShiftMovesTheWaiting, ShiftLeavesTheNewcomer, EqualsGoByExport, IdleExportKeepsItsLastP, ReservationGoesFirst, DepthRefuses, DepthCountsItsOwn, InflightHoldsBack, WindowHolds, SixtyFourAreFull, RefusalsComeInOrder, LeftSessionGetsItsReplies, WantOfMemoryIsTold, GoneIsStillServed, StepsAreCounted};
-ghost use Rattle.core_laws.specs.WorkedShares.{TwiceTheWeightIsServed, TwiceTheWeightIsReached, BothTagsAreInTheSameTerms, BoundBetweenIsReached, RatioBetweenIsReached, ChoicesAreInTheSameTerms, FMustWait, FMustBeDue, EMustWait, EMustNotBeBehind, FMustArriveInTime};
+ghost use Rattle.core_laws.specs.WorkedShares.{TwiceTheWeightIsServed, TwiceTheWeightIsReached, BothTagsAreInTheSameTerms, BoundBetweenIsReached, RatioBetweenIsReached, ChoicesAreInTheSameTerms, FMustWait, FMustBeDue, EMustWait, EMustHaveAnInterval, EMustNotBeBehind, FMustArriveInTime};
 
 use std::alloc::Allocator;
 
@@ -41,6 +41,7 @@ pub fn worked_shares<A: Allocator>()
     ensures f_waits { FMustWait A }
     ensures f_due { FMustBeDue A }
     ensures e_waits { EMustWait A }
+    ensures e_interval { EMustHaveAnInterval A }
     ensures e_not_behind { EMustNotBeBehind A }
     ensures f_in_time { FMustArriveInTime A }
 {}
