@@ -1,5 +1,5 @@
 -- A choice of an export is of its first request, so the bounds hold from one choice of it to a later one.
-use Rattle.std.proofs.Common.{◌≡◌, ℕ, suc, ◌+◌, ◌<◌, ◌≤◌, max, Bool, true, false, not, eqb, ◌==◌, List, [], ◌∷◌, length, filter, slice_get, Some, ℤ, pos, ◌≤ℤ◌, refl, sym, subst, ap, ◌∙◌, arith, inl, inr}
+use Rattle.std.proofs.Common.{◌≡◌, ℕ, suc, ◌+◌, ◌<◌, ◌≤◌, max, Bool, true, false, not, eqb, ◌==◌, List, [], ◌∷◌, length, filter, slice_get, Some, pos, ◌≤ℤ◌, refl, sym, subst, ap, ◌∙◌, arith, inl, inr}
 use Rattle.std.proofs.lemmas.Bool.Decides.{nat_tests}
 use Rattle.std.proofs.lemmas.Option.{same_Some, none-some}
 use Rattle.nbd_commands.specs.Terms.{Terms}
