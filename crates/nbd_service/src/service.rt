@@ -92,7 +92,8 @@ impl<L: Ledger> Service<L> {
         for _ in config.exports() {
             waiting_writes.push(AtomicU64::new(0))?;
         }
-        shared.hold(rt).set_tally(tally_of(alloc, config)?);
+        let tally = tally_of(alloc, config)?;
+        shared.hold(rt).set_tally(tally);
         // The C library gives no block of this size back to the system from now on, which would cost more than the copies.
         drop(Vec::<u8>::with_capacity(alloc, KEPT_BLOCK_BYTES)?);
         Ok(Service {
