@@ -63,9 +63,9 @@ impl<'a> Lines<'a> {
 
     /// Takes what was read, up to a line feed. Tells whether there was one.
     fn take_line(&mut self) -> bool {
-        while self.at < self.count {
-            let byte = self.chunk.get(self.at).copied().unwrap_or(b'\n');
-            self.at = self.at.saturating_add(1);
+        for at in self.at..self.count {
+            let byte = self.chunk.get(at).copied().unwrap_or(b'\n');
+            self.at = at.saturating_add(1);
             if byte == b'\n' {
                 return true;
             }
