@@ -53,20 +53,8 @@ pub fn serve_on<R: Wait + Threads + Sync + time::Clock>(
     let listening = crew.sessions.most().saturating_mul(entrances.len() as u64);
     let passes = passes_for(listening, crew.workers);
     let blank = Blank::new(passes);
-    let doors = Doors {
-        entrances: entrances.as_slice(),
-        control: control.as_ref(),
-        crew,
-    };
-    serve_booked::<Brand, R>(rt, alloc, config, &doors, blank, passes)
-}
-
-/// Where clients come in, and how many threads serve them.
-#[derive(Drop)]
-struct Doors<'a> {
-    entrances: &'a [Entrance],
-    control: Option<&'a ControlSocket>,
-    crew: Crew,
+    let entrances = entrances.as_slice();
+    serve_booked::<Brand, R>(rt, alloc, config, entrances, &control, crew, blank, passes)
 }
 
 /// Serves with so many passes.
@@ -74,7 +62,9 @@ fn serve_booked<L: Ledger + Send + Sync, R: Wait + Threads + Sync + time::Clock>
     rt: &R,
     alloc: Global,
     config: &Config<Global>,
-    doors: &Doors<'_>,
+    entrances: &[Entrance],
+    control: &Option<ControlSocket>,
+    crew: Crew,
     blank: Blank,
     passes: u64,
 ) -> Result<u128, ServeFault>
@@ -89,7 +79,7 @@ fn serve_booked<L: Ledger + Send + Sync, R: Wait + Threads + Sync + time::Clock>
     };
     let table = table_of(alloc, config.exports())?;
     let service = Service::new(rt, alloc, config, table, shared, PassPool::new(passes))?;
-    let listened = run_threads(rt, &service, config, doors);
+    let listened = run_threads(rt, &service, config, entrances, control, crew);
     let Service { shared, passes, .. } = service;
     let booked = shared.end();
     let passes = passes.end();
@@ -107,20 +97,24 @@ fn run_threads<L: Ledger + Send + Sync, R: Wait + Threads + Sync + time::Clock>(
     rt: &R,
     service: &Service<L>,
     config: &Config<Global>,
-    doors: &Doors<'_>,
+    entrances: &[Entrance],
+    control: &Option<ControlSocket>,
+    crew: Crew,
 ) -> bool {
     thread::scope(thread::scope_env(), rt, |scope| {
         let mut all = true;
-        for _ in 0..doors.crew.workers {
+        for _ in 0..crew.workers {
             let started = scope.spawn(move || run_worker(rt, service));
             all = all && started.is_ok();
         }
-        if let Some(control) = doors.control {
-            let started = scope.spawn(move || serve_control(rt, service, config, doors, control));
+        if let Some(control) = control {
+            let started = scope.spawn(move || serve_control(
+                rt, service, config, entrances, control,
+            ));
             all = all && started.is_ok();
         }
-        let listened = all && listen(rt, service, doors.entrances, doors.crew.sessions.most());
-        if let Some(control) = doors.control {
+        let listened = all && listen(rt, service, entrances, crew.sessions.most());
+        if let Some(control) = control {
             control.end();
         }
         service.shared.stop();

@@ -2,7 +2,7 @@
 
 use super::control_lines::Lines;
 use super::listener::{Entrance, Listener, may_pass};
-use super::{Doors, stop};
+use super::stop;
 use nbd_base::NoMemory;
 use nbd_commands::{Config, ExportConfig};
 use nbd_control::{
@@ -71,7 +71,7 @@ pub fn serve_control<L: Ledger + Send + Sync, R: Wait + Threads + Sync + time::C
     rt: &R,
     service: &Service<L>,
     config: &Config<Global>,
-    doors: &Doors<'_>,
+    entrances: &[Entrance],
     control: &ControlSocket,
 ) {
     thread::scope(thread::scope_env(), rt, |scope| {
@@ -84,7 +84,7 @@ pub fn serve_control<L: Ledger + Send + Sync, R: Wait + Threads + Sync + time::C
                 Ok(peer) => {
                     if control.enter() {
                         let started = scope.spawn(move || {
-                            serve_lines(rt, service, config, doors, control, &peer);
+                            serve_lines(rt, service, config, entrances, control, &peer);
                             control.leave();
                         });
                         if started.is_err() {
@@ -106,7 +106,7 @@ fn serve_lines<L: Ledger, R: Wait + time::Clock>(
     rt: &R,
     service: &Service<L>,
     config: &Config<Global>,
-    doors: &Doors<'_>,
+    entrances: &[Entrance],
     control: &ControlSocket,
     peer: &TcpStream,
 ) {
@@ -120,14 +120,7 @@ fn serve_lines<L: Ledger, R: Wait + time::Clock>(
             return;
         }
         let mut text = Vec::new(service.alloc);
-        let answered = answer_line(
-            rt,
-            service,
-            config,
-            doors.entrances,
-            lines.line(),
-            &mut text,
-        );
+        let answered = answer_line(rt, service, config, entrances, lines.line(), &mut text);
         let written = answered.is_ok() && writer.write_all(text.as_slice()).is_ok();
         if !written {
             return;
