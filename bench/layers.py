@@ -14,14 +14,14 @@ from drawing import COLOURS, Drawing
 # From the top. Each layer stands on those below it alone, and its crates on these and on each other.
 LAYERS = [
     ("the program", ["nbdq"]),
-    ("commands, scripts, files", ["nbdq_cli", "nbd_scripts", "nbd_config"]),
+    ("commands, scripts, files", ["nbdq_cli", "nbd_scripts", "nbd_config", "nbd_control"]),
     ("connections, threads", ["nbd_connection", "nbd_service"]),
     ("turns under one lock", ["session_turns", "server_lock", "nbd_workers"]),
     ("one conversation", ["nbd_session", "nbd_options"]),
     ("many exports", ["server_core", "core_laws", "server_table", "turn_order"]),
     ("one export", ["export_cell", "lone_export"]),
     ("its parts", ["nbd_commands", "export_queue", "export_store", "page_table", "reply_box", "eligibility"]),
-    ("bytes, tags, words", ["nbd_wire", "payload", "tag_clock", "index_heap", "nbd_text", "nbd_base"]),
+    ("bytes, tags, words", ["nbd_wire", "payload", "tag_clock", "index_heap", "nbd_measures", "nbd_text", "nbd_base"]),
 ]
 LEFT_OUT = {"refusing"}  # for tests alone
 LAWS = {"core_laws", "server_table"}
