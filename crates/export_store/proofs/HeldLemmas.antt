@@ -25,6 +25,9 @@ module _ (pages : Pages) (is : IsPaged pages) (n : ℕ) (all : n ≡ div_ceil pa
 
   pub held_count : (a b : ℕ) → n ≤ a → n ≤ b → count_of (is_stored pages) 0 a + count_of (is_held_zeros pages) 0 b ≡ count_of (is_held pages) 0 n
   held_count a b more too =
-      omega (arith, count_both (is_stored pages) (is_held_zeros pages) 0 n is.apart,
-      count-upto (is_stored pages) n a more (λ k above below. none_stored k above),
-      count-upto (is_held_zeros pages) n b too (λ k above below. none_marked k above))
+      omega (
+        arith,
+        count_both (is_stored pages) (is_held_zeros pages) 0 n is.apart,
+        count-upto (is_stored pages) n a more (λ k above below. none_stored k above),
+        count-upto (is_held_zeros pages) n b too (λ k above below. none_marked k above),
+      )

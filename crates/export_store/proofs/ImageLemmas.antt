@@ -1,5 +1,5 @@
 -- The image after one of its pages has changed.
-use Rattle.std.proofs.Common.{◌≡◌, ◌≢◌, ℕ, zero, suc, ◌+◌, ◌*◌, ◌/◌, ◌%◌, ◌<◌, ◌≤◌, inl, inr, Bool, true, false, ◌||◌, nat_eq, is_some, unwrap_or, Result, Ok, Err, OnOk, OnErr, Option, Some, None, List, ◌++◌, length, take, drop, get_or, replicate, min, if◌then◌else◌, refl, sym, ap, subst, ◌∙◌, arith, length-append}
+use Rattle.std.proofs.Common.{◌≡◌, ◌≢◌, ℕ, zero, suc, ◌+◌, ◌*◌, ◌/◌, ◌%◌, ◌<◌, ◌≤◌, inl, inr, Bool, true, false, ◌||◌, nat_eq, is_some, unwrap_or, Result, Ok, Err, OnOk, OnErr, Option, Some, None, List, ◌++◌, length, take, drop, get_or, replicate, min, if◌then◌else◌, refl, sym, ap, ◌∙◌, arith, length-append}
 use Rattle.std.proofs.lemmas.Bool.{cases_eq}
 use Rattle.std.proofs.lemmas.Bool.Decides.{nat_tests}
 use Rattle.std.proofs.lemmas.List.{length-take, length-replicate, replicate-append-replicate, take-replicate, get_or-take, get_or-replicate}
@@ -9,7 +9,7 @@ use Rattle.payload.proofs.Overwriting.{take-overwritten, range_of-take}
 use Rattle.page_table.specs.Bits.{is_between}
 use Rattle.page_table.specs.Table.{Chunk, in_table}
 use Rattle.page_table.specs.Marks.{is_marked}
-use Rattle.page_table.proofs.RangeLemmas.{between_yes, put_one}
+use Rattle.page_table.proofs.RangeLemmas.{between_yes}
 use Rattle.export_store.specs.Pages.{Pages, stored_page, is_stored, is_held_zeros, is_held, page_of, in_a_row, image_of, IsPaged}
 use Rattle.export_store.proofs.PageLemmas.{length-in_a_row, same_row, range_of-in_a_row, range_of-pages, overwritten-in_a_row, at_row}
 

@@ -1,13 +1,13 @@
 -- An image once a range of it was made zero: its pages, its bytes, and which pages are held.
-use Rattle.std.proofs.Common.{◌≡◌, ◌≢◌, ℕ, ◌+◌, ◌-◌, ◌*◌, ◌/◌, ◌%◌, ◌<◌, ◌≤◌, ◌⊎◌, inl, inr, Bool, true, false, ◌||◌, ◌&&◌, not, nat_lt, nat_le, min, is_some, unwrap_or, Option, None, Some, List, [], ◌++◌, length, replicate, get_or, if◌then◌else◌, refl, sym, ap, subst, ◌∙◌, arith, rules}
+use Rattle.std.proofs.Common.{◌≡◌, ◌≢◌, ℕ, ◌+◌, ◌-◌, ◌*◌, ◌/◌, ◌%◌, ◌<◌, ◌≤◌, ◌⊎◌, inl, inr, Bool, true, false, ◌||◌, ◌&&◌, not, nat_lt, nat_le, min, is_some, Option, None, Some, List, length, replicate, get_or, if◌then◌else◌, refl, sym, ap, ◌∙◌, arith, rules}
 use Rattle.std.proofs.lemmas.Bool.{cases_lt, cases_eq}
 use Rattle.std.proofs.lemmas.Bool.Decides.{nat_tests}
-use Rattle.std.proofs.lemmas.List.{places, same_lists, length-replicate, get_or-replicate}
+use Rattle.std.proofs.lemmas.List.{places, same_lists, length-replicate}
 use Rattle.payload.specs.Bytes.{overwritten}
 use Rattle.payload.specs.Rows.{zero_page}
 use Rattle.payload.proofs.BytesLemmas.{length-overwritten}
 use Rattle.page_table.specs.Bits.{is_between}
-use Rattle.page_table.specs.Table.{Chunk, cleared, in_table}
+use Rattle.page_table.specs.Table.{cleared}
 use Rattle.page_table.proofs.RangeLemmas.{between_yes, between_before, between_behind}
 use Rattle.export_store.specs.Pages.{Pages, IsPaged, stored_page, is_stored, is_held_zeros, is_held, page_of, image_of, has_byte_of, lies_whole_in, zeroed}
 use Rattle.export_store.proofs.ImageLemmas.{shown, at_zero_page, length-zero_page, length-image_of, at_image}
@@ -66,7 +66,7 @@ pub some_zeroed : (size offset count k : ℕ) (page : Option (List ℕ)) → is_
 some_zeroed size offset count k page =
     elim (either (lies_whole_in size offset count k)) [
       | inl whole ↦ ap is_some (zeroed_whole size offset count k page whole) ∙ and_not_true (is_some page) (lies_whole_in size offset count k) whole
-      | inr part ↦ ap is_some (sym (zeroed_part size offset count k _ _ page part refl refl)) ∙ some_cleared _ _ page ∙ and_not_false (is_some page) (lies_whole_in size offset count k) part
+      | inr part ↦ ap is_some (sym (zeroed_part size offset count k _ _ page part refl refl)) ∙ some_cleared (offset - 4096 * k) (min (offset + count - 4096 * k) 4096 - (offset - 4096 * k)) page ∙ and_not_false (is_some page) (lies_whole_in size offset count k) part
     ]
 
 -- its bytes
@@ -190,6 +190,32 @@ or_true false = refl
 pub held_of_zeros : (pages : Pages) (k : ℕ) → is_held_zeros pages k ≡ true → is_held pages k ≡ true
 held_of_zeros pages k zeros = ap (λ (b : Bool). is_stored pages k || b) zeros ∙ or_true (is_stored pages k)
 
+or_none : (a : Bool) → a ≡ (a || false)
+or_none true = refl
+or_none false = refl
+
+-- no bytes are made zero
+none_touched : (offset count k : ℕ) → count ≡ 0 → false ≡ has_byte_of offset count k
+none_touched offset count k none = rw none refl
+
+none_whole : (size offset count k : ℕ) → count ≡ 0 → 4096 * k < size → lies_whole_in size offset count k ≡ false
+none_whole size offset count k none below =
+    elim (either (lies_whole_in size offset count k)) [
+      | inr part ↦ part
+      | inl whole ↦ let from : offset ≤ 4096 * k = grind (arith, nat_tests) in
+          let to : min (4096 * k + 4096) size ≤ offset + count = grind (arith, nat_tests) in
+          absurd (omega arith)
+    ]
+
+pub held_of_nothing : (pages : Pages) (offset count k : ℕ) (keep : Bool) → IsPaged pages → count ≡ 0
+    → is_held pages k ≡ (if keep then is_held pages k || has_byte_of offset count k else is_held pages k && not (lies_whole_in pages.size offset count k))
+held_of_nothing pages offset count k true is none = or_none (is_held pages k) ∙ ap (λ (b : Bool). is_held pages k || b) (none_touched offset count k none)
+held_of_nothing pages offset count k false is none =
+    elim (either (is_held pages k)) [
+      | inl held ↦ and_not_false (is_held pages k) (lies_whole_in pages.size offset count k) (none_whole pages.size offset count k none (is.within k held))
+      | inr free ↦ free ∙ ap (λ (b : Bool). b && not (lies_whole_in pages.size offset count k)) (sym free)
+    ]
+
 or_same : (a b c d : Bool) → a ≡ c → b ≡ d → (a || b) ≡ (c || d)
 or_same a b c d e f = rw (e, f) refl
 
@@ -239,6 +265,15 @@ module _ (old new : Pages) (offset count : ℕ) (is : IsPaged old) (size : new.s
     apart = λ k there. zeros k
         ∙ given_apart (is_stored old k) (is_held_zeros old k) (is_between first end k) (lies_whole_in old.size offset count k) (is.apart k) (sym (is_left k) ∙ there);
   }
+
+-- a number or the next one, as a page there stays or doesn't
+pub behind_it : (b stays : Bool) (n a : ℕ) → b ≡ stays → a ≡ (if b then n + 1 else n) → ((stays ≡ true) × (a ≡ n + 1)) ⊎ ((stays ≡ false) × (a ≡ n))
+behind_it true stays n a same is = inl (sym same, is)
+behind_it false stays n a same is = inr (sym same, is)
+
+pub before_it : (b stays : Bool) (n a : ℕ) → b ≡ stays → a ≡ (if not b then n + 1 else n) → ((stays ≡ true) × (a ≡ n)) ⊎ ((stays ≡ false) × (a ≡ n + 1))
+before_it true stays n a same is = inl (sym same, is)
+before_it false stays n a same is = inr (sym same, is)
 
 pub goes_whole : (a b : Bool) → b ≡ true → (a && not b) ≡ false
 goes_whole a b whole = sym (and_not_true a b whole)
@@ -335,8 +370,8 @@ module _ (size offset count first last start m n k : ℕ) (some : 0 < count) (wi
       ]
 
   not_there : (page : Option (List ℕ)) → (is_some page ≡ true → ⊥) → page ≡ None
-  not_there None no = refl
-  not_there (Some page) no = absurd (no refl)
+  not_there None never = refl
+  not_there (Some page) never = absurd (never refl)
 
   pub page_zeroed : (is_some was ≡ true → 4096 * k < size) → (4096 * k < size → gone ≡ (if lies_whole_in size offset count k then None else was)) → (was ≡ None → gone ≡ None) → back ≡ zeroed size offset count k was
   page_zeroed inside removed absent =

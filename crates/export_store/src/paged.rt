@@ -423,6 +423,7 @@ impl<A: Allocator + Copy> Image for Paged<A> {
         ensures no_memory { OnErr result (image_of self.new ≡ image_of self.old) }
     {
         if count == 0 {
+            let _end = self.end_of(offset, count);
             return Ok(());
         }
         if keep {

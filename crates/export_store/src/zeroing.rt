@@ -1,5 +1,5 @@
 //! How a range of an image in pages is made zero.
-ghost use Rattle.std.specs.Prelude.{◌≡◌, ℕ, ◌+◌, ◌*◌, ◌<◌, ◌≤◌, ◌&&◌, not, is_some, true};
+ghost use Rattle.std.specs.Prelude.{◌≡◌, ℕ, ◌+◌, ◌*◌, ◌<◌, ◌≤◌, ◌&&◌, ◌^◌, not, is_some, true, if◌then◌else◌};
 ghost use Rattle.page_table.specs.Bits.{is_between};
 ghost use Rattle.page_table.specs.Table.{in_table};
 ghost use Rattle.export_store.specs.Pages.{has_byte_of, lies_whole_in, zeroed};
@@ -48,6 +48,14 @@ fn stays<A: Allocator + Copy>(pages: &Table<A>, whole: PageRange, number: usize)
     pages.stores(number) && !whole.has(number)
 }
 
+// A number, or the next one.
+fn next_if(next: bool, number: usize) -> usize
+    requires { number + 1 < 2 ^ 64 }
+    ensures { result ≡ (if next then number + 1 else number) }
+{
+    if next { number + 1 } else { number }
+}
+
 /// The pages that have a byte of a range and aren't stored once it is zero: all but those at its edges that are stored now and don't lie
 /// whole in it.
 pub(crate) fn emptied_pages<A: Allocator + Copy>(
@@ -64,19 +72,9 @@ pub(crate) fn emptied_pages<A: Allocator + Copy>(
     let whole = whole_pages(size, offset, count);
     let first = offset / PAGE;
     let last = (offset + count - 1) / PAGE;
-    let after_first = if stays(pages, whole, first) {
-        first + 1
-    } else {
-        first
-    };
-    let end = if stays(pages, whole, last) {
-        last
-    } else {
-        last + 1
-    };
     PageRange {
-        first: after_first,
-        end,
+        first: next_if(stays(pages, whole, first), first),
+        end: next_if(!stays(pages, whole, last), last),
     }
 }
 

@@ -1,4 +1,4 @@
-use Rattle.std.proofs.Common.{◌+◌, ◌≡◌, inl, inr, arith}
+use Rattle.std.proofs.Common.{◌+◌, inl, inr, arith}
 use Rattle.export_store.proofs.RangeLemmas.{IsLast, whole_is}
 use Rattle.export_store.proofs.zeroing.whole_pages.Goals as goal
 use Rattle.export_store.proofs.zeroing.whole_pages.Goals.{then-end-size, else-end-size}

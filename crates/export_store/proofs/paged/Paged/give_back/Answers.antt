@@ -1,12 +1,12 @@
-use Rattle.std.proofs.Common.{◌≡◌, ◌∙◌, ℕ, ◌+◌, ◌≤◌, ◌&&◌, not, length, replicate, refl, ap, arith}
+use Rattle.std.proofs.Common.{◌∙◌, ◌+◌, ◌≤◌, ◌&&◌, not, replicate, refl, ap, arith}
 use Rattle.payload.specs.Bytes.{overwritten}
 use Rattle.export_store.specs.Pages.{Pages, image_of, is_held, lies_whole_in}
 use Rattle.export_store.proofs.ImageLemmas.{length_seen, held_of_stored}
 use Rattle.export_store.proofs.ZeroLemmas.{IsPaged-given, given_pages, image_zeroed}
 use Rattle.export_store.proofs.paged.Paged.give_back.Goals as goal
 
-pub whole_pages-requires : goal.whole_pages-requires
-whole_pages-requires g c = omega (arith, length_seen _ _ c.self.view_is c.self.invariant, c.requires.within)
+pub whole_pages-whole-requires : goal.whole_pages-whole-requires
+whole_pages-whole-requires g c = omega (arith, length_seen _ _ c.self.view_is c.self.invariant, c.requires.within)
 
 pub zero_pages-requires-clause-within : goal.zero_pages-requires-clause-within
 zero_pages-requires-clause-within g c = omega (arith, length_seen _ _ c.self.view_is c.self.invariant, c.requires.within)

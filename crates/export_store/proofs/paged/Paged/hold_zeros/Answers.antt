@@ -1,12 +1,12 @@
-use Rattle.std.proofs.Common.{◌≡◌, ◌∙◌, ℕ, ◌+◌, ◌≤◌, ◌||◌, length, replicate, refl, ap, arith}
+use Rattle.std.proofs.Common.{◌∙◌, ◌+◌, ◌≤◌, ◌||◌, replicate, refl, ap, arith}
 use Rattle.payload.specs.Bytes.{overwritten}
 use Rattle.export_store.specs.Pages.{Pages, image_of, is_held, has_byte_of}
 use Rattle.export_store.proofs.ImageLemmas.{length_seen, on_err, image_same, IsPaged-same, held_of_stored}
 use Rattle.export_store.proofs.ZeroLemmas.{IsPaged-kept, kept_pages, image_zeroed}
 use Rattle.export_store.proofs.paged.Paged.hold_zeros.Goals as goal
 
-pub emptied_pages-requires-clause-within : goal.emptied_pages-requires-clause-within
-emptied_pages-requires-clause-within g c = omega (arith, length_seen _ _ c.self.view_is c.self.invariant, c.requires.within)
+pub emptied_pages-empty-requires-clause-within : goal.emptied_pages-empty-requires-clause-within
+emptied_pages-empty-requires-clause-within g c = omega (arith, length_seen _ _ c.self.view_is c.self.invariant, c.requires.within)
 
 pub invariant_of-self : goal.invariant_of-self
 invariant_of-self g c =

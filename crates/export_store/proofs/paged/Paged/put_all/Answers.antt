@@ -2,7 +2,7 @@ use Rattle.std.proofs.Common.{◌≡◌, ◌+◌, ◌-◌, ◌/◌, ◌∙◌, i
 use Rattle.std.specs.Int.{div_ceil}
 use Rattle.std.proofs.lemmas.Bool.{cases_eq}
 use Rattle.payload.specs.Rows.{zero_page}
-use Rattle.export_store.specs.Pages.{is_stored, is_held, is_held_zeros, page_of, pages_after}
+use Rattle.export_store.specs.Pages.{is_stored, page_of, pages_after}
 use Rattle.export_store.proofs.ImageLemmas.{held_again}
 use Rattle.export_store.proofs.RangeLemmas.{has_byte}
 use Rattle.export_store.proofs.PieceLemmas.{IsTaken, take_last, length-page_after, length-pages_after, written_none, written_next, written_all, image_after}

@@ -1,5 +1,6 @@
-use Rattle.std.proofs.Common.{Some, length, refl, ap}
-use Rattle.export_store.proofs.ImageLemmas.{Changes, changes, on_err, IsPaged-replace, length-replace, held_replace, image_same, IsPaged-same}
+use Rattle.std.proofs.Common.{◌≡◌, length, refl, ap, arith}
+use Rattle.export_store.specs.Pages.{image_of}
+use Rattle.export_store.proofs.ImageLemmas.{changes, length_seen, on_err, IsPaged-replace, length-replace, held_replace, image_same, IsPaged-same}
 use Rattle.export_store.proofs.paged.Paged.replace.Goals as goal
 
 pub invariant_of-self : goal.invariant_of-self
@@ -10,6 +11,11 @@ returns-in_err-put-clause-long g c = ap length (image_same _ _ c.self.view_is c.
 
 pub returns-in_err-put-clause-no_memory : goal.returns-in_err-put-clause-no_memory
 returns-in_err-put-clause-no_memory g c = on_err _ _ (image_same _ _ c.self.view_is c.self.invariant (record { size = c.self.inside.size; chunks = c.put.new.self; zeros = c.self.inside.zeros }) refl c.in_err-put.ensures.no_memory)
+
+pub overflow_add-number : goal.overflow_add-number
+overflow_add-number g c =
+    let long : length (image_of c.args.self.now) ≡ c.self.inside.size = length_seen _ _ c.self.view_is c.self.invariant in
+    omega (arith, c.requires.begins)
 
 pub invariant_of-self-2 : goal.invariant_of-self-2
 invariant_of-self-2 g c =

@@ -1,4 +1,4 @@
-use Rattle.std.proofs.Common.{◌≡◌, ◌∙◌, ◌/◌, ◌||◌, true, inl, inr, nat_eq, Bool, ℕ, refl, ap, arith}
+use Rattle.std.proofs.Common.{◌∙◌, ◌/◌, ◌||◌, inl, inr, nat_eq, Bool, ℕ, refl, ap, arith}
 use Rattle.std.proofs.lemmas.Bool.{cases_eq}
 use Rattle.export_store.specs.Pages.{is_stored, is_held}
 use Rattle.export_store.proofs.ImageLemmas.{held_of_stored}
@@ -9,8 +9,8 @@ pub loop-number-init : goal.loop-number-init
 loop-number-init g c = record {
   size = refl;
   bytes = refl;
-  held = λ k. hold_none (is_held c.args.self.now k) (c.args.offset / 4096) c.first_absent.result k (λ above below. held_of_stored c.args.self.now k (c.first_absent.ensures.stored k above below));
-  stored = λ k above below. c.first_absent.ensures.stored k above below;
+  held = λ k. hold_none (is_held c.args.self.now k) (c.args.offset / 4096) c.first_absent-number.result k (λ above below. held_of_stored c.args.self.now k (c.first_absent-number.ensures.stored k above below));
+  stored = λ k above below. c.first_absent-number.ensures.stored k above below;
 }
 
 pub loop-number-preserved : goal.loop-number-preserved
