@@ -16,12 +16,12 @@ use Rattle.server_table.specs.Steps.{Outcome, step, run_answers}
 use Rattle.server_table.specs.Shares.{is_choice_of}
 use Rattle.core_laws.specs.Counts.{is_accepted}
 use Rattle.core_laws.specs.Statements.{table_before}
-use Rattle.core_laws.specs.Shares.{shift_at, fall, fallen_before, in_terms_of, chosen_before, weight_choices, all_choices, WaitsThrough, GoesFrom, WaitBeside, ArriveInTime}
+use Rattle.core_laws.specs.Shares.{shift_at, fall, fallen_before, in_terms_of, chosen_before, weight_choices, all_choices, WaitsThrough, GoesFrom, ArriveInTime}
 use Rattle.lone_export.proofs.Cases.{if_one}
 use Rattle.core_laws.proofs.Lanes.{Turn, Lane, lane, turn_of, turn_lowered, lane_lowered, lane_unlowered, lane_pushed, lane_popped, lane_after, IsQuiet, Goes, goes}
 use Rattle.core_laws.proofs.Chains.{IsChain, Chained, IsWaiting, Reached, reached_before}
 use Rattle.core_laws.proofs.Onward.{along, counted, Ended, OnwardBy, onward}
-use Rattle.core_laws.proofs.Beside.{waiting_is, bounded}
+use Rattle.core_laws.proofs.Beside.{waiting_is, Alongside, bounded}
 
 -- ---- an interval apart
 
@@ -344,7 +344,7 @@ module _ {A : Type 0} where
         difference x a c e = omega (arith, e)
 
   pub bounded_by_ratio : (setup : Setup) (one other : Terms) (e f i j : ℕ) (events : List (Event A)) (marks : List Bool) (start end : Row) → slice_get setup.exports e ≡ Some one → slice_get setup.exports f ≡ Some other → 0 < one.p_interval →
-      GoesFrom f i j setup events marks start end → WaitBeside e f i j setup events marks start → ArriveInTime f other start end setup events (run_answers setup events marks) marks →
+      GoesFrom f i j setup events marks start end → Alongside e f i j setup events marks start → ArriveInTime f other start end setup events (run_answers setup events marks) marks →
       weight_choices e i j (run_answers setup events marks) ≤ 1 + (all_choices f i j (run_answers setup events marks) * other.p_interval) / one.p_interval
   bounded_by_ratio setup one other e f i j events marks start end one_there other_there some goes_from waits in_time =
       subst (λ (gap : ℕ). weight_choices e i j (run_answers setup events marks) ≤ 1 + gap / one.p_interval)
