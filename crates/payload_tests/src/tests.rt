@@ -131,10 +131,12 @@ fn a_payload_tells_how_it_lies(rt: HostRuntime) {
     let bytes = bytes.as_slice();
     let several = Payload::copied(alloc, 4_095, bytes).expect(&rt, "memory");
     assert!(rt; lies_in_pages(alloc, &several, bytes, 4));
-    let short = Payload::copied(alloc, 4_000, &bytes[..96]).expect(&rt, "memory");
-    assert!(rt; lies_in_one_piece(&short, &bytes[..96]));
-    let page = Payload::copied(alloc, 0, &bytes[..4_096]).expect(&rt, "memory");
-    assert!(rt; lies_in_one_piece(&page, &bytes[..4_096]));
+    let begin = bytes.get(..96).expect(&rt, "bytes");
+    let short = Payload::copied(alloc, 4_000, begin).expect(&rt, "memory");
+    assert!(rt; lies_in_one_piece(&short, begin));
+    let begin = bytes.get(..4_096).expect(&rt, "bytes");
+    let page = Payload::copied(alloc, 0, begin).expect(&rt, "memory");
+    assert!(rt; lies_in_one_piece(&page, begin));
 }
 
 #[test]
@@ -154,11 +156,23 @@ fn bytes_are_a_payload(rt: HostRuntime) {
     assert!(rt; payload.into_page().is_err());
 }
 
+// A page of a copy of these bytes, where there are 4,096.
+fn page_of<A: Allocator + Copy>(alloc: A, bytes: &[u8]) -> Option<Page<A>> {
+    let Ok(piece) = Bytes::copy_from_slice(alloc, bytes) else {
+        return None;
+    };
+    if piece.len() == PAGE {
+        Some(Page::of(piece))
+    } else {
+        None
+    }
+}
+
 #[test]
 fn bytes_of_a_page_are_that_page(rt: HostRuntime) {
     let alloc = rt.alloc();
     let bytes = numbers(alloc, 4_096).expect(&rt, "memory");
-    let page = Page::of(Bytes::copy_from_slice(alloc, bytes.as_slice()).expect(&rt, "memory"));
+    let page = page_of(alloc, bytes.as_slice()).expect(&rt, "a page");
     assert!(rt; page.as_bytes().as_slice() == bytes.as_slice());
     let payload = Payload::in_one_piece(page.into_bytes());
     assert!(rt; payload.page_at(0).is_some());
