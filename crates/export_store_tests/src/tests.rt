@@ -613,7 +613,9 @@ fn range_of(seed: &mut u64) -> (usize, usize) {
 // Makes one change to both.
 fn changes(alloc: Global, both: &mut Both<Global>, seed: &mut u64) -> bool {
     let (offset, count) = range_of(seed);
-    let place = both.begin + offset;
+    let Some(place) = both.begin.checked_add(offset) else {
+        return false;
+    };
     match next_of(seed) % 4 {
         0 => {
             zeroes(&mut both.paged, place, count, true)
@@ -637,7 +639,10 @@ fn changes(alloc: Global, both: &mut Both<Global>, seed: &mut u64) -> bool {
 // Whether both have the same bytes.
 fn are_same(alloc: Global, both: &Both<Global>) -> bool {
     let size = both.flat.size();
-    if both.begin + size > both.paged.size() {
+    let Some(end) = both.begin.checked_add(size) else {
+        return false;
+    };
+    if end > both.paged.size() {
         return false;
     }
     let (Ok(payload), Ok(flat)) = (both.paged.read(both.begin, size), all_of(alloc, &both.flat))
