@@ -1,15 +1,16 @@
 -- From each waiting request to the next the number rises by one and the P tag by the interval or more: so every step leaves it.
-use Rattle.std.proofs.Common.{◌≡◌, ℕ, ◌+◌, Bool, true, false, ◌==◌, List, [], ◌∷◌, ◌++◌, map, take, drop, get_or, slice_get, Option, Some, None, if◌then◌else◌, ℤ, pos, ◌-ℤ◌, ◌+ℤ◌, ◌≤ℤ◌, refl, sym, subst, ap, arith}
+use Rattle.std.proofs.Common.{◌≡◌, ◌≤◌, ℕ, ◌+◌, Bool, true, false, ◌==◌, List, [], ◌∷◌, ◌++◌, map, take, drop, get_or, slice_get, Option, Some, None, if◌then◌else◌, ℤ, pos, ◌-ℤ◌, ◌+ℤ◌, ◌≤ℤ◌, refl, sym, subst, ap, ◌∙◌, arith}
 use Rattle.std.specs.Int.{int_max}
 use Rattle.std.proofs.lemmas.Int.{ints}
-use Rattle.std.proofs.lemmas.Option.{same_Some, none-some}
+use Rattle.std.proofs.lemmas.Option.{same_Some, none-some, slice_get_within}
 use Rattle.nbd_commands.specs.Terms.{Terms}
+use Rattle.tag_clock.specs.Intervals.{Intervals}
 use Rattle.tag_clock.specs.Tags.{later}
 use Rattle.tag_clock.specs.Clocks.{lowered}
 use Rattle.server_table.specs.declared.event.Event.{Event}
 use Rattle.server_table.specs.declared.event.Event.TheVariants.{Attach, Arrive, Dispatch, Perform, Take, Leave, Gone}
 use Rattle.server_table.specs.declared.event.Answer.{Answer}
-use Rattle.server_table.specs.Table.{Table, Setup, opening_table}
+use Rattle.server_table.specs.Table.{Side, Table, Setup, side, opening_table}
 use Rattle.server_table.specs.Steps.{step, table_after}
 use Rattle.server_table.specs.Shares.{is_choice_of}
 use Rattle.core_laws.specs.Counts.{is_accepted}
@@ -19,7 +20,7 @@ use Rattle.lone_export.proofs.Cases.{if_one}
 use Rattle.core_laws.proofs.Order.{lowered_le}
 use Rattle.core_laws.proofs.Tidy.{Tidy}
 use Rattle.core_laws.proofs.Chosen.{tidy_step}
-use Rattle.core_laws.proofs.Runs.{opening_tidy}
+use Rattle.core_laws.proofs.Runs.{opening_tidy, opening_side_at, rates_step}
 use Rattle.core_laws.proofs.Lanes.{Turn, Lane, lane, turn_lowered, last_lowered, lane_lowered, lane_pushed, lane_popped, lane_after, goes}
 
 -- of a request and those behind it
@@ -157,21 +158,39 @@ module _ {A : Type 0} where
 
 -- ---- of a table
 
-pub record Reached (terms : Terms) (e : ℕ) (table : Table) : Type 0 where
-  pub tidy : Tidy terms e table
-  pub chained : Chained terms.p_interval (lane e table)
+-- the interval of export e's weight that is in force is this one, and its requests that wait are as far apart
+pub record Reached (e interval : ℕ) (table : Table) : Type 0 where
+  pub tidy : Tidy e table
+  pub rate : (side table e).rates.p_interval ≡ interval
+  pub chained : Chained interval (lane e table)
 
 module _ {A : Type 0} where
-  reached_step : (setup : Setup) (terms : Terms) (table : Table) (e : ℕ) (event : Event A) (memory : Bool) → slice_get setup.exports e ≡ Some terms → Reached terms e table → Reached terms e (step setup table event memory).table
-  reached_step setup terms table e event memory there h = record {
-    tidy = tidy_step setup terms table e event memory there h.tidy;
-    chained = subst (Chained terms.p_interval) (sym (goes setup terms table e event memory there h.tidy).moves)
-        (chain_after e terms.p_interval event (step setup table event memory).answer (fall table event (step setup table event memory).answer) (lane e table) h.chained);
+  -- what an event does to the requests that wait
+  pub moves_at : (setup : Setup) (table : Table) (e interval : ℕ) (event : Event A) (memory : Bool) → Reached e interval table →
+      lane e (step setup table event memory).table ≡ lane_after e interval event (step setup table event memory).answer (fall table event (step setup table event memory).answer) (lane e table)
+  moves_at setup table e interval event memory h =
+      (goes setup table e event memory h.tidy).moves
+      ∙ ap (λ (i : ℕ). lane_after e i event (step setup table event memory).answer (fall table event (step setup table event memory).answer) (lane e table)) h.rate
+
+  reached_step : (setup : Setup) (terms : Terms) (table : Table) (e interval : ℕ) (event : Event A) (memory : Bool) → slice_get setup.exports e ≡ Some terms → Reached e interval table → Reached e interval (step setup table event memory).table
+  reached_step setup terms table e interval event memory there h = record {
+    tidy = tidy_step setup table e event memory h.tidy;
+    rate = ap (λ (rates : Intervals). rates.p_interval) (rates_step setup terms table e event memory there h.tidy) ∙ h.rate;
+    chained = subst (Chained interval) (sym (moves_at setup table e interval event memory h))
+        (chain_after e interval event (step setup table event memory).answer (fall table event (step setup table event memory).answer) (lane e table) h.chained);
   }
 
-  reached_all : (setup : Setup) (terms : Terms) (e : ℕ) → slice_get setup.exports e ≡ Some terms → (events : List (Event A)) (table : Table) (marks : List Bool) → Reached terms e table → Reached terms e (table_after setup table events marks)
-  reached_all setup terms e there [] table marks h = h
-  reached_all setup terms e there (event ∷ events) table marks h = reached_all setup terms e there events (step setup table event (get_or marks 0 true)).table (drop 1 marks) (reached_step setup terms table e event (get_or marks 0 true) there h)
+  reached_all : (setup : Setup) (terms : Terms) (e interval : ℕ) → slice_get setup.exports e ≡ Some terms → (events : List (Event A)) (table : Table) (marks : List Bool) → Reached e interval table → Reached e interval (table_after setup table events marks)
+  reached_all setup terms e interval there [] table marks h = h
+  reached_all setup terms e interval there (event ∷ events) table marks h = reached_all setup terms e interval there events (step setup table event (get_or marks 0 true)).table (drop 1 marks) (reached_step setup terms table e interval event (get_or marks 0 true) there h)
 
-  pub reached_before : (setup : Setup) (terms : Terms) (e k : ℕ) (events : List (Event A)) (marks : List Bool) → slice_get setup.exports e ≡ Some terms → Reached terms e (table_before k setup events marks)
-  reached_before setup terms e k events marks there = reached_all setup terms e there (take k events) (opening_table setup) marks (record { tidy = opening_tidy setup terms e there; chained = record { turns = tt } })
+  -- at each place from i up to j
+  abbrev pub ReachedThrough : ℕ → ℕ → ℕ → ℕ → Setup → List (Event A) → List Bool → Type 0
+  ReachedThrough e interval i j setup events marks = (k : ℕ) → i ≤ k → k ≤ j → Reached e interval (table_before k setup events marks)
+
+  pub reached_before : (setup : Setup) (terms : Terms) (e k : ℕ) (events : List (Event A)) (marks : List Bool) → slice_get setup.exports e ≡ Some terms → Reached e terms.rates.p_interval (table_before k setup events marks)
+  reached_before setup terms e k events marks there = reached_all setup terms e terms.rates.p_interval there (take k events) (opening_table setup) marks (record {
+    tidy = opening_tidy setup e (slice_get_within setup.exports e terms there);
+    rate = ap (λ (s : Side). s.rates.p_interval) (opening_side_at setup terms e there);
+    chained = record { turns = tt };
+  })

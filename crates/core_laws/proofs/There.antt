@@ -30,10 +30,10 @@ there_shifted setup f t table a =
     (some_one (AllThere setup) (foremost p_key (filter (λ row. not row.out) table.rows)) (λ first is. record { rows = all-map (IsThere setup) (IsThere setup) (lower_p (first.p -ℤ pos t)) (λ x h. h) table.rows a.rows }) a)
     a
 
-there_credit : (setup : Setup) (chosen : Choice) (table : Table) → AllThere setup table → AllThere setup (with_credit setup chosen table)
+there_credit : (setup : Setup) (chosen : Choice) (table : Table) → AllThere setup table → AllThere setup (with_credit chosen table)
 there_credit setup chosen table a =
     if_one (AllThere setup) (is_by_weight chosen.phase)
-    (some_one (AllThere setup) (slice_get setup.exports chosen.row.export) (λ there h. some_one (AllThere setup) there.r_interval (λ by k. record { rows = all-map (IsThere setup) (IsThere setup) (lower_r by chosen.row.export) (λ x h. h) table.rows a.rows }) a) a)
+    (some_one (AllThere setup) (side table chosen.row.export).rates.r_interval (λ by k. record { rows = all-map (IsThere setup) (IsThere setup) (lower_r by chosen.row.export) (λ x h. h) table.rows a.rows }) a)
     a
 
 module _ {A : Type 0} where
@@ -56,7 +56,7 @@ module _ {A : Type 0} where
       (if_one P (not memory) (record { is = a })
       (if_one P (not (verdict_of other q == 0)) (record { is = record { rows = a.rows } })
       (if_one P (length (filter (waits_in named) table.rows) == other.depth) (record { is = record { rows = a.rows } })
-      (record { is = record { rows = there_put setup (new_row other named s t q (side (shifted named t table) named)) (shifted named t table).rows (slice_get_within setup.exports named other h) (there_shifted setup named t table a).rows } }))))))) (record { is = a })
+      (record { is = record { rows = there_put setup (new_row named s t q (side (shifted named t table) named)) (shifted named t table).rows (slice_get_within setup.exports named other h) (there_shifted setup named t table a).rows } }))))))) (record { is = a })
   there_after setup table (Dispatch t) memory a =
       let now : Table = record table { now = max table.now t } in
       some_one (StaysThere setup) (choice setup.inflight now)

@@ -84,7 +84,7 @@ module _ {A : Type 0} where
   abbrev pub ArriveInTime : ℕ → Terms → Row → Row → Setup → List (Event A) → List (Answer A) → List Bool → Type 0
   ArriveInTime f terms start end setup events answers marks = (k s t n : ℕ) (q : RequestMessage) (tag last : ℤ) →
       StandsAt k events answers (Arrive f s t q) (Accepted n tag) → start.number < n → n ≤ end.number →
-      (side (table_before k setup events marks) f).last_p ≡ Some last → pos t ≤ℤ (last +ℤ pos terms.p_interval)
+      (side (table_before k setup events marks) f).last_p ≡ Some last → pos t ≤ℤ (last +ℤ pos terms.rates.p_interval)
 
   -- ---- the law
 
@@ -100,21 +100,21 @@ module _ {A : Type 0} where
   -- tag of f's first request rises
   abbrev pub SharesByWeight : Setup → List (Event A) → List (Answer A) → List Bool → Type 0
   SharesByWeight setup events answers marks = (e f i j : ℕ) (one other : Terms) (start end : Row) →
-      slice_get setup.exports e ≡ Some one → slice_get setup.exports f ≡ Some other → 0 < one.p_interval →
+      slice_get setup.exports e ≡ Some one → slice_get setup.exports f ≡ Some other → 0 < one.rates.p_interval →
       GoesFrom f i j setup events marks start end → WaitBeside e f i j setup events marks start →
-      weight_choices e i j answers ≤ 1 + int_gap (in_terms_of i j setup events marks start.p) end.p / one.p_interval
+      weight_choices e i j answers ≤ 1 + int_gap (in_terms_of i j setup events marks start.p) end.p / one.rates.p_interval
 
   -- where f's requests arrive in time, its tag rises by an interval for each choice of f
   abbrev pub RisesByItsChoices : Setup → List (Event A) → List (Answer A) → List Bool → Type 0
   RisesByItsChoices setup events answers marks = (f i j : ℕ) (terms : Terms) (start end : Row) →
       slice_get setup.exports f ≡ Some terms → GoesFrom f i j setup events marks start end → WaitsThrough f i j setup events marks →
       ArriveInTime f terms start end setup events answers marks →
-      end.p ≡ in_terms_of i j setup events marks start.p +ℤ pos (all_choices f i j answers * terms.p_interval)
+      end.p ≡ in_terms_of i j setup events marks start.p +ℤ pos (all_choices f i j answers * terms.rates.p_interval)
 
   -- and so for each choice of f there are no more of e by weight than the ratio of their weights, and one in all
   abbrev pub SharesByRatio : Setup → List (Event A) → List (Answer A) → List Bool → Type 0
   SharesByRatio setup events answers marks = (e f i j : ℕ) (one other : Terms) (start end : Row) →
-      slice_get setup.exports e ≡ Some one → slice_get setup.exports f ≡ Some other → 0 < one.p_interval →
+      slice_get setup.exports e ≡ Some one → slice_get setup.exports f ≡ Some other → 0 < one.rates.p_interval →
       GoesFrom f i j setup events marks start end → WaitBeside e f i j setup events marks start →
       ArriveInTime f other start end setup events answers marks →
-      weight_choices e i j answers ≤ 1 + (all_choices f i j answers * other.p_interval) / one.p_interval
+      weight_choices e i j answers ≤ 1 + (all_choices f i j answers * other.rates.p_interval) / one.rates.p_interval

@@ -60,7 +60,7 @@ module _ {A : Type 0} where
   -- an export's limit tags are those of the moments of its accepted arrivals
   abbrev pub HasUnrolledTags : Setup → List (Event A) → List (Answer A) → Type 0
   HasUnrolledTags setup events answers = (e : ℕ) (terms : Terms) → slice_get setup.exports e ≡ Some terms →
-      given_tags (told e events answers) ≡ limit_tags terms.l_interval (accepted_moments (own e events answers) (told e events answers))
+      given_tags (told e events answers) ≡ limit_tags terms.rates.l_interval (accepted_moments (own e events answers) (told e events answers))
 
   -- of an export's requests none is chosen while the greatest moment of a dispatch is below its first accepted arrival
   abbrev pub ChoosesNoneBefore : Setup → List (Event A) → List (Answer A) → Type 0
@@ -70,11 +70,11 @@ module _ {A : Type 0} where
   -- and later no more by weight than its limit allows, nor by reservation than its reservation gives
   abbrev pub ChoosesByLimit : Setup → List (Event A) → List (Answer A) → Type 0
   ChoosesByLimit setup events answers = (e : ℕ) (terms : Terms) (t b : ℕ) → slice_get setup.exports e ≡ Some terms →
-      first_accepted e events answers ≡ Some t → t ≤ b → 0 < terms.l_interval → choices e Weight b 0 events answers ≤ 1 + (b - t) / terms.l_interval
+      first_accepted e events answers ≡ Some t → t ≤ b → 0 < terms.rates.l_interval → choices e Weight b 0 events answers ≤ 1 + (b - t) / terms.rates.l_interval
 
   abbrev pub ChoosesByReservation : Setup → List (Event A) → List (Answer A) → Type 0
   ChoosesByReservation setup events answers = (e : ℕ) (terms : Terms) (t b interval : ℕ) → slice_get setup.exports e ≡ Some terms →
-      first_accepted e events answers ≡ Some t → t ≤ b → terms.r_interval ≡ Some interval → 0 < interval →
+      first_accepted e events answers ≡ Some t → t ≤ b → terms.rates.r_interval ≡ Some interval → 0 < interval →
       choices e Reservation b 0 events answers ≤ 1 + (b - t) / interval
 
   -- at place k of the run stand this event and its answer

@@ -2,7 +2,7 @@
 use Rattle.std.specs.Prelude.{◌≡◌, ℕ, zero, suc, true, false, ◌++◌, List, [], ◌∷◌, map, filter, replicate, Option, Some, None, ℤ, pos}
 use Rattle.nbd_wire.specs.Grammar.{RequestMessage}
 use Rattle.nbd_commands.specs.Terms.{Terms}
-use Rattle.tag_clock.specs.Intervals.{r_interval_of, l_interval_of, p_interval_of}
+use Rattle.tag_clock.specs.Intervals.{intervals_of}
 use Rattle.tag_clock.specs.declared.Phase.TheVariants.{Reservation, Weight}
 use Rattle.lone_export.specs.declared.step.StepAnswer.TheVariants as alone
 use Rattle.server_table.specs.declared.event.Event.{Event}
@@ -15,7 +15,7 @@ use Rattle.server_table.specs.Shares.{told}
 
 -- an export of 4 bytes by its reservation, limit and weight, which are requests a second, its depth and its window
 abbrev pub export_with : ℕ → ℕ → ℕ → ℕ → ℕ → Terms
-export_with r l w depth window = record { size = 4; read_only = false; depth = depth; window = window; r_interval = r_interval_of r; l_interval = l_interval_of l; p_interval = p_interval_of w }
+export_with r l w depth window = record { size = 4; read_only = false; depth = depth; window = window; rates = intervals_of r l w }
 
 -- by its rates alone
 abbrev pub export_of : ℕ → ℕ → ℕ → Terms

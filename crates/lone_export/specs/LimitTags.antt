@@ -36,4 +36,4 @@ module _ {A : Type 0} where
 abbrev pub GivesUnrolledTags : {A : Type 0} → Terms → List (Step A) → Type 0
 GivesUnrolledTags terms steps =
     given_tags (answers_alone terms (opening terms) steps) ≡
-    limit_tags terms.l_interval (accepted_moments steps (answers_alone terms (opening terms) steps))
+    limit_tags terms.rates.l_interval (accepted_moments steps (answers_alone terms (opening terms) steps))

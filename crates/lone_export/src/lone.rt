@@ -38,7 +38,9 @@ use tag_clock::{LimitClock, Moment, Tuning};
 #[derive(Drop)]
 pub struct Lone<I: Image> {
     info: ExportInfo,
+    // The rates at the start, and those in force.
     tuning: Tuning,
+    rates: Tuning,
     image: I,
     queue: ExportQueue<Row<I::Alloc>, I::Alloc>,
     clock: LimitClock,
@@ -54,9 +56,9 @@ impl<I: Image> Model for Lone<I> {
 
     ghost Value = { Whole };
 
-    ghost view = { λ l. whole_of (record { info = l.info; tuning = l.tuning; image = I.bytes l.image; queue = l.queue; clock = l.clock; sessions = l.sessions; count = l.count; asked = l.asked }) };
+    ghost view = { λ l. whole_of (record { info = l.info; tuning = l.tuning; rates = l.rates; image = I.bytes l.image; queue = l.queue; clock = l.clock; sessions = l.sessions; count = l.count; asked = l.asked }) };
 
-    ghost invariant = { λ l. IsLone (record { info = l.info; tuning = l.tuning; image = I.bytes l.image; queue = l.queue; clock = l.clock; sessions = l.sessions; count = l.count; asked = l.asked }) };
+    ghost invariant = { λ l. IsLone (record { info = l.info; tuning = l.tuning; rates = l.rates; image = I.bytes l.image; queue = l.queue; clock = l.clock; sessions = l.sessions; count = l.count; asked = l.asked }) };
 }
 
 impl<I: Image> Lone<I> {
@@ -207,6 +209,7 @@ impl<I: Image> Lone<I> {
         Ok(Lone {
             info: config.info(),
             tuning,
+            rates: tuning,
             image,
             queue,
             clock: LimitClock::new(tuning.l_interval()),

@@ -39,7 +39,7 @@ pub record Standing : Type 0 where
   pub room : ℕ
 
 abbrev pub opening_part : Terms → Part
-opening_part terms = record { terms = terms; image = (opening terms).image; waiting = []; out = []; next = 0; last_r = None; last_l = None; last_p = None; sessions = []; count = 0 }
+opening_part terms = record { terms = terms; image = (opening terms).image; waiting = []; out = []; next = 0; last_r = None; last_l = None; last_p = None; rates = terms.rates; sessions = []; count = 0 }
 
 abbrev pub opening_standing : ℕ → Terms → Standing
 opening_standing inflight terms = record { part = opening_part terms; inflight = inflight; seats = []; journal = opening_journal terms; room = 0 }
@@ -55,7 +55,6 @@ pub record Kept : Type 0 where
   pub journal : Journal
   pub room : ℕ
   pub share : Share
-  pub interval : Option ℕ
   pub waiting : List Tags
   pub waiting_room : ℕ
   pub out : List Sent
@@ -84,6 +83,7 @@ part_of m = record {
   last_r = m.share.last_r;
   last_l = m.whole.state.last;
   last_p = m.share.last_p;
+  rates = m.whole.state.rates;
   sessions = m.whole.state.sessions;
   count = m.whole.state.count;
 }
@@ -96,9 +96,8 @@ pub record IsMember (m : Kept) : Type 0 where
   pub tagged : length m.waiting ≡ length m.whole.state.waiting
   pub sent : map (λ (one : Sent). one.number) m.out ≡ map (λ (job : Job). job.number) m.whole.state.out
   pub seated : length m.whole.slots ≡ length m.whole.state.out
-  pub r_interval : m.share.r_interval ≡ m.whole.terms.r_interval
-  pub interval : m.interval ≡ m.whole.terms.r_interval
-  pub p_interval : m.share.p_interval ≡ m.whole.terms.p_interval
+  pub r_interval : m.share.r_interval ≡ m.whole.state.rates.r_interval
+  pub p_interval : m.share.p_interval ≡ m.whole.state.rates.p_interval
   pub few : length m.whole.state.waiting ≤ m.whole.terms.depth
   pub waiting_room : m.whole.terms.depth ≤ m.waiting_room
   pub out_room : m.whole.inflight ≤ m.out_room

@@ -34,7 +34,6 @@ pub(crate) struct Sent {
 pub(crate) struct Member<I: Image> {
     cell: ExportCell<I>,
     shares: ShareClock,
-    r_interval: Option<u64>,
     waiting: VecDeque<Tags, I::Alloc>,
     out: Vec<Sent, I::Alloc>,
 }
@@ -46,9 +45,9 @@ impl<I: Image> Model for Member<I> {
 
     ghost Value = { Standing };
 
-    ghost view = { λ m. standing_of (record { whole = m.cell.live; journal = m.cell.journal; room = m.cell.room; share = m.shares; interval = m.r_interval; waiting = m.waiting.items; waiting_room = deque_capacity m.waiting; out = m.out.items; out_room = vec_capacity m.out }) };
+    ghost view = { λ m. standing_of (record { whole = m.cell.live; journal = m.cell.journal; room = m.cell.room; share = m.shares; waiting = m.waiting.items; waiting_room = deque_capacity m.waiting; out = m.out.items; out_room = vec_capacity m.out }) };
 
-    ghost invariant = { λ m. IsMember (record { whole = m.cell.live; journal = m.cell.journal; room = m.cell.room; share = m.shares; interval = m.r_interval; waiting = m.waiting.items; waiting_room = deque_capacity m.waiting; out = m.out.items; out_room = vec_capacity m.out }) };
+    ghost invariant = { λ m. IsMember (record { whole = m.cell.live; journal = m.cell.journal; room = m.cell.room; share = m.shares; waiting = m.waiting.items; waiting_room = deque_capacity m.waiting; out = m.out.items; out_room = vec_capacity m.out }) };
 }
 
 impl<I: Image> Member<I> {
@@ -66,7 +65,7 @@ impl<I: Image> Member<I> {
         inflight: usize,
     ) -> Result<Self, NoMemory>
         requires { IsWithin 4096 inflight }
-        ensures { IfOk result (λ member. (member ≡ opening_standing inflight (terms_of config.now)) × AreShort (terms_of config.now)) }
+        ensures { IfOk result (λ member. (member ≡ opening_standing inflight (terms_of config.now)) × AreShort (terms_of config.now).rates) }
     {
         let Some(tuning) = Tuning::new(config.reservation(), config.limit(), config.weight()) else {
             unreachable!();
@@ -77,7 +76,6 @@ impl<I: Image> Member<I> {
         Ok(Member {
             cell,
             shares: ShareClock::new(tuning.r_interval(), tuning.p_interval()),
-            r_interval: tuning.r_interval(),
             waiting,
             out,
         })
@@ -233,7 +231,7 @@ impl<I: Image> Member<I> {
         kept: Option<Request<I::Alloc>>,
     ) -> Result<Arrived, NotArrived<I::Alloc>>
         requires in_range { TagsInRange self.old.part }
-        requires short { AreShort self.old.part.terms }
+        requires short { AreShort self.old.part.rates }
         requires reserved { IsReservedAt self.old session request kept }
         ensures arrives { Arrives {A = I.Alloc} self.old self.new session moment request result }
         ensures entered { is_ok result ≡ is_some kept }
@@ -292,7 +290,7 @@ impl<I: Image> Member<I> {
             number: picked.number,
             tags,
         });
-        give_credit(&mut self.waiting, &mut self.shares, self.r_interval, phase);
+        give_credit(&mut self.waiting, &mut self.shares, phase);
         Some(picked)
     }
 

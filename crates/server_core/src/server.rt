@@ -66,7 +66,7 @@ fn open_members<I: Image>(
 ) -> Result<Vec<Member<I>, I::Alloc>, NoMemory>
     requires { IsWithin 4096 inflight }
     ensures members { IfOk result (λ made. made.items ≡ map (λ export. opening_standing inflight (terms_of export)) exports.now) }
-    ensures short { IfOk result (λ made. All (λ member. AreShort member.part.terms) made.items) }
+    ensures short { IfOk result (λ made. All (λ member. AreShort member.part.rates) made.items) }
 {
     let mut members = Vec::with_capacity(alloc, exports.len())?;
     for export in exports {

@@ -2,7 +2,7 @@
 ghost use Rattle.std.specs.Prelude.{◌≡◌, ℕ, List};
 ghost use Rattle.nbd_base.specs.Range.{IsOptionInRange};
 ghost use Rattle.tag_clock.specs.Tags.{later};
-ghost use Rattle.tag_clock.specs.Clocks.{fresh_limit, limit_tag, limit_after, fresh_share, r_tag, p_tag, share_after, share_credited, share_shifted, lowered};
+ghost use Rattle.tag_clock.specs.Clocks.{fresh_limit, limit_tag, limit_after, limit_retuned, fresh_share, r_tag, p_tag, share_after, share_retuned, share_credited, share_shifted, lowered};
 ghost use Rattle.tag_clock.specs.LimitTags.{limit_tags, given};
 
 use crate::moment::Moment;
@@ -55,6 +55,13 @@ impl LimitClock {
         self.last = Some(tag);
         tag
     }
+
+    /// The interval is another from now on, 0 for no limit. The last L tag stays.
+    pub fn retune(&mut self, interval: u64)
+        ensures { self.new ≡ limit_retuned interval self.old }
+    {
+        self.interval = interval;
+    }
 }
 
 /// Gives each accepted request of an export its R and P tags.
@@ -102,6 +109,22 @@ impl ShareClock {
         self.last_r = r;
         self.last_p = Some(p);
         (r, p)
+    }
+
+    /// Between R tags; none without a reservation.
+    pub fn r_interval(&self) -> Option<u64>
+        ensures { result ≡ self.now.r_interval }
+    {
+        self.r_interval
+    }
+
+    /// The intervals are others from now on. The last P tag stays, and the last R tag where there is a reservation.
+    pub fn retune(&mut self, r_interval: Option<u64>, p_interval: u64)
+        ensures { self.new ≡ share_retuned r_interval p_interval self.old }
+    {
+        self.last_r = r_interval.and(self.last_r);
+        self.r_interval = r_interval;
+        self.p_interval = p_interval;
     }
 
     /// A request of the export was chosen by weight: the interval of the reservation is subtracted from the last R.
@@ -165,6 +188,34 @@ mod tests {
         assert_eq!(rt; clock.admit(at(0)?), (Some(250_000_000), 1_000_000_000));
         clock.credit();
         assert_eq!(rt; clock.admit(at(0)?), (Some(250_000_000), 2_000_000_000));
+        Ok(())
+    }
+
+    // From ten requests a second to four, and then to no limit.
+    #[test]
+    fn another_limit(rt: HostRuntime) -> Result<(), Fail> {
+        let mut clock = LimitClock::new(100_000_000);
+        assert_eq!(rt; clock.admit(at(0)?), 0);
+        clock.retune(250_000_000);
+        assert_eq!(rt; clock.admit(at(0)?), 250_000_000);
+        assert_eq!(rt; clock.admit(at(0)?), 500_000_000);
+        clock.retune(0);
+        assert_eq!(rt; clock.admit(at(0)?), 500_000_000);
+        Ok(())
+    }
+
+    // From four reserved requests a second to one, to none, and to one again; the weight from 1 to 2.
+    #[test]
+    fn other_shares(rt: HostRuntime) -> Result<(), Fail> {
+        let mut clock = ShareClock::new(Some(250_000_000), 1_000_000_000);
+        assert_eq!(rt; clock.admit(at(0)?), (Some(0), 0));
+        clock.retune(Some(1_000_000_000), 500_000_000);
+        assert_eq!(rt; clock.admit(at(0)?), (Some(1_000_000_000), 500_000_000));
+        clock.retune(None, 500_000_000);
+        assert_eq!(rt; clock.admit(at(0)?), (None, 1_000_000_000));
+        clock.retune(Some(1_000_000_000), 500_000_000);
+        assert_eq!(rt; clock.r_interval(), Some(1_000_000_000));
+        assert_eq!(rt; clock.admit(at(7)?), (Some(7), 1_500_000_000));
         Ok(())
     }
 

@@ -13,13 +13,16 @@ use Rattle.core_laws.proofs.laws.shares.Goals as goal
 pub returns-clause-least : goal.returns-clause-least
 returns-clause-least g c = λ run k t e f n terms chosen other stands there first beside due.
     at_place run.setup (λ said. said ≡ Picked f n Weight → (chosen.number ≡ n) × (chosen.p ≤ℤ other.p)) (Dispatch t) run.events (opening_table run.setup) run.marks k stands.0
-    (λ memory. weight_least run.setup terms (table_before k run.setup run.events run.marks) e f n t memory chosen other (reached_before run.setup terms f k run.events run.marks there).tidy first beside due) (Picked f n Weight) stands.1 refl
+    (λ memory. weight_least run.setup (table_before k run.setup run.events run.marks) e f n t memory chosen other (reached_before run.setup terms f k run.events run.marks there).tidy first beside due) (Picked f n Weight) stands.1 refl
 
 pub returns-clause-bound : goal.returns-clause-bound
-returns-clause-bound g c = λ run e f i j one other start end. bounded run.setup one other e f i j run.events run.marks start end
+returns-clause-bound g c = λ run e f i j one other start end one_there other_there. bounded run.setup e f i j one.rates.p_interval other.rates.p_interval run.events run.marks start end
+    (λ k low up. reached_before run.setup one e k run.events run.marks one_there) (λ k low up. reached_before run.setup other f k run.events run.marks other_there)
 
 pub returns-clause-tags : goal.returns-clause-tags
-returns-clause-tags g c = λ run f i j terms start end there goes waits in_time. rises run.setup terms f run.events run.marks start end there in_time i j goes waits
+returns-clause-tags g c = λ run f i j terms start end there goes waits in_time. rises run.setup f terms.rates.p_interval run.events run.marks start end
+    (λ k. reached_before run.setup terms f k run.events run.marks there) in_time i j goes waits
 
 pub returns-clause-ratio : goal.returns-clause-ratio
-returns-clause-ratio g c = λ run e f i j one other start end. bounded_by_ratio run.setup one other e f i j run.events run.marks start end
+returns-clause-ratio g c = λ run e f i j one other start end one_there other_there. bounded_by_ratio run.setup e f i j one.rates.p_interval other.rates.p_interval run.events run.marks start end
+    (λ k low up. reached_before run.setup one e k run.events run.marks one_there) (λ k. reached_before run.setup other f k run.events run.marks other_there)
