@@ -249,7 +249,7 @@ module _ {A : Type 0} where
   -- a request that isn't refused before it is looked at
   looked_at : (terms : Terms) (state : Alone) (s t : ℕ) (q : RequestMessage) → (is_open_at state.sessions s ≡ true) × (nat_le (2 ^ 56) state.count ≡ false) × ((outstanding state s == terms.window) ≡ false)
       → own_step {A = A} terms state (step.Arrive s t q)
-      ≡ (if not (verdict_of terms q == 0) then refused state s q (verdict_of terms q) else (if length state.waiting == terms.depth then refused state s q 5 else accepted terms state s t q))
+      ≡ (if not (verdict_of terms q == 0) then refused state s q (verdict_of terms q) else (if length state.waiting == terms.depth then refused state s q 5 else accepted state s t q))
   looked_at terms state s t q may = if_not (is_open_at state.sessions s) _ _ may.0 ∙ if_no (nat_le (2 ^ 56) state.count) _ _ may.1 ∙ if_no (outstanding state s == terms.window) _ _ may.2
 
   -- the verdict is an error
