@@ -1,5 +1,5 @@
 -- Counts of choices over whole runs.
-use Rattle.std.proofs.Common.{◌≡◌, ◌⊎◌, ℕ, zero, suc, ◌+◌, ◌-◌, ◌*◌, ◌/◌, ◌<◌, ◌≤◌, ◌^◌, max, Bool, true, false, not, ◌&&◌, eqb, nat_le, ◌==◌, List, [], ◌∷◌, ◌++◌, length, map, filter, find, get_or, drop, slice_get, Option, Some, None, is_some, option_map, unwrap_or, if◌then◌else◌, ℤ, pos, ◌-ℤ◌, ◌+ℤ◌, ◌≤ℤ◌, int_le, refl, sym, subst, ap, ◌∙◌, arith, inl, inr, mul-le-mul_right, le-div_iff_mul-le}
+use Rattle.std.proofs.Common.{◌≡◌, ◌⊎◌, ℕ, zero, suc, ◌+◌, ◌-◌, ◌*◌, ◌/◌, ◌<◌, ◌≤◌, ◌^◌, max, Bool, true, false, not, ◌&&◌, eqb, nat_le, ◌==◌, List, [], ◌∷◌, ◌++◌, length, map, filter, find, get_or, drop, slice_get, Option, Some, None, is_some, option_map, unwrap_or, if◌then◌else◌, MatchOption, ℤ, pos, ◌-ℤ◌, ◌+ℤ◌, ◌≤ℤ◌, int_le, refl, sym, subst, ap, ◌∙◌, arith, inl, inr, mul-le-mul_right, le-div_iff_mul-le}
 use Rattle.std.specs.List.{AllByRecursion}
 use Rattle.std.proofs.lemmas.Int.{ints}
 use Rattle.std.proofs.lemmas.Bool.Decides.{nat_tests}
@@ -46,6 +46,10 @@ interval_by strides Weight = strides.limit
 
 abbrev pub interval_of : Strides → ℕ
 interval_of strides = interval_by strides strides.phase
+
+-- with the intervals at the start
+abbrev strides_of : Terms → Phase → Strides
+strides_of terms phase = record { phase = phase; limit = terms.rates.l_interval; reservation = terms.rates.r_interval }
 
 abbrev one_if : Bool → ℕ
 one_if b = if b then 1 else 0
@@ -629,9 +633,9 @@ module _ {A : Type 0} where
   abbrev pub LimitHoldsLater : ℕ → ℕ → Setup → Table → List (Event A) → List Bool → Type 0
   LimitHoldsLater m e setup table [] marks = Unit {0}
   LimitHoldsLater m e setup table (event ∷ events) marks =
-      when_some (accepted_at e event (step setup table event (get_or marks 0 true)).answer)
-      (λ u. LimitHolds m e setup (step setup table event (get_or marks 0 true)).table events (drop 1 marks))
+      MatchOption (accepted_at e event (step setup table event (get_or marks 0 true)).answer)
       (LimitHoldsLater m e setup (step setup table event (get_or marks 0 true)).table events (drop 1 marks))
+      (λ u. LimitHolds m e setup (step setup table event (get_or marks 0 true)).table events (drop 1 marks))
 
   counted : (setup : Setup) (strides : Strides) (e t b : ℕ) (events : List (Event A)) (table : Table) (marks : List Bool) → Tidy e table → Virgin strides e table → LimitHoldsLater strides.limit e setup table events marks → first_accepted e events (answers_of setup table events marks) ≡ Some t →
       Within t (interval_of strides) b (choices e strides.phase b table.now events (answers_of setup table events marks))
@@ -642,7 +646,7 @@ module _ {A : Type 0} where
       (λ virgin' holds' first'. counted setup strides e t b events (step setup table event (get_or marks 0 true)).table (drop 1 marks) (tidy_step setup table e event (get_or marks 0 true) tidy) virgin' holds' first')
     where
       go : (new : Outcome A) → First strides e event (now_after table.now event) new → Tidy e new.table →
-          when_some (accepted_at e event new.answer) (λ u. LimitHolds strides.limit e setup new.table events (drop 1 marks)) (LimitHoldsLater strides.limit e setup new.table events (drop 1 marks)) →
+          MatchOption (accepted_at e event new.answer) (LimitHoldsLater strides.limit e setup new.table events (drop 1 marks)) (λ u. LimitHolds strides.limit e setup new.table events (drop 1 marks)) →
           when_some (accepted_at e event new.answer) (λ t. Some t) (first_accepted e events (answers_of setup new.table events (drop 1 marks))) ≡ Some t →
           (Virgin strides e new.table → LimitHoldsLater strides.limit e setup new.table events (drop 1 marks) → first_accepted e events (answers_of setup new.table events (drop 1 marks)) ≡ Some t → Within t (interval_of strides) b (choices e strides.phase b new.table.now events (answers_of setup new.table events (drop 1 marks)))) →
           Within t (interval_of strides) b (one_if (is_choice_in e strides.phase new.answer && nat_le (now_after table.now event) b) + choices e strides.phase b (now_after table.now event) events (answers_of setup new.table events (drop 1 marks)))
@@ -678,23 +682,16 @@ module _ {A : Type 0} where
   limit_held_later : (setup : Setup) (terms : Terms) (e : ℕ) → slice_get setup.exports e ≡ Some terms → (events : List (Event A)) (table : Table) (marks : List Bool) → Tidy e table → (side table e).rates ≡ terms.rates → LimitHoldsLater terms.rates.l_interval e setup table events marks
   limit_held_later setup terms e there [] table marks tidy same = tt
   limit_held_later setup terms e there (event ∷ events) table marks tidy same =
+      let next : Table = (step setup table event (get_or marks 0 true)).table in
+      let tidy' : Tidy e next = tidy_step setup table e event (get_or marks 0 true) tidy in
+      let same' : (side next e).rates ≡ terms.rates = rates_step setup terms table e event (get_or marks 0 true) there tidy ∙ same in
       go (accepted_at e event (step setup table event (get_or marks 0 true)).answer)
+      (limit_held_later setup terms e there events next (drop 1 marks) tidy' same')
+      (limit_held setup terms e there events next (drop 1 marks) tidy' same')
     where
-      next : Table
-      next = (step setup table event (get_or marks 0 true)).table
-
-      tidy' : Tidy e next
-      tidy' = tidy_step setup table e event (get_or marks 0 true) tidy
-
-      same' : (side next e).rates ≡ terms.rates
-      same' = rates_step setup terms table e event (get_or marks 0 true) there tidy ∙ same
-
-      go : (o : Option ℕ) → when_some o (λ u. LimitHolds terms.rates.l_interval e setup next events (drop 1 marks)) (LimitHoldsLater terms.rates.l_interval e setup next events (drop 1 marks))
-      go None = limit_held_later setup terms e there events next (drop 1 marks) tidy' same'
-      go (Some u) = limit_held setup terms e there events next (drop 1 marks) tidy' same'
-
-  abbrev strides_of : Terms → Phase → Strides
-  strides_of terms phase = record { phase = phase; limit = terms.rates.l_interval; reservation = terms.rates.r_interval }
+      go : {X Y : Type 0} (o : Option ℕ) → X → Y → MatchOption o X (λ u. Y)
+      go None x y = x
+      go (Some u) x y = y
 
   -- from the opening table
   counted_run : (run : Run A) (e : ℕ) (terms : Terms) (t b : ℕ) (phase : Phase) → HasExport run e terms → first_accepted e run.events (run_answers run.setup run.events run.marks) ≡ Some t → Within t (interval_of (strides_of terms phase)) b (choices e phase b 0 run.events (answers_in run))

@@ -120,7 +120,7 @@ module _ (A : Type 0) (setup : Setup) (f interval a b : ℕ) where
       here p low up last = in_time s t (side table f).next q told.0 p event_is told.1 low up last
 
   timely_step : (table : Table) (event : Event A) (memory : Bool) → Reached f interval table → InTime table event memory → Timely (lane f table) → Timely (lane f (step setup table event memory).table)
-  timely_step table event memory at in_time h = subst Timely (sym moves_at setup table f interval event memory at) (go event in_time)
+  timely_step table event memory at in_time h = subst Timely (sym (moves_at setup table f interval event memory at)) (go event in_time)
     where
       go : (event : Event A) → InTime table event memory → Timely (lane_after f interval event (step setup table event memory).answer (fall table event (step setup table event memory).answer) (lane f table))
       go (Attach g) in_time = h
