@@ -10,7 +10,6 @@ use Rattle.nbd_wire.specs.Grammar.{RequestMessage, ReplyMessage}
 use Rattle.nbd_commands.specs.Terms.{Terms}
 use Rattle.nbd_commands.specs.Verdict.{verdict_of}
 use Rattle.tag_clock.specs.Tags.{later}
-use Rattle.tag_clock.specs.Tags.{later}
 use Rattle.tag_clock.specs.Clocks.{Limit, limit_after, limit_tag}
 use Rattle.reply_box.specs.Sessions.{Session, new_session, is_here, is_open_state, is_open_at, is_here_at, posted, post_at}
 use Rattle.reply_box.specs.Box.{Box, outstanding_at, after_attach, after_admit, after_put, owed_at, IsOwed, Admits}
