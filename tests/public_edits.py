@@ -24,10 +24,16 @@ LAWS = {
     "core_laws heads_suffice": "one_more_out",
     "core_laws choice_count": "not_one_at_once",
     "core_laws left_out": "marks_of_nothing",
+    "core_laws reservations_first": "reservation_of_a_served_request",
+    "core_laws shares": "between_one_fewer",
     "core_laws worked_runs": "lower_weight_second",
+    "core_laws worked_shares": "one_more_than_the_bound",
     "lone_export steps_to_come": "end_is_counted",
     "lone_export limit_tags_unrolled": "tags_by_weight",
     "nbd_base sums_fit": "one_bit_more",
+    "nbd_session one_conversation": "text_begins_with_the_longer",
+    "nbd_session requests_are_plain": "counted_from_the_second",
+    "nbd_session handshake_is_haggled": "flags_of_three_bytes",
     "server_table choice_of_first_requests": "one_may_be_out",
     "session_turns replies_in_order": "taken_before_those_that_wait",
     "turn_order given_by_weight": "head_start_not_counted",
@@ -41,6 +47,7 @@ LAWS = {
 ONE_FIELD = "it lends the one field of its type"
 ONE_VALUE = "its type has one value"
 NO_MEMORY = "an empty list: any other takes memory"
+NO_OTHER = "its crate can make no other"
 CONTRACT_ALONE = "it does nothing: its contract alone says something"
 MADE_OF = "it hands out what it was made of"
 GUARD = "it hands out the one server under the lock"
@@ -51,6 +58,7 @@ NONE = {
     "export_cell ExportCell::base": ONE_FIELD,
     "export_cell ExportCell::entries": ONE_FIELD,
     "export_cell ExportCell::laws": CONTRACT_ALONE,
+    "export_cell Outdated::with_room": NO_OTHER,
     "export_queue ExportQueue::laws": CONTRACT_ALONE,
     "lone_export Lone::image": ONE_FIELD,
     "lone_export Lone::laws": CONTRACT_ALONE,
@@ -62,6 +70,9 @@ NONE = {
     "payload Page::as_bytes": ONE_FIELD,
     "payload Page::into_bytes": MADE_OF,
     "nbd_session Counted::into_inner": MADE_OF,
+    "page_table HeldZeros::none": NO_MEMORY,
+    "page_table Swept::new": NO_MEMORY,
+    "page_table Table::new": NO_MEMORY,
     "session_turns Door::into_pass": MADE_OF,
     "session_turns ReplyWriter::into_writer": MADE_OF,
     "reply_box ReplyBox::laws": CONTRACT_ALONE,
@@ -71,6 +82,12 @@ NONE = {
     "server_lock Shared::end": GUARD,
     "server_lock Booked::server": ONE_FIELD,
     "server_lock Booked::kept": CONTRACT_ALONE,
+    "nbd_connection <Feed as Read>::read": "no contract: it reads a socket",
+    "nbd_service <HoldClock as Clock>::now": "no contract: it reads a clock",
+    "nbd_service <RunningClock as Clock>::now": "no contract: it reads a clock",
+    "nbd_service <WorkerGate as Clock>::now": "no contract: it reads a clock",
+    "nbd_service <WorkerGate as Gate>::done": "no contract",
+    "nbd_service <WorkerGate as Gate>::idle": "no contract",
     "nbd_workers <Sleeper as Clock>::now": "no contract",
     "nbd_workers <Sleeper as Gate>::pass": "no contract",
     "nbd_workers <Sleeper as Gate>::done": "no contract",

@@ -14,8 +14,8 @@ use Rattle.server_table.specs.Table.{Row, Table, Setup, Choice, waits_in, is_idl
 use Rattle.server_table.specs.Steps.{Outcome, step, sent, with_credit, outcome, run_answers}
 use Rattle.server_table.specs.Shares.{is_choice_of}
 use Rattle.core_laws.specs.Counts.{is_phase, is_choice_in}
-use Rattle.core_laws.specs.Statements.{table_before}
-use Rattle.core_laws.specs.Shares.{first_of, fall, fallen_before, in_terms_of, chosen_before, weight_choices, GoesFrom, WaitBeside}
+use Rattle.core_laws.specs.Statements.{StandsAt, table_before}
+use Rattle.core_laws.specs.Shares.{first_of, fall, fallen_before, in_terms_of, chosen_before, weight_choices, WaitsThrough, GoesFrom, WaitBeside}
 use Rattle.lone_export.proofs.Cases.{true_false, some_told}
 use Rattle.core_laws.proofs.Order.{Mem, before, mem_filter, mem_all, mem_of_filter, mem_passes, foremost_first}
 use Rattle.core_laws.proofs.Parts.{waits_here}
@@ -225,13 +225,13 @@ module _ (A : Type 0) (setup : Setup) (e f one other : ℕ) where
 
   beside_step : (table : Table) (event : Event A) (memory : Bool) (v : ℤ) (count : ℕ) → Reached e one table → Reached f other table → Beside v count one (lane e table).waiting (lane f table).waiting →
       IsWaiting (lane e (step setup table event memory).table).waiting → IsWaiting (lane f (step setup table event memory).table).waiting →
-      ((t : ℕ) (row : Row) → event ≡ Dispatch t → first_of f table ≡ Some row → row.l ≤ℤ pos (max table.now t)) → BesideAfter table event memory v count
+      ((t : ℕ) (row : Row) → event ≡ Dispatch t → is_choice_in e Weight (step setup table event memory).answer ≡ true → first_of f table ≡ Some row → row.l ≤ℤ pos (max table.now t)) → BesideAfter table event memory v count
   beside_step table (Attach g) memory v count at_e at_f h waits_e waits_f due = beside_unchosen table (Attach g) memory v count at_e at_f h waits_e waits_f ((goes setup table e (Attach g) memory at_e.tidy).quiet_in tt e Weight)
   beside_step table (Arrive g s t q) memory v count at_e at_f h waits_e waits_f due = beside_unchosen table (Arrive g s t q) memory v count at_e at_f h waits_e waits_f ((goes setup table e (Arrive g s t q) memory at_e.tidy).quiet_in tt e Weight)
   beside_step table (Dispatch t) memory v count at_e at_f h waits_e waits_f due = go (is_choice_in e Weight (step {A = A} setup table (Dispatch t) memory).answer) refl
     where
       go : (b : Bool) → is_choice_in e Weight (step {A = A} setup table (Dispatch t) memory).answer ≡ b → BesideAfter table (Dispatch t) memory v count
-      go true chosen = beside_chosen table t memory v count at_e at_f h waits_e waits_f (λ row first. due t row refl first) chosen
+      go true chosen = beside_chosen table t memory v count at_e at_f h waits_e waits_f (λ row first. due t row refl chosen first) chosen
       go false none = beside_unchosen table (Dispatch t) memory v count at_e at_f h waits_e waits_f none
   beside_step table (Perform g n) memory v count at_e at_f h waits_e waits_f due = beside_unchosen table (Perform g n) memory v count at_e at_f h waits_e waits_f ((goes setup table e (Perform g n) memory at_e.tidy).quiet_in tt e Weight)
   beside_step table (Take g s) memory v count at_e at_f h waits_e waits_f due = beside_unchosen table (Take g s) memory v count at_e at_f h waits_e waits_f ((goes setup table e (Take g s) memory at_e.tidy).quiet_in tt e Weight)
@@ -244,13 +244,29 @@ terms_at : (p a b d : ℤ) → p -ℤ ((a +ℤ d) -ℤ b) ≡ (p -ℤ (a -ℤ b)
 terms_at p a b d = omega (arith, ints)
 
 module _ {A : Type 0} where
+  -- what is asked of two exports that wait side by side: f is due at each dispatch that chooses e by weight
+  pub record Alongside (e f i j : ℕ) (setup : Setup) (events : List (Event A)) (marks : List Bool) (start : Row) : Type 0 where
+    pub f_waits : WaitsThrough f i j setup events marks
+    pub f_due : (k t : ℕ) (row : Row) (said : Answer A) → i ≤ k → k < j → StandsAt k events (run_answers setup events marks) (Dispatch t) said → is_choice_in e Weight said ≡ true →
+        first_of f (table_before k setup events marks) ≡ Some row → row.l ≤ℤ pos (max (table_before k setup events marks).now t)
+    pub e_waits : WaitsThrough e i j setup events marks
+    pub not_below : (row : Row) → first_of e (table_before i setup events marks) ≡ Some row → start.p ≤ℤ row.p
+
+  pub alongside : (e f i j : ℕ) (setup : Setup) (events : List (Event A)) (marks : List Bool) (start : Row) → WaitBeside e f i j setup events marks start → Alongside e f i j setup events marks start
+  alongside e f i j setup events marks start waits = record {
+    f_waits = waits.f_waits;
+    f_due = λ k t row said low lt stands chosen. waits.f_due k t row low lt stands.0;
+    e_waits = waits.e_waits;
+    not_below = waits.not_below;
+  }
+
   record BesideAt (e f i k one : ℕ) (setup : Setup) (events : List (Event A)) (marks : List Bool) (p : ℤ) : Type 0 where
     count : ℕ
     chosen : chosen_before (is_choice_in e Weight) k (run_answers setup events marks) ≡ chosen_before (is_choice_in e Weight) i (run_answers setup events marks) + count
     beside : Beside (in_terms_of i k setup events marks p) count one (lane e (table_before k setup events marks)).waiting (lane f (table_before k setup events marks)).waiting
 
   beside_at : (setup : Setup) (e f i j one other : ℕ) (events : List (Event A)) (marks : List Bool) (start end : Row) → ReachedThrough e one i j setup events marks → ReachedThrough f other i j setup events marks →
-      GoesFrom f i j setup events marks start end → WaitBeside e f i j setup events marks start → BesideAt e f i j one setup events marks start.p
+      GoesFrom f i j setup events marks start end → Alongside e f i j setup events marks start → BesideAt e f i j one setup events marks start.p
   beside_at setup e f i j one other events marks start end reached_e reached_f goes_from waits = along P i j goes_from.order base onward_one
     where
       P : ℕ → Type 0
@@ -322,7 +338,7 @@ module _ {A : Type 0} where
                 (reached_e k low (before k lt)) (reached_f k low (before k lt)) h.beside
                 (subst (λ (t : Table). IsWaiting (lane e t).waiting) next.by.tables (waiting_is e (table_before (suc k) setup events marks) (waits.e_waits (suc k) (above k low) (upto k lt))))
                 (subst (λ (t : Table). IsWaiting (lane f t).waiting) next.by.tables (waiting_is f (table_before (suc k) setup events marks) (waits.f_waits (suc k) (above k low) (upto k lt))))
-                (λ t row is first. waits.f_due k t row low lt (next.by.stands ∙ ap Some is) first));
+                (λ t row is chosen first. waits.f_due k t row new.answer low lt (next.by.stands ∙ ap Some is, next.by.answered) chosen first));
           }
             where
               new : Outcome A
@@ -344,7 +360,7 @@ gap_from (negsuc a) (negsuc b) m h = omega (arith, ints)
 
 module _ {A : Type 0} where
   pub bounded : (setup : Setup) (e f i j one other : ℕ) (events : List (Event A)) (marks : List Bool) (start end : Row) → ReachedThrough e one i j setup events marks → ReachedThrough f other i j setup events marks → 0 < one →
-      GoesFrom f i j setup events marks start end → WaitBeside e f i j setup events marks start →
+      GoesFrom f i j setup events marks start end → Alongside e f i j setup events marks start →
       weight_choices e i j (run_answers setup events marks) ≤ 1 + int_gap (in_terms_of i j setup events marks start.p) end.p / one
   bounded setup e f i j one other events marks start end reached_e reached_f some goes_from waits =
       within (chosen_before (is_choice_in e Weight) j (run_answers setup events marks)) (chosen_before (is_choice_in e Weight) i (run_answers setup events marks)) at.count (gap / one) at.chosen

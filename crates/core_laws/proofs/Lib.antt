@@ -19,3 +19,4 @@ pub mod Chains
 pub mod Onward
 pub mod Beside
 pub mod Timely
+pub mod Between

@@ -14,7 +14,7 @@ use Rattle.lone_export.proofs.Cases.{if_one, some_told}
 use Rattle.core_laws.proofs.Order.{Mem, mem_filter}
 use Rattle.core_laws.proofs.Heads.{foremost_some}
 
-at_mem : (x : Row) (xs : List Row) (k : ℕ) → slice_get xs k ≡ Some x → Mem x xs
+pub at_mem : (x : Row) (xs : List Row) (k : ℕ) → slice_get xs k ≡ Some x → Mem x xs
 at_mem x [] k h = absurd (none-some x h)
 at_mem x (y ∷ ys) zero h = inl (same_Some y x h)
 at_mem x (y ∷ ys) (suc k) h = inr (at_mem x ys k h)

@@ -15,12 +15,12 @@ use Rattle.server_table.specs.Steps.{Outcome, step, run_answers}
 use Rattle.server_table.specs.Shares.{is_choice_of}
 use Rattle.core_laws.specs.Counts.{is_accepted}
 use Rattle.core_laws.specs.Statements.{StandsAt, table_before}
-use Rattle.core_laws.specs.Shares.{shift_at, fall, fallen_before, in_terms_of, chosen_before, weight_choices, all_choices, WaitsThrough, GoesFrom, WaitBeside}
+use Rattle.core_laws.specs.Shares.{shift_at, fall, fallen_before, in_terms_of, chosen_before, weight_choices, all_choices, WaitsThrough, GoesFrom}
 use Rattle.lone_export.proofs.Cases.{if_one}
 use Rattle.core_laws.proofs.Lanes.{Turn, Lane, lane, turn_of, turn_lowered, lane_lowered, lane_unlowered, lane_pushed, lane_popped, lane_after, IsQuiet, Goes, goes}
 use Rattle.core_laws.proofs.Chains.{IsChain, Chained, IsWaiting, Reached, ReachedThrough, moves_at}
 use Rattle.core_laws.proofs.Onward.{along, counted, Ended, OnwardBy, onward}
-use Rattle.core_laws.proofs.Beside.{waiting_is, bounded}
+use Rattle.core_laws.proofs.Beside.{waiting_is, Alongside, bounded}
 
 -- ---- an interval apart
 
@@ -349,7 +349,7 @@ module _ {A : Type 0} where
         difference x a c e = omega (arith, e)
 
   pub bounded_by_ratio : (setup : Setup) (e f i j one other : ℕ) (events : List (Event A)) (marks : List Bool) (start end : Row) → ReachedThrough e one i j setup events marks → ((k : ℕ) → Reached f other (table_before k setup events marks)) → 0 < one →
-      GoesFrom f i j setup events marks start end → WaitBeside e f i j setup events marks start → InTimeAt f other start end setup events (run_answers setup events marks) marks →
+      GoesFrom f i j setup events marks start end → Alongside e f i j setup events marks start → InTimeAt f other start end setup events (run_answers setup events marks) marks →
       weight_choices e i j (run_answers setup events marks) ≤ 1 + (all_choices f i j (run_answers setup events marks) * other) / one
   bounded_by_ratio setup e f i j one other events marks start end reached_e reached_f some goes_from waits in_time =
       subst (λ (gap : ℕ). weight_choices e i j (run_answers setup events marks) ≤ 1 + gap / one)

@@ -4,5 +4,6 @@ pub mod Heads
 pub mod Made
 pub mod Statements
 pub mod Shares
+pub mod Between
 pub mod Worked
 pub mod WorkedShares

@@ -8,6 +8,7 @@ ghost use Rattle.server_table.specs.Table.{Table, Setup};
 ghost use Rattle.core_laws.specs.Runs.{Run, answers_in, table_in};
 ghost use Rattle.core_laws.specs.Statements.{IsToldAsAlone, EndsAsAlone, IsToldTheSame, EndsTheSame, LeavesOthers, LeavesUnchosen, LeavesAll, QueueCountsItsOwn, QueuesCountTheirOwn, WeightWaitsForItsLimit, WeightsWait, ReservationBeforeWeight, ReservationsBeforeWeights, HasUnrolledTags, HeadsSuffice, ChoosesNoneBefore, ChoosesByLimit, ChoosesByReservation, KeepsOtherAnswers, KeepsLastTable};
 ghost use Rattle.core_laws.specs.Shares.{WeightsTakeTheLeast, SharesByWeight, RisesByItsChoices, SharesByRatio};
+ghost use Rattle.core_laws.specs.Between.{SharesBetween, RatioBetween};
 
 use std::alloc::Allocator;
 
@@ -80,13 +81,16 @@ pub fn choice_count<A: Allocator>()
 /// Where exports e and f wait side by side from one place of a run to a later one, f's first request is within its limit at
 /// each dispatch between, and e's first P tag wasn't below f's at the start, e is chosen by weight once at most, and once
 /// more for each interval of e by which f's first P tag has risen, the shifts between taken off. Where f's requests arrived
-/// in time that is an interval of f for each choice of f, so it follows from the weights alone. Nothing is said of time, of
-/// how long a request takes, or of an export that begins to wait in between.
+/// in time that is an interval of f for each choice of f, so it follows from the weights alone. `between` and
+/// `ratio_between` say it from a choice of f to a later choice of f, where f has to wait and to be due only between the two.
+/// Nothing is said of time, of how long a request takes, or of an export that begins to wait in between.
 pub fn shares<A: Allocator>()
     ensures least { (run : Run A) → WeightsTakeTheLeast run.setup run.events (answers_in run) run.marks }
     ensures bound { (run : Run A) → SharesByWeight run.setup run.events (answers_in run) run.marks }
     ensures tags { (run : Run A) → RisesByItsChoices run.setup run.events (answers_in run) run.marks }
     ensures ratio { (run : Run A) → SharesByRatio run.setup run.events (answers_in run) run.marks }
+    ensures between { (run : Run A) → SharesBetween run.setup run.events (answers_in run) run.marks }
+    ensures ratio_between { (run : Run A) → RatioBetween run.setup run.events (answers_in run) run.marks }
 {}
 
 /// Where the events that found no memory are taken out of a run with their marks, every other answer stays, and the last

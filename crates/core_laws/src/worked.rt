@@ -1,6 +1,6 @@
 //! Runs that were worked out by hand.
 ghost use Rattle.core_laws.specs.Worked.{GreaterWeightGoesSooner, LimitHoldsBack, TagsComeFromTheArrival, MomentsComeInAnyOrder, WeightIsCredited, CreditMovesTheLastTag, CreditMovesTheWaiting, ShiftMovesTheWaiting, ShiftLeavesTheNewcomer, EqualsGoByExport, IdleExportKeepsItsLastP, ReservationGoesFirst, DepthRefuses, DepthCountsItsOwn, InflightHoldsBack, WindowHolds, SixtyFourAreFull, RefusalsComeInOrder, LeftSessionGetsItsReplies, WantOfMemoryIsTold, GoneIsStillServed, StepsAreCounted};
-ghost use Rattle.core_laws.specs.WorkedShares.{TwiceTheWeightIsServed, TwiceTheWeightIsReached, BothTagsAreInTheSameTerms, FMustWait, FMustBeDue, EMustWait, EMustNotBeBehind, FMustArriveInTime};
+ghost use Rattle.core_laws.specs.WorkedShares.{TwiceTheWeightIsServed, TwiceTheWeightIsReached, BothTagsAreInTheSameTerms, BoundBetweenIsReached, RatioBetweenIsReached, ChoicesAreInTheSameTerms, FMustWait, FMustBeDue, EMustWait, EMustHaveAnInterval, EMustNotBeBehind, FMustArriveInTime};
 
 use std::alloc::Allocator;
 
@@ -35,9 +35,13 @@ pub fn worked_shares<A: Allocator>()
     ensures served { TwiceTheWeightIsServed A }
     ensures reached { TwiceTheWeightIsReached A }
     ensures same_terms { BothTagsAreInTheSameTerms A }
+    ensures between { BoundBetweenIsReached A }
+    ensures ratio_between { RatioBetweenIsReached A }
+    ensures between_terms { ChoicesAreInTheSameTerms A }
     ensures f_waits { FMustWait A }
     ensures f_due { FMustBeDue A }
     ensures e_waits { EMustWait A }
+    ensures e_interval { EMustHaveAnInterval A }
     ensures e_not_behind { EMustNotBeBehind A }
     ensures f_in_time { FMustArriveInTime A }
 {}

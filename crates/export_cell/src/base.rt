@@ -9,11 +9,10 @@ mod remaking;
 mod replica;
 
 use crate::room::{payload_of, widen};
-use export_store::Image;
+use export_store::{Image, Swept};
 use lone_export::Step;
 use nbd_base::NoMemory;
 use nbd_commands::ExportConfig;
-use payload::Page;
 use replica::Replica;
 use std::collections::VecDeque;
 use std::marker::Model;
@@ -93,11 +92,11 @@ impl<I: Image> Base<I> {
         Some(self.replica.image())
     }
 
-    /// Exchanges the pages that writes have put others in place of for an empty list.
-    pub(crate) fn sweep(&mut self, outdated: &mut Vec<Page<I::Alloc>, I::Alloc>)
+    /// Exchanges what writes and zeros have put others in place of for nothing.
+    pub(crate) fn sweep(&mut self, swept: &mut Swept<I::Alloc>)
         ensures { self.new ≡ self.old }
     {
-        self.replica.sweep(outdated);
+        self.replica.sweep(swept);
     }
 
     /// Makes the oldest steps that are queued, until they came to so much work or one found no memory. Tells how much is left to be done.

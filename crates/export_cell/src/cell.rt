@@ -108,7 +108,7 @@ impl<I: Image> ExportCell<I> {
         let _ = &self.payload;
     }
 
-    /// Exchanges the pages that writes have put others in place of, since the last call, for empty lists with room for the next.
+    /// Exchanges what writes and zeros have put others in place of, since the last call, for nothing, with room for the next.
     pub fn sweep(&mut self, outdated: &mut Outdated<I::Alloc>)
         ensures { self.new ≡ self.old }
     {

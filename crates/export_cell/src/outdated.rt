@@ -1,34 +1,35 @@
-//! Pages that are in an export no longer.
-ghost use Rattle.std.specs.Prelude.{◌≡◌, [], IfOk};
+//! What is in an export no longer.
+ghost use Rattle.std.specs.Prelude.{◌≡◌, IfOk};
+ghost use Rattle.page_table.specs.Swept.{nothing};
 
+use export_store::Swept;
 use nbd_base::NoMemory;
-use payload::Page;
 use std::alloc::Allocator;
 
-/// Pages that writes have put others in place of: in an export as it is, and in its base.
+/// What writes and zeros have put others in place of: in an export as it is, and in its base.
 #[derive(Drop)]
-pub struct Outdated<A: Allocator> {
-    pub(crate) live: Vec<Page<A>, A>,
-    pub(crate) base: Vec<Page<A>, A>,
+pub struct Outdated<A: Allocator + Copy> {
+    pub(crate) live: Swept<A>,
+    pub(crate) base: Swept<A>,
 }
 
 impl<A: Allocator + Copy> Outdated<A> {
-    /// No pages, and room for so many of each.
+    /// Nothing, and room for so many pages of each.
     pub fn with_room(alloc: A, pages: usize) -> Result<Outdated<A>, NoMemory>
-        ensures live { IfOk result (λ outdated. outdated.live.items ≡ []) }
-        ensures base { IfOk result (λ outdated. outdated.base.items ≡ []) }
+        ensures live { IfOk result (λ outdated. outdated.live ≡ nothing) }
+        ensures base { IfOk result (λ outdated. outdated.base ≡ nothing) }
     {
-        let live = Vec::with_capacity(alloc, pages)?;
-        let base = Vec::with_capacity(alloc, pages)?;
+        let live = Swept::with_room(alloc, pages)?;
+        let base = Swept::with_room(alloc, pages)?;
         Ok(Outdated { live, base })
     }
 
-    /// Lets the pages go. The memory of those that nobody else holds is given back.
+    /// Lets all go. The memory of pages that nobody else holds is given back.
     pub fn let_go(&mut self)
-        ensures live { self.new.live.items ≡ [] }
-        ensures base { self.new.base.items ≡ [] }
+        ensures live { self.new.live ≡ nothing }
+        ensures base { self.new.base ≡ nothing }
     {
-        self.live.clear();
-        self.base.clear();
+        self.live.let_go();
+        self.base.let_go();
     }
 }

@@ -1,8 +1,7 @@
 pub mod PageLemmas
-pub mod HolesLemmas
-pub mod ShownLemmas
-pub mod TableLemmas
 pub mod ImageLemmas
 pub mod PieceLemmas
 pub mod RangeLemmas
+pub mod ZeroLemmas
 pub mod FlatLemmas
+pub mod HeldLemmas

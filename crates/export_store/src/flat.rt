@@ -4,7 +4,8 @@ ghost use Rattle.payload.specs.Bytes.{range_of, overwritten};
 
 use crate::image::Image;
 use nbd_base::NoMemory;
-use payload::{Page, Payload};
+use page_table::Swept;
+use payload::Payload;
 use std::alloc::Allocator;
 use std::marker::Model;
 
@@ -92,5 +93,5 @@ impl<A: Allocator + Copy> Image for Flat<A> {
         Ok(())
     }
 
-    fn sweep(&mut self, _outdated: &mut Vec<Page<A>, A>) {}
+    fn sweep(&mut self, _swept: &mut Swept<A>) {}
 }

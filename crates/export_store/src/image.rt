@@ -3,7 +3,8 @@ ghost use Rattle.std.specs.Bool.{OnFalse};
 ghost use Rattle.payload.specs.Bytes.{range_of, overwritten};
 
 use nbd_base::NoMemory;
-use payload::{Page, Payload};
+use page_table::Swept;
+use payload::Payload;
 use std::alloc::Allocator;
 
 /// The bytes of an export, however they are kept. What a contract sees of an image is the list of its bytes.
@@ -52,8 +53,8 @@ pub trait Image: Sized + Drop {
             ≡ overwritten (bytes self.old) offset count (replicate count 0)) }
         ensures no_memory { OnErr result (bytes self.new ≡ bytes self.old) };
 
-    /// Exchanges the pages that writes have put others in place of, since the last call, for an empty list with room for the next.
-    /// Whoever lets them go gives their memory back, which may take longer than the writes themselves. A form may hand out none.
-    fn sweep(&mut self, outdated: &mut Vec<Page<Self::Alloc>, Self::Alloc>)
+    /// Exchanges what writes and zeros have put others in place of, since the last call, for nothing, with room for the next.
+    /// Whoever lets it go gives its memory back, which may take longer than the writes themselves. A form may hand out nothing.
+    fn sweep(&mut self, swept: &mut Swept<Self::Alloc>)
         ensures { bytes self.new ≡ bytes self.old };
 }

@@ -5,12 +5,11 @@
 #![tactic(auto)]
 
 mod flat;
-mod holes;
 mod image;
-mod leaf;
 mod paged;
-mod table;
+mod zeroing;
 
 pub use flat::Flat;
 pub use image::Image;
+pub use page_table::Swept;
 pub use paged::Paged;

@@ -4,11 +4,14 @@ ghost use Rattle.std.specs.Int.{div_ceil};
 ghost use Rattle.std.specs.List.{concat};
 ghost use Rattle.payload.specs.Bytes.{range_of, overwritten};
 ghost use Rattle.payload.specs.Rows.{AreWhole};
-ghost use Rattle.export_store.specs.Pages.{IsPaged, in_a_row, image_of, held_page, held_pages, is_held, page_of, page_after, pages_after, has_byte_of, lies_whole_in};
+ghost use Rattle.page_table.specs.Bits.{is_between};
+ghost use Rattle.page_table.specs.Table.{in_table};
+ghost use Rattle.export_store.specs.Pages.{IsPaged, in_a_row, image_of, stored_page, is_stored, is_held, held_pages, page_of, page_after, pages_after, has_byte_of, lies_whole_in, zeroed};
 
 use crate::image::Image;
-use crate::table::Table;
+use crate::zeroing::{emptied_pages, whole_pages, zero_pages};
 use nbd_base::NoMemory;
+use page_table::{BITMAP, CHUNK, HeldZeros, Swept, Table};
 use payload::{PAGE, Page, Payload};
 use std::alloc::Allocator;
 use std::marker::Model;
@@ -17,14 +20,17 @@ use std::mem;
 /// An image in pages of 4,096 bytes, the last of which ends with the image. A page that isn't held in memory is zeros.
 ///
 /// A new image holds none. `write` and `zero` with `keep` hold the pages that they touch, and `zero` without `keep` gives
-/// back those that lie whole in its range. Where memory is refused, some pages of the range may be held that weren't.
+/// back those that lie whole in its range. A page that `zero` holds has no memory of its own before it is written. Where memory is
+/// refused, some pages of a write's range may be held that weren't.
 #[derive(Drop)]
 pub struct Paged<A: Allocator + Copy> {
     alloc: A,
     size: usize,
     pages: Table<A>,
-    // Pages that others have taken the places of, since they were handed out last.
-    outdated: Vec<Page<A>, A>,
+    // Which other pages are held: zeros, of which none is stored.
+    zeros: HeldZeros<A>,
+    // What writes and zeros have put others in place of, since it was handed out last.
+    swept: Swept<A>,
 }
 
 impl<A: Allocator + Copy> Model for Paged<A> {
@@ -32,9 +38,9 @@ impl<A: Allocator + Copy> Model for Paged<A> {
 
     ghost Value = { Pages };
 
-    ghost view = { λ p. record { size = p.size; chunks = p.pages } };
+    ghost view = { λ p. record { size = p.size; chunks = p.pages; zeros = p.zeros } };
 
-    ghost invariant = { λ p. IsPaged (record { size = p.size; chunks = p.pages }) };
+    ghost invariant = { λ p. IsPaged (record { size = p.size; chunks = p.pages; zeros = p.zeros }) };
 }
 
 // How many of so many bytes from a position on lie in its page.
@@ -49,15 +55,22 @@ impl<A: Allocator + Copy> Paged<A> {
     pub fn holds(&self, number: usize) -> bool
         ensures { result ≡ is_held self.now number }
     {
-        self.pages.get(number).is_some()
+        self.pages.stores(number) || self.zeros.has(number)
     }
 
-    /// How many pages are held. It looks at each page of the image.
+    /// How many pages are held. It looks at what is there, and not at each page of the image.
     pub fn held(&self) -> usize
         ensures { result ≡ length (held_pages self.now) }
     {
         let pages = self.size.div_ceil(PAGE);
-        (0..pages).filter(|number| self.holds(*number)).count()
+        self.pages.stored(pages.div_ceil(CHUNK)) + self.zeros.count(pages.div_ceil(BITMAP))
+    }
+
+    // Whether a page is stored.
+    fn stores(&self, number: usize) -> bool
+        ensures { result ≡ is_stored self.now number }
+    {
+        self.pages.stores(number)
     }
 
     // Where a range of the image ends.
@@ -71,128 +84,67 @@ impl<A: Allocator + Copy> Paged<A> {
         offset + count
     }
 
-    // Holds a page.
-    fn hold(&mut self, number: usize) -> Result<(), NoMemory>
+    // A page is stored from now on. It takes no memory where it was.
+    fn replace(&mut self, number: usize, page: Page<A>) -> Result<(), NoMemory>
+        requires begins { 4096 * number < length (image_of self.old) }
+        requires whole { length page ≡ 4096 }
+        ensures size { self.new.size ≡ self.old.size }
+        ensures long { length (image_of self.new) ≡ length (image_of self.old) }
+        ensures here { OnOk result (stored_page self.new number ≡ Some page) }
+        ensures others { (k : ℕ) → k ≢ number → stored_page self.new k ≡ stored_page self.old k }
+        ensures held { OnOk result ((k : ℕ) → is_held self.new k ≡ (is_held self.old k || (k == number))) }
+        ensures stored { is_stored self.old number ≡ true → IsOk result }
+        ensures no_memory { OnErr result (image_of self.new ≡ image_of self.old) }
+    {
+        self.pages.put(self.alloc, number, page, &mut self.swept)?;
+        self.zeros.remove(number, number + 1);
+        Ok(())
+    }
+
+    // Stores a page, as it is.
+    fn store(&mut self, number: usize) -> Result<(), NoMemory>
         requires { 4096 * number < length (image_of self.old) }
         ensures size { self.new.size ≡ self.old.size }
         ensures bytes { image_of self.new ≡ image_of self.old }
         ensures held { OnOk result ((k : ℕ) → is_held self.new k ≡ (is_held self.old k || (k == number))) }
+        ensures stored { OnOk result (is_stored self.new number ≡ true) }
+        ensures others { (k : ℕ) → k ≢ number → is_stored self.new k ≡ is_stored self.old k }
     {
-        if self.holds(number) {
+        if self.stores(number) {
             return Ok(());
         }
-        self.pages
-            .put(self.alloc, number, Page::zeros(), &mut self.outdated)?;
-        Ok(())
+        self.replace(number, Page::zeros())
     }
 
-    // The first page from one on that isn't held, or the end where each before it is.
+    // The first page from one on that isn't stored, or the end where each before it is.
     fn first_absent(&self, first: usize, end: usize) -> usize
         requires { first ≤ end }
         ensures begins { first ≤ result }
         ensures ends { result ≤ end }
-        ensures held { (k : ℕ) → first ≤ k → k < result → is_held self.now k ≡ true }
+        ensures stored { (k : ℕ) → first ≤ k → k < result → is_stored self.now k ≡ true }
     {
         let mut absent = first;
-        while absent < end && self.holds(absent) {
+        while absent < end && self.stores(absent) {
             absent += 1;
         }
         absent
     }
 
-    // Holds the pages of a range.
-    fn hold_all(&mut self, offset: usize, count: usize) -> Result<(), NoMemory>
+    // Stores the pages of a range.
+    fn store_all(&mut self, offset: usize, count: usize) -> Result<(), NoMemory>
         requires { offset + count ≤ length (image_of self.old) }
         ensures size { self.new.size ≡ self.old.size }
         ensures bytes { image_of self.new ≡ image_of self.old }
         ensures held { OnOk result ((k : ℕ) → is_held self.new k ≡ (is_held self.old k || has_byte_of offset count k)) }
+        ensures stored { OnOk result ((k : ℕ) → has_byte_of offset count k ≡ true → is_stored self.new k ≡ true) }
     {
         if count == 0 {
             return Ok(());
         }
         let end = self.end_of(offset, count).div_ceil(PAGE);
         for number in self.first_absent(offset / PAGE, end)..end {
-            self.hold(number)?;
+            self.store(number)?;
         }
-        Ok(())
-    }
-
-    // Gives a page back, which is then zeros.
-    fn give_back(&mut self, number: usize)
-        requires { 4096 * number < length (image_of self.old) }
-        ensures size { self.new.size ≡ self.old.size }
-        ensures long { length (image_of self.new) ≡ length (image_of self.old) }
-        ensures bytes { (offset count : ℕ) → offset + count ≤ length (image_of self.old)
-            → lies_whole_in self.old.size offset count number ≡ true
-            → overwritten (image_of self.new) offset count (replicate count 0)
-            ≡ overwritten (image_of self.old) offset count (replicate count 0) }
-        ensures held { (k : ℕ) → is_held self.new k ≡ (is_held self.old k && not (k == number)) }
-    {
-        self.pages.remove(number);
-    }
-
-    // Gives back the pages that lie whole in a range, which is then to be made zero.
-    fn give_back_all(&mut self, offset: usize, count: usize)
-        requires { offset + count ≤ length (image_of self.old) }
-        ensures size { self.new.size ≡ self.old.size }
-        ensures long { length (image_of self.new) ≡ length (image_of self.old) }
-        ensures bytes { overwritten (image_of self.new) offset count (replicate count 0)
-            ≡ overwritten (image_of self.old) offset count (replicate count 0) }
-        ensures held { (k : ℕ) → is_held self.new k
-            ≡ (is_held self.old k && not (lies_whole_in self.old.size offset count k)) }
-    {
-        let end = self.end_of(offset, count);
-        let first = offset.div_ceil(PAGE);
-        let last = if end == self.size {
-            end.div_ceil(PAGE)
-        } else {
-            end / PAGE
-        };
-        for number in first..last {
-            self.give_back(number);
-        }
-    }
-
-    // Makes a range zero that lies in one page.
-    fn clear(&mut self, at: usize, count: usize)
-        requires one_page { at % 4096 + count ≤ 4096 }
-        requires within { at + count ≤ length (image_of self.old) }
-        ensures size { self.new.size ≡ self.old.size }
-        ensures zeroed { image_of self.new ≡ overwritten (image_of self.old) at count (replicate count 0) }
-        ensures held { (k : ℕ) → is_held self.new k ≡ is_held self.old k }
-    {
-        self.pages.clear(self.alloc, at / PAGE, at % PAGE, count);
-    }
-
-    // Makes a range zero.
-    fn clear_all(&mut self, offset: usize, count: usize)
-        requires { offset + count ≤ length (image_of self.old) }
-        ensures size { self.new.size ≡ self.old.size }
-        ensures zeroed { image_of self.new ≡ overwritten (image_of self.old) offset count (replicate count 0) }
-        ensures held { (k : ℕ) → is_held self.new k ≡ is_held self.old k }
-    {
-        let end = self.end_of(offset, count);
-        let mut at = offset;
-        while at < end {
-            let n = in_page(at, end - at);
-            self.clear(at, n);
-            at += n;
-        }
-    }
-
-    // A page has these bytes from now on. It takes no memory where the page is held.
-    fn replace(&mut self, number: usize, page: Page<A>) -> Result<(), NoMemory>
-        requires begins { 4096 * number < length (image_of self.old) }
-        requires whole { length page ≡ 4096 }
-        ensures size { self.new.size ≡ self.old.size }
-        ensures long { length (image_of self.new) ≡ length (image_of self.old) }
-        ensures here { OnOk result (held_page self.new number ≡ Some page) }
-        ensures others { (k : ℕ) → k ≢ number → held_page self.new k ≡ held_page self.old k }
-        ensures held { is_held self.old number ≡ true → IsOk result }
-        ensures no_memory { OnErr result (image_of self.new ≡ image_of self.old) }
-    {
-        self.pages
-            .put(self.alloc, number, page, &mut self.outdated)?;
         Ok(())
     }
 
@@ -202,8 +154,8 @@ impl<A: Allocator + Copy> Paged<A> {
         ensures whole { IfOk result (λ page. length page ≡ 4096) }
         ensures pages { IsPaged self.now }
     {
-        match self.pages.get(number) {
-            Some(leaf) => leaf.page(self.alloc),
+        match self.pages.page(self.alloc, number)? {
+            Some(page) => Ok(page),
             None => Ok(Page::zeros()),
         }
     }
@@ -268,7 +220,7 @@ impl<A: Allocator + Copy> Paged<A> {
         Ok(pages)
     }
 
-    // Writes a piece, of which each page is held and the one in its place is ready. It takes no memory.
+    // Writes a piece, of which each page is stored and the one in its place is ready. It takes no memory.
     fn put_all(
         &mut self,
         offset: usize,
@@ -277,7 +229,7 @@ impl<A: Allocator + Copy> Paged<A> {
     ) -> Result<(), NoMemory>
         requires some { 0 < length piece.now }
         requires within { offset + length piece.now ≤ length (image_of self.old) }
-        requires held { (k : ℕ) → has_byte_of offset (length piece.now) k ≡ true → is_held self.old k ≡ true }
+        requires stored { (k : ℕ) → has_byte_of offset (length piece.now) k ≡ true → is_stored self.old k ≡ true }
         requires ready { pages.items ≡ pages_after (page_of self.old) offset piece.now
             (offset / 4096) (div_ceil (offset + length piece.now) 4096 - offset / 4096) }
         ensures never_fails { IsOk result }
@@ -310,12 +262,12 @@ impl<A: Allocator + Copy> Paged<A> {
         Ok(())
     }
 
-    // Puts a page in the place of one that is held. It takes no memory.
+    // Puts a page in the place of one that is stored. It takes no memory.
     fn put_page(&mut self, offset: usize, page: Page<A>)
         requires paged { offset % 4096 ≡ 0 }
         requires whole { length page ≡ 4096 }
         requires within { offset + 4096 ≤ length (image_of self.old) }
-        requires held { is_held self.old (offset / 4096) ≡ true }
+        requires stored { is_stored self.old (offset / 4096) ≡ true }
         ensures written { image_of self.new ≡ overwritten (image_of self.old) offset (length page) page }
         ensures held { (k : ℕ) → is_held self.new k ≡ is_held self.old k }
     {
@@ -325,7 +277,7 @@ impl<A: Allocator + Copy> Paged<A> {
         };
     }
 
-    // Writes a piece, wherever it lies. No page changes before each is held and the one in its place is ready.
+    // Writes a piece, wherever it lies. No page changes before each is stored and the one in its place is ready.
     fn write_many(&mut self, offset: usize, piece: &Payload<A>) -> Result<(), NoMemory>
         requires some { 0 < length piece.now }
         requires within { offset + length piece.now ≤ length (image_of self.old) }
@@ -335,9 +287,51 @@ impl<A: Allocator + Copy> Paged<A> {
             ≡ (is_held self.old k || has_byte_of offset (length piece.now) k)) }
         ensures no_memory { OnErr result (image_of self.new ≡ image_of self.old) }
     {
-        self.hold_all(offset, piece.len())?;
+        self.store_all(offset, piece.len())?;
         let pages = self.pages_after(offset, piece)?;
         self.put_all(offset, piece, pages)
+    }
+
+    // Makes a range zero, and holds its pages. It has all its memory before a byte changes.
+    fn hold_zeros(&mut self, offset: usize, count: usize) -> Result<(), NoMemory>
+        requires some { 0 < count }
+        requires within { offset + count ≤ length (image_of self.old) }
+        ensures zeroed { OnOk result (image_of self.new
+            ≡ overwritten (image_of self.old) offset count (replicate count 0)) }
+        ensures held { OnOk result ((k : ℕ) → is_held self.new k ≡ (is_held self.old k || has_byte_of offset count k)) }
+        ensures no_memory { OnErr result (image_of self.new ≡ image_of self.old) }
+    {
+        let empty = emptied_pages(&self.pages, self.size, offset, count);
+        self.zeros.add(self.alloc, empty.first, empty.end)?;
+        zero_pages(
+            &mut self.pages,
+            self.alloc,
+            self.size,
+            offset,
+            count,
+            &mut self.swept,
+        );
+        Ok(())
+    }
+
+    // Makes a range zero, and gives back what lies whole in it.
+    fn give_back(&mut self, offset: usize, count: usize)
+        requires some { 0 < count }
+        requires within { offset + count ≤ length (image_of self.old) }
+        ensures zeroed { image_of self.new ≡ overwritten (image_of self.old) offset count (replicate count 0) }
+        ensures held { (k : ℕ) → is_held self.new k
+            ≡ (is_held self.old k && not (lies_whole_in self.old.size offset count k)) }
+    {
+        let whole = whole_pages(self.size, offset, count);
+        self.zeros.remove(whole.first, whole.end);
+        zero_pages(
+            &mut self.pages,
+            self.alloc,
+            self.size,
+            offset,
+            count,
+            &mut self.swept,
+        );
     }
 }
 
@@ -352,11 +346,13 @@ impl<A: Allocator + Copy> Image for Paged<A> {
         ensures none_held { IfOk result (λ image. (k : ℕ) → is_held image k ≡ false) }
     {
         let pages = Table::new(alloc);
+        let zeros = HeldZeros::none(alloc);
         Ok(Paged {
             alloc,
             size,
             pages,
-            outdated: Vec::new(alloc),
+            zeros,
+            swept: Swept::new(alloc),
         })
     }
 
@@ -401,7 +397,7 @@ impl<A: Allocator + Copy> Image for Paged<A> {
             ≡ (is_held self.old k || has_byte_of offset (length piece.old) k)) }
         ensures no_memory { OnErr result ((image_of self.new ≡ image_of self.old) × (piece.new ≡ piece.old)) }
     {
-        if offset % PAGE != 0 || !self.holds(offset / PAGE) {
+        if offset % PAGE != 0 || !self.stores(offset / PAGE) {
             return self.write(offset, piece);
         }
         match mem::replace(piece, Payload::new()).into_page() {
@@ -426,18 +422,20 @@ impl<A: Allocator + Copy> Image for Paged<A> {
             else is_held self.old k && not (lies_whole_in self.old.size offset count k))) }
         ensures no_memory { OnErr result (image_of self.new ≡ image_of self.old) }
     {
-        if keep {
-            self.hold_all(offset, count)?;
-        } else {
-            self.give_back_all(offset, count);
+        if count == 0 {
+            let _end = self.end_of(offset, count);
+            return Ok(());
         }
-        self.clear_all(offset, count);
+        if keep {
+            return self.hold_zeros(offset, count);
+        }
+        self.give_back(offset, count);
         Ok(())
     }
 
-    fn sweep(&mut self, outdated: &mut Vec<Page<A>, A>)
+    fn sweep(&mut self, swept: &mut Swept<A>)
         ensures { self.new ≡ self.old }
     {
-        mem::swap(&mut self.outdated, outdated);
+        mem::swap(&mut self.swept, swept);
     }
 }

@@ -1,4 +1,4 @@
-use export_store::{Flat, Image, Paged};
+use export_store::{Flat, Image, Paged, Swept};
 use nbd_base::NoMemory;
 use payload::Payload;
 use refusing::Refusing;
@@ -348,8 +348,8 @@ fn what_was_read_stays_as_it_was(rt: HostRuntime) -> Result<(), NoMemory> {
     Ok(())
 }
 
-// A list of the pages takes memory, the pages of the payload none. A page of the image that isn't one of them is copied,
-// which takes memory for its bytes and for the count of its owners.
+// A list of the pages takes memory, the pages of the payload none. A page of the image that isn't one of them is copied, which takes
+// memory for its bytes and for the count of their owners.
 #[test]
 fn pages_are_taken_from_a_payload(rt: HostRuntime) -> Result<(), NoMemory> {
     let heap = Refusing::new(rt.alloc(), 0);
@@ -407,15 +407,15 @@ fn outdated_pages_are_handed_out(rt: HostRuntime) -> Result<(), NoMemory> {
     let alloc = rt.alloc();
     let mut image: Paged<Global> = Paged::zeros(alloc, 12288)?;
     assert!(rt; puts(&mut image, 0, &sevens(alloc, 0, 12288)?));
-    let mut outdated = Vec::with_capacity(alloc, 4)?;
-    image.sweep(&mut outdated);
-    assert!(rt; outdated.is_empty());
+    let mut swept = Swept::with_room(alloc, 4)?;
+    image.sweep(&mut swept);
+    assert!(rt; swept.pages().is_empty());
     assert!(rt; writes(alloc, &mut image, 4096, &[1, 2, 3]));
     assert!(rt; writes(alloc, &mut image, 4097, &[7, 7]));
     assert!(rt; writes(alloc, &mut image, 4096, &[7]));
-    image.sweep(&mut outdated);
-    assert_eq!(rt; outdated.len(), 3);
-    for (page, first) in outdated.iter().zip([7u8, 1, 1]) {
+    image.sweep(&mut swept);
+    assert_eq!(rt; swept.pages().len(), 3);
+    for (page, first) in swept.pages().iter().zip([7u8, 1, 1]) {
         assert_eq!(rt; page.as_slice().first(), Some(&first));
     }
     assert!(rt; is_but(alloc, &image, 7, 0, 0)?);
@@ -426,10 +426,274 @@ fn outdated_pages_are_handed_out(rt: HostRuntime) -> Result<(), NoMemory> {
 fn one_piece_hands_nothing_out(rt: HostRuntime) -> Result<(), NoMemory> {
     let mut image: Flat<Global> = Flat::zeros(rt.alloc(), 6)?;
     assert!(rt; writes(rt.alloc(), &mut image, 1, &[7, 7]));
-    let mut outdated = Vec::with_capacity(rt.alloc(), 4)?;
-    image.sweep(&mut outdated);
+    let mut swept = Swept::with_room(rt.alloc(), 4)?;
+    image.sweep(&mut swept);
     let bytes = all_of(rt.alloc(), &image)?;
-    assert!(rt; outdated.is_empty());
+    assert!(rt; swept.pages().is_empty());
     assert_eq!(rt; bytes.as_slice(), [0, 7, 7, 0, 0, 0].as_slice());
     Ok(())
+}
+
+// ---- Large images
+
+const TEBIBYTE: usize = 1 << 40;
+
+// A range of 4,294,967,295 bytes of such an image, from the midst of page 1,220 to that of page 1,049,796.
+const FROM: usize = 5_000_001;
+
+const LONG: usize = 4_294_967_295;
+
+// Whether the bytes on both sides of a place are these two.
+fn are_beside<I: Image>(image: &I, place: usize, before: u8, behind: u8) -> bool {
+    if place == 0 || place >= image.size() {
+        return false;
+    }
+    match image.read(place - 1, 2) {
+        Ok(payload) => payload.len() == 2 && payload.from(0) == [before, behind].as_slice(),
+        Err(NoMemory) => false,
+    }
+}
+
+// Whether the last bytes of a large image are those that were written there, and zeros where they were made so.
+fn ends_well(alloc: Global) -> bool {
+    let Ok(mut image): Result<Paged<Global>, NoMemory> = Paged::zeros(alloc, TEBIBYTE) else {
+        return false;
+    };
+    let end = TEBIBYTE;
+    let written = writes(alloc, &mut image, end - 4, &[1, 2, 3, 4]) && image.held() == 1;
+    let told = are_beside(&image, end - 1, 3, 4) && are_beside(&image, end - 3, 1, 2);
+    let kept = zeroes(&mut image, end - 2, 2, true) && are_beside(&image, end - 2, 2, 0);
+    let trimmed = zeroes(&mut image, end - 8_192, 8_192, false) && image.held() == 0;
+    written && told && kept && trimmed && are_beside(&image, end - 3, 0, 0) && image.size() == end
+}
+
+#[test]
+fn the_end_of_a_large_image_is_served(rt: HostRuntime) {
+    assert!(rt; ends_well(rt.alloc()));
+}
+
+// How many pages are held once the long range is zero where no page was: 99 where a growth was asked for and none is promised.
+fn held_of_none(heap: &Refusing<Global>, keep: bool) -> usize {
+    let Ok(mut image): Result<Paged<&Refusing<Global>>, NoMemory> = Paged::zeros(heap, TEBIBYTE)
+    else {
+        return 99;
+    };
+    heap.arm(if keep { 0 } else { 1 });
+    let zeroed = zeroes(&mut image, FROM, LONG, keep);
+    if zeroed && (keep || heap.is_armed()) {
+        image.held()
+    } else {
+        99
+    }
+}
+
+// Whether of two pages at the edges of the long range only what lies in it becomes zero, and so many pages are held then.
+fn edges_stay(heap: &Refusing<Global>, keep: bool, held: usize) -> bool {
+    let Ok(mut image): Result<Paged<&Refusing<Global>>, NoMemory> = Paged::zeros(heap, TEBIBYTE)
+    else {
+        return false;
+    };
+    let end = FROM + LONG;
+    let written = writes(heap, &mut image, FROM - 1, &[7, 8])
+        && writes(heap, &mut image, end - 1, &[8, 9])
+        && writes(heap, &mut image, 1 << 31, &[8, 8]);
+    let before = are_beside(&image, FROM, 7, 8) && are_beside(&image, end, 8, 9);
+    heap.arm(1);
+    let zeroed = zeroes(&mut image, FROM, LONG, keep);
+    let zeroed = zeroed || (keep && image.held() == 3 && zeroes(&mut image, FROM, LONG, keep));
+    let after = are_beside(&image, FROM, 7, 0) && are_beside(&image, end, 0, 9);
+    written
+        && before
+        && zeroed
+        && after
+        && are_beside(&image, (1 << 31) + 1, 0, 0)
+        && image.held() == held
+}
+
+#[test]
+fn a_long_range_of_a_large_image_is_made_zero(rt: HostRuntime) {
+    let heap = Refusing::new(rt.alloc(), 0);
+    assert!(rt; held_of_none(&heap, false) == 0);
+    assert!(rt; held_of_none(&heap, true) == 1_048_577);
+    assert!(rt; edges_stay(&heap, false, 2));
+    assert!(rt; edges_stay(&heap, true, 1_048_577));
+}
+
+// Held zeros are given back with what lies whole in a range, and have no memory of their own before they are written.
+fn held_zeros_go(heap: &Refusing<Global>) -> bool {
+    let Ok(mut image): Result<Paged<&Refusing<Global>>, NoMemory> = Paged::zeros(heap, TEBIBYTE)
+    else {
+        return false;
+    };
+    let held = zeroes(&mut image, FROM, LONG, true) && image.held() == 1_048_577;
+    heap.arm(1);
+    let given_back = zeroes(&mut image, FROM + 4_096, LONG - 8_192, false) && image.held() == 4;
+    let again = zeroes(&mut image, FROM, 4_096, true) && image.held() == 4;
+    let without_memory = heap.is_armed();
+    heap.arm(0);
+    let written = writes(heap, &mut image, FROM, &[1]) && image.held() == 4;
+    held && given_back && again && without_memory && written && are_beside(&image, FROM, 0, 1)
+}
+
+#[test]
+fn held_zeros_are_given_back(rt: HostRuntime) {
+    let heap = Refusing::new(rt.alloc(), 0);
+    assert!(rt; held_zeros_go(&heap));
+}
+
+// Whether zeros that are to be held change nothing where a growth is refused, and are held where none is.
+fn holds_or_stays(heap: &Refusing<Global>, nth: u64) -> bool {
+    heap.arm(0);
+    let Ok(mut image): Result<Paged<&Refusing<Global>>, NoMemory> = Paged::zeros(heap, TEBIBYTE)
+    else {
+        return false;
+    };
+    let written = writes(heap, &mut image, 70_000_000, &[5, 6]);
+    heap.arm(nth);
+    let held = zeroes(&mut image, 70_000_001, 200_000_000, true);
+    let refused = !held && !heap.is_armed() && image.held() == 1;
+    let stays = refused && are_beside(&image, 70_000_001, 5, 6);
+    let all = held && image.held() == 48_829 && are_beside(&image, 70_000_001, 5, 0);
+    written && (stays || all)
+}
+
+#[test]
+fn each_growth_of_held_zeros_is_refused_in_turn(rt: HostRuntime) {
+    let heap = Refusing::new(rt.alloc(), 0);
+    let mut met = 0u64;
+    for nth in 1..100u64 {
+        assert!(rt; holds_or_stays(&heap, nth), "at {nth}");
+        if heap.is_armed() {
+            break;
+        }
+        met = met.saturating_add(1);
+    }
+    assert!(rt; met >= 4 && heap.is_armed());
+}
+
+// ---- Beside an image in one piece
+
+// An image in pages whose bytes from a place on are those of one in one piece, and others zeros.
+#[derive(Drop)]
+struct Both<A: Allocator + Copy> {
+    paged: Paged<A>,
+    flat: Flat<A>,
+    begin: usize,
+}
+
+// 768 pages on both sides of 64 MiB.
+fn make_both(alloc: Global) -> Option<Both<Global>> {
+    let paged = Paged::zeros(alloc, 1 << 27).ok()?;
+    let flat = Flat::zeros(alloc, 3 << 20).ok()?;
+    let begin = (1 << 26) - (3 << 19);
+    Some(Both { paged, flat, begin })
+}
+
+// A number that looks drawn by lot.
+fn next_of(seed: &mut u64) -> u64 {
+    *seed = seed
+        .wrapping_mul(6_364_136_223_846_793_005)
+        .wrapping_add(1_442_695_040_888_963_407);
+    *seed >> 33
+}
+
+// A place close to the edge of a chunk, and a length that mostly is a few pages and sometimes more than a chunk.
+fn range_of(seed: &mut u64) -> (usize, usize) {
+    let edge = 524_288 + (next_of(seed) % 3) as usize * 1_048_576;
+    let offset = edge + (next_of(seed) % 16_384) as usize - 8_192;
+    let most = if next_of(seed) % 8 == 0 {
+        1_200_000
+    } else {
+        20_000
+    };
+    let count = (next_of(seed) % most) as usize;
+    (offset, count.min((3 << 20) - offset))
+}
+
+// Makes one change to both.
+fn changes(alloc: Global, both: &mut Both<Global>, seed: &mut u64) -> bool {
+    let (offset, count) = range_of(seed);
+    let place = both.begin + offset;
+    match next_of(seed) % 4 {
+        0 => {
+            zeroes(&mut both.paged, place, count, true)
+                && zeroes(&mut both.flat, offset, count, true)
+        }
+        1 => {
+            zeroes(&mut both.paged, place, count, false)
+                && zeroes(&mut both.flat, offset, count, false)
+        }
+        _ => {
+            let byte = (next_of(seed) % 255) as u8 + 1;
+            let Ok(bytes) = Vec::from_elem(alloc, byte, count.min(30_000)) else {
+                return false;
+            };
+            writes(alloc, &mut both.paged, place, bytes.as_slice())
+                && writes(alloc, &mut both.flat, offset, bytes.as_slice())
+        }
+    }
+}
+
+// Whether both have the same bytes.
+fn are_same(alloc: Global, both: &Both<Global>) -> bool {
+    let size = both.flat.size();
+    if both.begin + size > both.paged.size() {
+        return false;
+    }
+    let (Ok(payload), Ok(flat)) = (both.paged.read(both.begin, size), all_of(alloc, &both.flat))
+    else {
+        return false;
+    };
+    let mut paged = Vec::new(alloc);
+    payload.append(&mut paged).is_ok() && paged.as_slice() == flat.as_slice()
+}
+
+fn goes_as_one_piece(alloc: Global, mut seed: u64) -> bool {
+    let Some(mut both) = make_both(alloc) else {
+        return false;
+    };
+    for step in 0..96u32 {
+        if !changes(alloc, &mut both, &mut seed) {
+            return false;
+        }
+        if step % 16 == 15 && !are_same(alloc, &both) {
+            return false;
+        }
+    }
+    let end = both.paged.size();
+    zeroes(&mut both.paged, 0, end, false) && both.paged.held() == 0
+}
+
+#[test]
+fn pages_go_as_one_piece(rt: HostRuntime) {
+    assert!(rt; goes_as_one_piece(rt.alloc(), 1));
+    assert!(rt; goes_as_one_piece(rt.alloc(), 7));
+}
+
+// ---- What is handed out
+
+// Whether zeros hand out a chunk that goes whole, and the pages of one that they find a part of.
+fn hands_out(alloc: Global) -> bool {
+    let Ok(mut image): Result<Paged<Global>, NoMemory> = Paged::zeros(alloc, 1 << 22) else {
+        return false;
+    };
+    let (Ok(piece), Ok(mut swept)) = (sevens(alloc, 0, 3 << 20), Swept::with_room(alloc, 512))
+    else {
+        return false;
+    };
+    let written = puts(&mut image, 0, &piece);
+    image.sweep(&mut swept);
+    let none = swept.pages().is_empty() && swept.chunks() == 0;
+    let zeroed = zeroes(&mut image, 4_096, (2 << 20) + 4_096, false) && image.held() == 255;
+    image.sweep(&mut swept);
+    let parts = swept.pages().len() == 257 && swept.chunks() == 1;
+    swept.let_go();
+    let gone = zeroes(&mut image, 0, 4_096, false) && image.held() == 254;
+    image.sweep(&mut swept);
+    written && none && zeroed && parts && gone && swept.chunks() == 1
+}
+
+#[test]
+fn zeros_hand_out_chunks_and_pages(rt: HostRuntime) {
+    assert!(rt; hands_out(rt.alloc()));
 }

@@ -21,12 +21,11 @@ use crate::refusal::{Arrived, NotArrived, NotAttached};
 use crate::row::Row;
 use crate::step::{Step, StepAnswer};
 use export_queue::{ExportQueue, Picked};
-use export_store::Image;
+use export_store::{Image, Swept};
 use nbd_base::NoMemory;
 use nbd_commands::{Done, ExportConfig, ExportInfo, apply_owned, verdict};
 use nbd_wire::protocol::{EIO, ENOMEM};
 use nbd_wire::{Reply, Request};
-use payload::Page;
 use reply_box::{NotOpen, ReplyBox, Taken};
 use std::alloc::Allocator;
 use std::marker::Model;
@@ -185,11 +184,11 @@ impl<I: Image> Lone<I> {
         Some(memory)
     }
 
-    /// Exchanges the pages that writes have put others in place of, since the last call, for an empty list with room for the next.
-    pub fn sweep(&mut self, outdated: &mut Vec<Page<I::Alloc>, I::Alloc>)
+    /// Exchanges what writes and zeros have put others in place of, since the last call, for nothing, with room for the next.
+    pub fn sweep(&mut self, swept: &mut Swept<I::Alloc>)
         ensures { self.new ≡ self.old }
     {
-        self.image.sweep(outdated);
+        self.image.sweep(swept);
     }
 
     /// An export in its opening state, which takes its memory from `alloc`.

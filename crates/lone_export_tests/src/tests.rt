@@ -1,6 +1,6 @@
 ghost use Rattle.std.specs.Prelude.{◌≡◌};
 
-use export_store::{Flat, Image};
+use export_store::{Flat, Image, Swept};
 use lone_export::*;
 use nbd_base::NoMemory;
 use nbd_commands::{Config, ExportList, ExportSettings};
@@ -124,11 +124,11 @@ fn is_empty<A: Allocator + Copy>(lone: &mut Lone<Flat<A>>) -> bool {
 }
 
 fn sweeps(lone: &mut Alone, alloc: Global) -> bool {
-    let Ok(mut outdated) = Vec::with_capacity(alloc, 4) else {
+    let Ok(mut swept) = Swept::with_room(alloc, 4) else {
         return false;
     };
-    lone.sweep(&mut outdated);
-    outdated.is_empty() && lone.steps() == 1
+    lone.sweep(&mut swept);
+    swept.pages().is_empty() && lone.steps() == 1
 }
 
 #[test]

@@ -7,6 +7,7 @@ use Rattle.server_table.specs.Steps.{last_table, run_answers}
 use Rattle.server_table.specs.Shares.{marks_of}
 use Rattle.core_laws.specs.Statements.{IsToldAsAlone, EndsAsAlone, QueuesCountTheirOwn, WeightsWait, ReservationsBeforeWeights, ChoosesNoneBefore, ChoosesByLimit, ChoosesByReservation}
 use Rattle.core_laws.specs.Shares.{WeightsTakeTheLeast, SharesByWeight, RisesByItsChoices, SharesByRatio}
+use Rattle.core_laws.specs.Between.{SharesBetween, RatioBetween}
 
 module _ {A : Type 0} where
   -- the answers are those of the definition, with memory there for each event as its answer tells
@@ -38,3 +39,8 @@ module _ {A : Type 0} where
   abbrev pub KeepsToWeights : Setup → List (Event A) → List (Answer A) → Type 0
   KeepsToWeights setup events answers = WeightsTakeTheLeast setup events answers (marks_of answers) × SharesByWeight setup events answers (marks_of answers) ×
       RisesByItsChoices setup events answers (marks_of answers) × SharesByRatio setup events answers (marks_of answers)
+
+  -- from a choice of an export to a later one, another that waits all that time is chosen by weight once at most, and once
+  -- more for each of its intervals by which the tag that is chosen rose: where requests arrive in time, the ratio of weights
+  abbrev pub KeepsToWeightsBetween : Setup → List (Event A) → List (Answer A) → Type 0
+  KeepsToWeightsBetween setup events answers = SharesBetween setup events answers (marks_of answers) × RatioBetween setup events answers (marks_of answers)

@@ -2,7 +2,7 @@
 ghost use Rattle.std.specs.Prelude.{◌≡◌, IfOk};
 ghost use Rattle.core_laws.specs.Statements.{HasUnrolledTags};
 ghost use Rattle.server_core.specs.Served.{setup_for};
-ghost use Rattle.server_core.specs.Run.{IsAnswered, IsAlone, CountsItsOwn, WaitsForLimits, ReservedFirst, KeepsToRates, KeepsToWeights};
+ghost use Rattle.server_core.specs.Run.{IsAnswered, IsAlone, CountsItsOwn, WaitsForLimits, ReservedFirst, KeepsToRates, KeepsToWeights, KeepsToWeightsBetween};
 
 use crate::server::Server;
 use core_laws::{
@@ -33,6 +33,7 @@ pub fn run<I: Image, E: Eligibility<Alloc = I::Alloc>>(
     ensures tags { IfOk result (λ answers. HasUnrolledTags (setup_for config.now) events.items answers.items) }
     ensures counts { IfOk result (λ answers. KeepsToRates (setup_for config.now) events.items answers.items) }
     ensures shares { IfOk result (λ answers. KeepsToWeights (setup_for config.now) events.items answers.items) }
+    ensures between { IfOk result (λ answers. KeepsToWeightsBetween (setup_for config.now) events.items answers.items) }
 {
     let answers = answer_each::<I, E>(alloc, config, events)?;
     // What the definition promises of every run, it promises of this one.

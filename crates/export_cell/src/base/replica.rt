@@ -8,12 +8,11 @@ ghost use Rattle.export_cell.specs.Past.{Goes};
 use super::remaking::{made_in_place, remade};
 use crate::late::Late;
 use crate::work::work_of;
-use export_store::Image;
+use export_store::{Image, Swept};
 use lone_export::{Lone, Step};
 use nbd_base::NoMemory;
 use nbd_commands::ExportConfig;
 use nbd_wire::RequestHead;
-use payload::Page;
 use std::marker::Model;
 use std::mem;
 
@@ -77,11 +76,11 @@ impl<I: Image> Replica<I> {
         self.lone.image()
     }
 
-    /// Exchanges the pages that writes have put others in place of for an empty list.
-    pub(super) fn sweep(&mut self, outdated: &mut Vec<Page<I::Alloc>, I::Alloc>)
+    /// Exchanges what writes and zeros have put others in place of for nothing.
+    pub(super) fn sweep(&mut self, swept: &mut Swept<I::Alloc>)
         ensures { self.new ≡ self.old }
     {
-        self.lone.sweep(outdated);
+        self.lone.sweep(swept);
     }
 
     /// How much work it is to make a step: one, and what the request is that it performs.

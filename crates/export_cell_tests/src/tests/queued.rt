@@ -3,7 +3,7 @@
 use super::*;
 use export_store::Image;
 use lone_export::Lone;
-use nbd_wire::protocol::{TRIM, WRITE_ZEROES};
+use nbd_wire::protocol::{CACHE, TRIM, WRITE_ZEROES};
 use refusing::Refusing;
 
 type Heap<'a> = &'a Refusing<Global>;
@@ -418,6 +418,7 @@ fn each_growth_of_the_queue_is_refused_in_turn(rt: HostRuntime) {
 fn work_is_counted_in_pages(rt: HostRuntime) {
     assert!(rt; work_of(head_of(READ, 33_554_432)) == 0);
     assert!(rt; work_of(head_of(FLUSH, 0)) == 0);
+    assert!(rt; work_of(head_of(CACHE, u32::MAX)) == 0);
     assert!(rt; work_of(head_of(WRITE, 33_554_432)) == 8193);
     assert!(rt; work_of(head_of(TRIM, 268_435_456)) == 65);
     assert!(rt; work_of(head_of(WRITE_ZEROES, 4095)) == 1);

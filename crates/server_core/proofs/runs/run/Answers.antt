@@ -7,6 +7,7 @@ use Rattle.server_table.specs.Shares.{marks_of}
 use Rattle.core_laws.specs.Runs.{Run}
 use Rattle.core_laws.specs.Statements.{IsToldAsAlone, EndsAsAlone, QueuesCountTheirOwn, WeightsWait, ReservationsBeforeWeights, HasUnrolledTags, ChoosesNoneBefore, ChoosesByLimit, ChoosesByReservation}
 use Rattle.core_laws.specs.Shares.{WeightsTakeTheLeast, SharesByWeight, RisesByItsChoices, SharesByRatio}
+use Rattle.core_laws.specs.Between.{SharesBetween, RatioBetween}
 use Rattle.server_core.specs.Served.{setup_for}
 use Rattle.server_core.proofs.runs.run.Goals as goal
 
@@ -84,4 +85,16 @@ returns-clause-shares g c =
       subst (λ (l : List (Answer A)). SharesByWeight setup events l (marks_of answers)) answered (c.shares.ensures.bound run),
       subst (λ (l : List (Answer A)). RisesByItsChoices setup events l (marks_of answers)) answered (c.shares.ensures.tags run),
       subst (λ (l : List (Answer A)). SharesByRatio setup events l (marks_of answers)) answered (c.shares.ensures.ratio run),
+    )
+
+pub returns-clause-between : goal.returns-clause-between
+returns-clause-between g c =
+    let A = g.row.I-Alloc.Denot in
+    let setup = setup_for c.args.config.now in
+    let events = c.args.events.items in
+    let answers = c.in_ok-answers.answers.items in
+    let run = run_of setup events answers in
+    let answered = sym c.in_ok-answers.ensures in (
+      subst (λ (l : List (Answer A)). SharesBetween setup events l (marks_of answers)) answered (c.shares.ensures.between run),
+      subst (λ (l : List (Answer A)). RatioBetween setup events l (marks_of answers)) answered (c.shares.ensures.ratio_between run),
     )

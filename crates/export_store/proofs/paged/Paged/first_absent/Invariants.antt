@@ -1,12 +1,12 @@
 use Rattle.std.proofs.Common.{◌≡◌, ℕ, ◌-◌, ◌<◌, ◌≤◌, true}
-use Rattle.export_store.specs.Pages.{is_held}
+use Rattle.export_store.specs.Pages.{is_stored}
 use Rattle.export_store.proofs.paged.Paged.first_absent.Given as goal
 
 abbrev pub invariant-loop-absent : goal.invariant-loop-absent
 invariant-loop-absent g l = record {
   begins : l.first ≤ l.absent;
   ends : l.absent ≤ l.end;
-  held : (k : ℕ) → l.first ≤ k → k < l.absent → is_held l.self k ≡ true;
+  stored : (k : ℕ) → l.first ≤ k → k < l.absent → is_stored l.self k ≡ true;
 }
 
 abbrev pub decreases-loop-absent : goal.decreases-loop-absent

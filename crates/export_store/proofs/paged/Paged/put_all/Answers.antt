@@ -1,8 +1,9 @@
-use Rattle.std.proofs.Common.{◌≡◌, ◌+◌, ◌-◌, ◌/◌, ◌∙◌, inl, inr, true, is_some, unwrap_or, Option, ℕ, List, length, refl, sym, ap, arith}
+use Rattle.std.proofs.Common.{◌≡◌, ◌+◌, ◌-◌, ◌/◌, ◌∙◌, inl, inr, true, ◌||◌, nat_eq, Bool, is_some, unwrap_or, Option, ℕ, List, length, refl, sym, ap, arith}
 use Rattle.std.specs.Int.{div_ceil}
 use Rattle.std.proofs.lemmas.Bool.{cases_eq}
 use Rattle.payload.specs.Rows.{zero_page}
-use Rattle.export_store.specs.Pages.{is_held, page_of, pages_after}
+use Rattle.export_store.specs.Pages.{is_stored, page_of, pages_after}
+use Rattle.export_store.proofs.ImageLemmas.{held_again}
 use Rattle.export_store.proofs.RangeLemmas.{has_byte}
 use Rattle.export_store.proofs.PieceLemmas.{IsTaken, take_last, length-page_after, length-pages_after, written_none, written_next, written_all, image_after}
 use Rattle.export_store.proofs.paged.Paged.put_all.Goals as goal
@@ -20,6 +21,7 @@ loop-page-init g c =
       left = c.requires.ready ∙ ap (λ (n : ℕ). pages_after (page_of c.args.self.now) c.args.offset piece (c.args.offset / 4096) (n - c.args.offset / 4096)) (sym end);
       written = written_none (page_of c.args.self.now) c.args.offset piece c.div_ceil-number.result end;
       held = λ k. refl;
+      stored = λ k there. there;
     }
 
 pub replace-requires-clause-begins : goal.replace-requires-clause-begins
@@ -46,8 +48,8 @@ loop-page-preserved g c =
     let last : IsTaken (page_of c.args.self.now) offset piece (c.args.offset / 4096) number c.pop.new.self.items c.in-Some.page =
     take_last (page_of c.args.self.now) offset piece (c.args.offset / 4096) number c.pop.new.self.items c.in-Some.page before.begun (sym c.in-Some.ensures.items ∙ before.left) in
     let here : page_of c.replace.new.self (number - 1) ≡ c.in-Some.page = ap (λ (page : Option (List ℕ)). unwrap_or page zero_page) after.here in
-    let touched : is_held c.args.self.now (number - 1) ≡ true =
-    c.requires.held (number - 1) (has_byte offset (length piece) (number - 1) c.requires.some (omega (arith, last.some)) (omega (arith, last.some, before.upto))) in
+    let touched : is_stored c.args.self.now (number - 1) ≡ true =
+    c.requires.stored (number - 1) (has_byte offset (length piece) (number - 1) c.requires.some (omega (arith, last.some)) (omega (arith, last.some, before.upto))) in
     record {
       size = after.size ∙ before.size;
       long = after.long ∙ before.long;
@@ -56,9 +58,10 @@ loop-page-preserved g c =
       left = last.rest_is;
       written = written_next (page_of c.args.self.now) (page_of c.loop-page.self) (page_of c.replace.new.self) offset piece number (omega (arith, last.some)) before.written (here ∙ last.last_is)
           (λ k apart. ap (λ (page : Option (List ℕ)). unwrap_or page zero_page) (after.others k apart));
-      held = λ k. elim (cases_eq k (number - 1)) [
-        | inl e ↦ ap (λ (n : ℕ). is_held c.replace.new.self n) e ∙ ap is_some after.here ∙ sym touched ∙ ap (λ (n : ℕ). is_held c.args.self.now n) (sym e)
-        | inr apart ↦ ap is_some (after.others k apart) ∙ before.held k
+      held = λ k. after.held k ∙ ap (λ (b : Bool). b || nat_eq k (number - 1)) (before.held k) ∙ held_again c.args.self.now k (number - 1) touched;
+      stored = λ k there. elim (cases_eq k (number - 1)) [
+        | inl e ↦ ap (is_stored c.replace.new.self) e ∙ ap is_some after.here
+        | inr apart ↦ ap is_some (after.others k apart) ∙ before.stored k there
       ];
     }
 

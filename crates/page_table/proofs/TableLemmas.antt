@@ -1,0 +1,154 @@
+-- A table after one of its chunks has changed.
+use Rattle.std.proofs.Common.{◌≡◌, ◌≢◌, ℕ, ◌+◌, ◌-◌, ◌*◌, ◌/◌, ◌%◌, ◌<◌, ◌≤◌, inl, inr, Bool, true, false, min, is_some, IfSome, Result, Ok, Err, OnErr, Option, None, Some, List, [], length, if◌then◌else◌, refl, sym, ap, subst, ◌∙◌, arith}
+use Rattle.std.specs.Ordering.{nat_cmp, is_eq}
+use Rattle.std.specs.Cmp.{nat_cmp_is}
+use Rattle.std.specs.declared.cmp.Ordering.TheVariants.{Less, Greater}
+use Rattle.std.specs.BTreeMap.{BTreeMap, is_at, get, UpdatesBy}
+use Rattle.std.proofs.lemmas.Bool.{cases_lt, cases_eq}
+use Rattle.page_table.specs.Bits.{is_between}
+use Rattle.page_table.specs.Table.{Chunk, in_place, in_chunk, chunk_of, in_table, taken, AreTaken}
+use Rattle.page_table.proofs.ChunkLemmas.{some_place, none_taken_place}
+use Rattle.page_table.proofs.CountLemmas.{count_of, count-none, count_list}
+use Rattle.page_table.proofs.RangeLemmas.{between_yes, between_part}
+
+-- what holds anyhow holds after a failure
+pub on_err : {T E : Type 0} (r : Result T E) (P : Type 0) → P → OnErr r P
+on_err (Ok x) P p = tt
+on_err (Err e) P p = p
+
+at_other : (k q : ℕ) → q ≢ k → is_at (nat_cmp k) q ≡ false
+at_other k q apart =
+    elim (cases_lt k q) [
+      | inl lt ↦ ap is_eq (sym (nat_cmp_is k q Less lt))
+      | inr le ↦ let lt : q < k = omega arith in ap is_eq (sym (nat_cmp_is k q Greater lt))
+    ]
+
+-- the other entries of a map once one was put, changed or taken out
+pub updates_others : {X : Type 0} (m n : BTreeMap ℕ X) (q : ℕ) (w : Option X) → UpdatesBy nat_cmp (nat_cmp q) m n w → (p : ℕ) → p ≢ q → get nat_cmp n p ≡ get nat_cmp m p
+updates_others m n q w updates p apart = updates.2 p (at_other q p apart)
+
+-- what is under a number
+pub table_is : (chunks : List (ℕ × Chunk)) (k q : ℕ) → k / 256 ≡ q → in_table chunks k ≡ in_chunk (chunk_of chunks q) (k % 256)
+unfolding in_table
+table_is chunks k q is = ap (λ (p : ℕ). in_chunk (chunk_of chunks p) (k % 256)) is
+
+pub found_is : (chunks : List (ℕ × Chunk)) (k q : ℕ) (chunk : Chunk) → k / 256 ≡ q → Some chunk ≡ chunk_of chunks q → in_place chunk (k % 256) ≡ in_table chunks k
+found_is chunks k q chunk is found = ap (λ (c : Option Chunk). in_chunk c (k % 256)) found ∙ sym (table_is chunks k q is)
+
+pub absent_is : (chunks : List (ℕ × Chunk)) (k q : ℕ) → k / 256 ≡ q → chunk_of chunks q ≡ None → in_table chunks k ≡ None
+absent_is chunks k q is absent = table_is chunks k q is ∙ ap (λ (c : Option Chunk). in_chunk c (k % 256)) absent
+
+pub not_stored : (chunks : List (ℕ × Chunk)) (k q : ℕ) → k / 256 ≡ q → chunk_of chunks q ≡ None → is_some (in_table chunks k) ≡ true → ⊥
+not_stored chunks k q is absent stored = let bad : false ≡ true = ap is_some (sym (absent_is chunks k q is absent)) ∙ stored in cc
+
+pub none_in_table : (chunks : List (ℕ × Chunk)) → chunks ≡ [] → (k : ℕ) → in_table chunks k ≡ None
+none_in_table chunks none k = absent_is chunks k (k / 256) refl (ap (λ (all : List (ℕ × Chunk)). chunk_of all (k / 256)) none)
+
+-- no chunk is there, so each that is has a place that is taken
+pub none_taken : (chunks : List (ℕ × Chunk)) → chunks ≡ [] → AreTaken chunks
+none_taken chunks none number = subst (λ (all : List (ℕ × Chunk)). IfSome (chunk_of all number) (λ chunk. 0 < taken chunk)) (sym none) tt
+
+pub if_none : {X : Type 0} (o : Option X) (P : X → Type 0) → o ≡ None → IfSome o P
+if_none o P none = subst (λ (p : Option _). IfSome p P) (sym none) tt
+
+-- a chunk that is there
+pub taken_found : (chunks : List (ℕ × Chunk)) (q : ℕ) (chunk : Chunk) → AreTaken chunks → Some chunk ≡ chunk_of chunks q → 0 < taken chunk
+taken_found chunks q chunk all found = subst (λ (c : Option Chunk). IfSome c (λ chunk. 0 < taken chunk)) (sym found) (all q)
+
+-- One chunk has changed.
+module _ (old new : List (ℕ × Chunk)) (q : ℕ) (others : (p : ℕ) → p ≢ q → chunk_of new p ≡ chunk_of old p) where
+  pub other_chunk : (k : ℕ) → k / 256 ≢ q → in_table new k ≡ in_table old k
+  other_chunk k apart =
+      table_is new k (k / 256) refl ∙ ap (λ (chunk : Option Chunk). in_chunk chunk (k % 256)) (others (k / 256) apart) ∙ sym (table_is old k (k / 256) refl)
+
+  pub same_place : (k : ℕ) → k / 256 ≡ q → in_chunk (chunk_of new q) (k % 256) ≡ in_chunk (chunk_of old q) (k % 256) → in_table new k ≡ in_table old k
+  same_place k is same = table_is new k q is ∙ same ∙ sym (table_is old k q is)
+
+  pub other_places : (number : ℕ) → number / 256 ≡ q → ((k : ℕ) → k ≢ number % 256 → in_chunk (chunk_of new q) k ≡ in_chunk (chunk_of old q) k) → (k : ℕ) → k ≢ number → in_table new k ≡ in_table old k
+  other_places number is same k apart =
+      elim (cases_eq (k / 256) q) [
+        | inl e ↦ same_place k e (same (k % 256) (λ place. apart (omega arith)))
+        | inr other ↦ other_chunk k other
+      ]
+
+  pub same_table : ((k : ℕ) → in_chunk (chunk_of new q) k ≡ in_chunk (chunk_of old q) k) → (k : ℕ) → in_table new k ≡ in_table old k
+  same_table same k =
+      elim (cases_eq (k / 256) q) [
+        | inl e ↦ same_place k e (same (k % 256))
+        | inr other ↦ other_chunk k other
+      ]
+
+  pub taken_after : AreTaken old → IfSome (chunk_of new q) (λ chunk. 0 < taken chunk) → AreTaken new
+  taken_after was here p =
+      elim (cases_eq p q) [
+        | inl e ↦ subst (λ (n : ℕ). IfSome (chunk_of new n) (λ chunk. 0 < taken chunk)) (sym e) here
+        | inr apart ↦ subst (λ (c : Option Chunk). IfSome c (λ chunk. 0 < taken chunk)) (sym (others p apart)) (was p)
+      ]
+
+  pub taken_gone : AreTaken old → chunk_of new q ≡ None → AreTaken new
+  taken_gone was gone = taken_after was (if_none (chunk_of new q) (λ chunk. 0 < taken chunk) gone)
+
+-- Where the chunks are those of a map that has changed at one number.
+module _ (m n : BTreeMap ℕ Chunk) (q : ℕ) (after : Chunk) (updates : UpdatesBy nat_cmp (nat_cmp q) m n (Some after)) where
+  pub map_here : (k : ℕ) (page : Option (List ℕ)) → k / 256 ≡ q → in_place after (k % 256) ≡ page → in_table n.entries k ≡ page
+  map_here k page is here = sym (found_is n.entries k q after is (sym updates.1)) ∙ here
+
+  pub map_others : (before : Option Chunk) (number : ℕ) → number / 256 ≡ q → before ≡ get nat_cmp m q → ((k : ℕ) → k ≢ number % 256 → in_place after k ≡ in_chunk before k)
+      → (k : ℕ) → k ≢ number → in_table n.entries k ≡ in_table m.entries k
+  map_others before number is found same =
+      other_places m.entries n.entries q (updates_others m n q (Some after) updates) number is
+      (λ k apart. ap (λ (c : Option Chunk). in_chunk c k) updates.1 ∙ same k apart ∙ ap (λ (c : Option Chunk). in_chunk c k) found)
+
+  pub map_taken : AreTaken m.entries → 0 < taken after → AreTaken n.entries
+  map_taken was here =
+      taken_after m.entries n.entries q (updates_others m n q (Some after) updates) was (subst (λ (c : Option Chunk). IfSome c (λ chunk. 0 < taken chunk)) (sym updates.1) here)
+
+-- how many pages of a chunk are stored
+pub count_chunk : (chunks : List (ℕ × Chunk)) (q n begin : ℕ) (chunk : Chunk) → n ≡ 256 → begin ≡ 256 * q → length chunk.pages ≡ n → Some chunk ≡ chunk_of chunks q
+    → taken chunk ≡ count_of (λ k. is_some (in_table chunks k)) begin n
+count_chunk chunks q n begin chunk all begins long found =
+    sym (count_list is_some chunk.pages (λ k. is_some (in_table chunks k)) begin n (sym long) (λ i j below at.
+    let block : j / 256 ≡ q = omega arith in
+    let place : j % 256 ≡ i = omega arith in
+    ap is_some (sym (found_is chunks j q chunk block found)) ∙ ap (λ (p : ℕ). is_some (in_place chunk p)) place ∙ some_place chunk i))
+
+pub count_absent : (chunks : List (ℕ × Chunk)) (q n begin : ℕ) → n ≡ 256 → begin ≡ 256 * q → chunk_of chunks q ≡ None → count_of (λ k. is_some (in_table chunks k)) begin n ≡ 0
+count_absent chunks q n begin all begins absent =
+    count-none (λ k. is_some (in_table chunks k)) begin n (λ k above below. ap is_some (absent_is chunks k q (omega arith) absent))
+
+-- between two chunks where there is none
+pub none_between : (chunks : List (ℕ × Chunk)) (from to : ℕ) → ((q : ℕ) → from ≤ q → q < to → chunk_of chunks q ≡ None) → (k : ℕ) → 256 * from ≤ k → k < 256 * to → in_table chunks k ≡ None
+none_between chunks from to none k above below = absent_is chunks k (k / 256) refl (none (k / 256) (omega arith) (omega arith))
+
+-- Pages of a chunk are stored no longer, and the chunk goes, or stays as long as a place is taken.
+module _ (old new : List (ℕ × Chunk)) (q first end : ℕ) (others : (p : ℕ) → p ≢ q → chunk_of new p ≡ chunk_of old p) where
+  pub whole_gone : first ≤ q * 256 → q * 256 + 256 ≤ end → chunk_of new q ≡ None → (k : ℕ) → k / 256 ≡ q → in_table new k ≡ (if is_between first end k then None else in_table old k)
+  whole_gone above below gone k is =
+      let inside : is_between first end k ≡ true = between_yes first end k (omega arith) (omega arith) in
+      absent_is new k q is gone ∙ ap (λ (b : Bool). if b then None else in_table old k) (sym inside)
+
+  pub places_gone : (from to : ℕ) → from ≡ first - q * 256 → to ≡ min (end - q * 256) 256 → ((k : ℕ) → in_chunk (chunk_of new q) k ≡ (if is_between from to k then None else in_chunk (chunk_of old q) k))
+      → (k : ℕ) → k / 256 ≡ q → in_table new k ≡ (if is_between first end k then None else in_table old k)
+  places_gone from to begins ends here k is =
+      table_is new k q is ∙ here (k % 256)
+      ∙ ap (λ (b : Bool). if b then None else in_chunk (chunk_of old q) (k % 256)) (between_part first end (q * 256) 256 from to k (k % 256) begins ends (omega arith) (omega arith))
+      ∙ ap (λ (page : Option (List ℕ)). if is_between first end k then None else page) (sym (table_is old k q is))
+
+-- of a chunk in which no place is taken nothing is stored
+none_in_chunk : (chunk : Option Chunk) (n k : ℕ) → IfSome chunk (λ c. n ≡ taken c) → n ≡ 0 → in_chunk chunk k ≡ None
+none_in_chunk None n k left none = refl
+none_in_chunk (Some chunk) n k left none = none_taken_place chunk k (sym left ∙ none)
+
+some_in_chunk : (chunk : Option Chunk) (n : ℕ) → IfSome chunk (λ c. n ≡ taken c) → 0 < n → IfSome chunk (λ c. 0 < taken c)
+some_in_chunk None n left some = tt
+some_in_chunk (Some chunk) n left some = omega (arith, left)
+
+-- the same where it is empty and goes
+pub places_all_gone : (old mid new : List (ℕ × Chunk)) (q first end from to n : ℕ) → from ≡ first - q * 256 → to ≡ min (end - q * 256) 256 → ((p : ℕ) → p ≢ q → chunk_of mid p ≡ chunk_of old p)
+    → ((k : ℕ) → in_chunk (chunk_of mid q) k ≡ (if is_between from to k then None else in_chunk (chunk_of old q) k))
+    → IfSome (chunk_of mid q) (λ c. n ≡ taken c) → n ≡ 0 → chunk_of new q ≡ None → (k : ℕ) → k / 256 ≡ q → in_table new k ≡ (if is_between first end k then None else in_table old k)
+places_all_gone old mid new q first end from to n begins ends others here left none gone k is =
+    absent_is new k q is gone ∙ sym (table_is mid k q is ∙ none_in_chunk (chunk_of mid q) n (k % 256) left none) ∙ places_gone old mid q first end others from to begins ends here k is
+
+pub taken_left : (old mid : List (ℕ × Chunk)) (q n : ℕ) → ((p : ℕ) → p ≢ q → chunk_of mid p ≡ chunk_of old p) → AreTaken old → IfSome (chunk_of mid q) (λ c. n ≡ taken c) → (n ≡ 0 → ⊥) → AreTaken mid
+taken_left old mid q n others was left some = taken_after old mid q others was (some_in_chunk (chunk_of mid q) n left (omega arith))

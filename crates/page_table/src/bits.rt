@@ -1,0 +1,81 @@
+//! Sets of numbers as bits, 64 in a word, the lowest of the first word for 0.
+ghost use Rattle.std.specs.Prelude.{◌≡◌, ◌≢◌, ℕ, ◌+◌, ◌*◌, ◌<◌, ◌≤◌, ◌==◌, length, if◌then◌else◌};
+ghost use Rattle.std.specs.Int.{bit_at};
+ghost use Rattle.page_table.specs.Bits.{is_set, any_set, is_between, count_of};
+
+/// Whether a number is a member.
+pub(crate) fn has(words: &[u64], number: usize) -> bool
+    ensures { result ≡ is_set words.now number }
+{
+    match words.get(number / 64) {
+        Some(word) => *word & (1 << (number % 64)) != 0,
+        None => false,
+    }
+}
+
+/// Whether there is any member.
+pub(crate) fn any(words: &[u64]) -> bool
+    ensures { result ≡ any_set words.now }
+{
+    words.iter().any(|word| *word != 0)
+}
+
+/// How many members there are.
+pub(crate) fn count(words: &[u64]) -> usize
+    requires { length words.now ≤ 256 }
+    ensures { result ≡ count_of (is_set words.now) 0 (64 * length words.now) }
+{
+    let mut count = 0;
+    for word in words {
+        count += word.count_ones() as usize;
+    }
+    count
+}
+
+// A number is a member from now on, or isn't.
+fn put_one(words: &mut [u64], number: usize, member: bool)
+    requires { number < 64 * length words.old }
+    ensures here { is_set words.new number ≡ member }
+    ensures others { (k : ℕ) → k ≢ number → is_set words.new k ≡ is_set words.old k }
+{
+    if member {
+        words[number / 64] |= 1 << (number % 64);
+    } else {
+        words[number / 64] &= !(1 << (number % 64));
+    }
+}
+
+// A word of which each bit is set, or none.
+fn word_of(member: bool) -> u64
+    ensures { (k : ℕ) → k < 64 → (bit_at result k == 1) ≡ member }
+{
+    if member { u64::MAX } else { 0 }
+}
+
+// The next numbers before an end are members from now on, or aren't: those of a word where all of them are meant, and else one.
+// The answer is the number behind them.
+fn put_some(words: &mut [u64], next: usize, end: usize, member: bool) -> usize
+    requires some { next < end }
+    requires within { end ≤ 64 * length words.old }
+    ensures more { next < result }
+    ensures upto { result ≤ end }
+    ensures put { (k : ℕ) → is_set words.new k ≡ (if is_between next result k then member else is_set words.old k) }
+{
+    if next % 64 != 0 || end - next < 64 {
+        put_one(words, next, member);
+        return next + 1;
+    }
+    words[next / 64] = word_of(member);
+    next + 64
+}
+
+/// The numbers from the first on before an end are members from now on, or aren't.
+pub(crate) fn put(words: &mut [u64], first: usize, end: usize, member: bool)
+    requires { end ≤ 64 * length words.old }
+    ensures { (k : ℕ) → is_set words.new k ≡ (if is_between first end k then member else is_set words.old k) }
+{
+    let mut next = first;
+    while next < end {
+        next = put_some(words, next, end, member);
+    }
+}
