@@ -21,7 +21,7 @@ no_items (x ∷ xs) e = absurd (omega arith)
 no_entries : (X : Type 0) → fin.entries (fin.empty {X = X} {R = nat_cmp}) ≡ []
 no_entries X = no_items _ (sym (fin.len-entries (fin.empty {X = X} {R = nat_cmp})) ∙ fin.len-empty nat_cmp X)
 
-short : (n : ℕ) → (0 < n → IsInterval n) → n < 2 ^ 30
+pub short : (n : ℕ) → (0 < n → IsInterval n) → n < 2 ^ 30
 short zero is = omega arith
 short (suc n) is = let a = (is (omega arith)).most in omega arith
 

@@ -1,30 +1,32 @@
--- The limit tags that an export gives are the unrolled form of the moments of its accepted arrivals.
-use Rattle.std.proofs.Common.{◌≡◌, ◌⊎◌, ℕ, ◌^◌, not, ◌&&◌, nat_le, ◌==◌, List, [], ◌∷◌, ◌++◌, length, map, filter, find, slice_get, Some, None, pos, refl, sym, ap, ap₂, ◌∙◌, inl, inr}
+-- The limit tags of steps, from their arrivals and the intervals in force.
+use Rattle.std.proofs.Common.{◌≡◌, ◌⊎◌, inl, inr, ℕ, ◌^◌, ◌==◌, Bool, true, false, not, ◌&&◌, nat_le, List, [], ◌∷◌, ◌++◌, length, filter, find, map, Option, Some, None, slice_get, ℤ, pos, refl, sym, ap, ap₂, ◌∙◌}
 use Rattle.nbd_commands.specs.Terms.{Terms}
 use Rattle.nbd_commands.specs.Verdict.{verdict_of}
 use Rattle.nbd_commands.specs.Meaning.{may_want_memory}
 use Rattle.reply_box.specs.Sessions.{is_here, is_open_at, is_left_at, is_here_at, outbox_at}
 use Rattle.tag_clock.specs.Intervals.{Intervals}
-use Rattle.tag_clock.specs.LimitTags.{unrolled, beginnings}
+use Rattle.tag_clock.specs.LimitTags.{Arrival, unrolled, beginnings}
 use Rattle.tag_clock.proofs.Unrolled.{last_of, later-last_of, last_of-push, begun_on}
-use Rattle.lone_export.specs.Alone.{Alone, Moved, opening, own_step, alone, answers_alone, outstanding, limit_tag}
-use Rattle.lone_export.specs.LimitTags.{tag_of, arrived, given_tags, accepted_moments, GivesUnrolledTags}
+use Rattle.lone_export.specs.Alone.{Alone, Moved, opening, own_step, answers_alone, outstanding, limit_tag}
+use Rattle.lone_export.specs.LimitTags.{tag_of, arrived, interval_after, given_tags, accepted_arrivals, GivesUnrolledTags}
 use Rattle.lone_export.specs.declared.step.Step.{Step}
-use Rattle.lone_export.specs.declared.step.Step.TheVariants.{Attach, Arrive, Pick, Perform, Take, Leave, Gone}
+use Rattle.lone_export.specs.declared.step.Step.TheVariants.{Attach, Arrive, Pick, Perform, Take, Leave, Gone, Retune}
+use Rattle.lone_export.specs.declared.step.StepAnswer.{StepAnswer}
 use Rattle.lone_export.proofs.Cases.{if_one, some_one}
 
 -- the tag of one arrival more
-next_tag : (interval : ℕ) (state : Alone) (before : List ℕ) (t : ℕ) → state.rates.l_interval ≡ interval → state.last ≡ last_of interval before → limit_tag state t ≡ pos (unrolled interval (before ++ t ∷ []))
-next_tag interval state before t same is = rw (same, is) (later-last_of interval before t)
+next_tag : (state : Alone) (before : List Arrival) (t interval : ℕ) → state.rates.l_interval ≡ interval → state.last ≡ last_of before
+    → limit_tag state t ≡ pos (unrolled (before ++ record { moment = t; interval = interval } ∷ []))
+next_tag state before t interval same is = rw (same, is) (later-last_of before (record { moment = t; interval = interval }))
 
 module _ {A : Type 0} where
-  -- a step gives no tag and leaves the last one, or is an arrival that is given the next one; the rates stay
+  -- a step gives no tag and leaves the last one, or is an arrival that is given the next one; and what limit is in force
   record Tags (state : Alone) (one : Step A) (moved : Moved A) : Type 0 where
     tags : ((tag_of moved.answer ≡ None) × (moved.state.last ≡ state.last)) ⊎ ((t : ℕ) × (arrived one ≡ Some t) × (tag_of moved.answer ≡ Some (limit_tag state t)) × (moved.state.last ≡ Some (limit_tag state t)))
-    rates : moved.state.rates ≡ state.rates
+    interval : moved.state.rates.l_interval ≡ interval_after one moved.answer state.rates.l_interval
 
-  no_tag : (state : Alone) (one : Step A) (moved : Moved A) → tag_of moved.answer ≡ None → moved.state.last ≡ state.last → moved.state.rates ≡ state.rates → Tags state one moved
-  no_tag state one moved h k r = record { tags = inl (h, k); rates = r }
+  no_tag : (state : Alone) (one : Step A) (moved : Moved A) → tag_of moved.answer ≡ None → moved.state.last ≡ state.last → moved.state.rates.l_interval ≡ interval_after one moved.answer state.rates.l_interval → Tags state one moved
+  no_tag state one moved h k r = record { tags = inl (h, k); interval = r }
 
   tags_of_step : (terms : Terms) (state : Alone) (one : Step A) → Tags state one (own_step terms state one)
   tags_of_step terms state Attach =
@@ -37,7 +39,7 @@ module _ {A : Type 0} where
       (if_one P (outstanding state s == terms.window) (no_tag state (Arrive s t q) _ refl refl refl)
       (if_one P (not (verdict_of terms q == 0)) (no_tag state (Arrive s t q) _ refl refl refl)
       (if_one P (length state.waiting == terms.depth) (no_tag state (Arrive s t q) _ refl refl refl)
-      (record { tags = inr (t, refl, refl, refl); rates = refl })))))
+      (record { tags = inr (t, refl, refl, refl); interval = refl })))))
   tags_of_step terms state Pick = some_one (Tags state Pick) (slice_get state.waiting 0) (λ job h. no_tag state Pick _ refl refl refl) (no_tag state Pick _ refl refl refl)
   tags_of_step terms state (Perform n memory) =
       let P = Tags state (Perform n memory) in
@@ -49,37 +51,37 @@ module _ {A : Type 0} where
       (if_one P (is_left_at state.sessions s && outstanding state s == 0) (no_tag state (Take s) _ refl refl refl) (no_tag state (Take s) _ refl refl refl)))
   tags_of_step terms state (Leave s) = if_one (Tags state (Leave s)) (not (is_open_at state.sessions s)) (no_tag state (Leave s) _ refl refl refl) (no_tag state (Leave s) _ refl refl refl)
   tags_of_step terms state (Gone s) = if_one (Tags state (Gone s)) (not (is_here_at state.sessions s)) (no_tag state (Gone s) _ refl refl refl) (no_tag state (Gone s) _ refl refl refl)
+  tags_of_step terms state (Retune rates) =
+      let P = Tags state (Retune rates) in
+      if_one P (nat_le (2 ^ 56) state.count) (no_tag state (Retune rates) _ refl refl refl)
+      (if_one P (not (length state.waiting == 0)) (no_tag state (Retune rates) _ refl refl refl) (no_tag state (Retune rates) _ refl refl refl))
 
-  -- no step changes the rates
-  pub rates_of_step : (terms : Terms) (state : Alone) (one : Step A) → (own_step terms state one).state.rates ≡ state.rates
-  rates_of_step terms state one = (tags_of_step terms state one).rates
-
-  pub rates_of_steps : (terms : Terms) (steps : List (Step A)) (state : Alone) → (alone terms state steps).rates ≡ state.rates
-  rates_of_steps terms [] state = refl
-  rates_of_steps terms (one ∷ steps) state = rates_of_steps terms steps (own_step terms state one).state ∙ rates_of_step terms state one
-
-  tags_from : (terms : Terms) (interval : ℕ) (steps : List (Step A)) (state : Alone) (before : List ℕ) → state.rates.l_interval ≡ interval → state.last ≡ last_of interval before →
-      given_tags (answers_alone terms state steps) ≡ map (λ begun. pos (unrolled interval (before ++ begun))) (beginnings (accepted_moments steps (answers_alone terms state steps)))
-  tags_from terms interval [] state before same is = refl
-  tags_from terms interval (one ∷ steps) state before same is =
-      go (own_step terms state one) (tags_of_step terms state one) (λ next begun. tags_from terms interval steps next begun)
+  tags_from : (terms : Terms) (steps : List (Step A)) (state : Alone) (interval : ℕ) (before : List Arrival) → state.rates.l_interval ≡ interval → state.last ≡ last_of before →
+      given_tags (answers_alone terms state steps) ≡ map (λ begun. pos (unrolled (before ++ begun))) (beginnings (accepted_arrivals interval steps (answers_alone terms state steps)))
+  tags_from terms [] state interval before same is = refl
+  tags_from terms (one ∷ steps) state interval before same is =
+      go (own_step terms state one) (tags_of_step terms state one) (λ next after begun. tags_from terms steps next after begun)
     where
       go : (moved : Moved A) → Tags state one moved →
-          ((next : Alone) (begun : List ℕ) → next.rates.l_interval ≡ interval → next.last ≡ last_of interval begun → given_tags (answers_alone terms next steps) ≡ map (λ more. pos (unrolled interval (begun ++ more))) (beginnings (accepted_moments steps (answers_alone terms next steps)))) →
-          given_tags (moved.answer ∷ answers_alone terms moved.state steps) ≡ map (λ begun. pos (unrolled interval (before ++ begun))) (beginnings (accepted_moments (one ∷ steps) (moved.answer ∷ answers_alone terms moved.state steps)))
+          ((next : Alone) (after : ℕ) (begun : List Arrival) → next.rates.l_interval ≡ after → next.last ≡ last_of begun → given_tags (answers_alone terms next steps) ≡ map (λ more. pos (unrolled (begun ++ more))) (beginnings (accepted_arrivals after steps (answers_alone terms next steps)))) →
+          given_tags (moved.answer ∷ answers_alone terms moved.state steps) ≡ map (λ begun. pos (unrolled (before ++ begun))) (beginnings (accepted_arrivals interval (one ∷ steps) (moved.answer ∷ answers_alone terms moved.state steps)))
       go moved made ih = by_tags made.tags
         where
-          kept : moved.state.rates.l_interval ≡ interval
-          kept = ap (λ (rates : Intervals). rates.l_interval) made.rates ∙ same
+          after : ℕ
+          after = interval_after one moved.answer interval
+
+          kept : moved.state.rates.l_interval ≡ interval_after one moved.answer interval
+          kept = made.interval ∙ ap (λ (n : ℕ). interval_after one moved.answer n) same
 
           by_tags : ((tag_of moved.answer ≡ None) × (moved.state.last ≡ state.last)) ⊎ ((t : ℕ) × (arrived one ≡ Some t) × (tag_of moved.answer ≡ Some (limit_tag state t)) × (moved.state.last ≡ Some (limit_tag state t))) →
-              given_tags (moved.answer ∷ answers_alone terms moved.state steps) ≡ map (λ begun. pos (unrolled interval (before ++ begun))) (beginnings (accepted_moments (one ∷ steps) (moved.answer ∷ answers_alone terms moved.state steps)))
-          by_tags (inl h) = rw h.0 (ih moved.state before kept (h.1 ∙ is))
+              given_tags (moved.answer ∷ answers_alone terms moved.state steps) ≡ map (λ begun. pos (unrolled (before ++ begun))) (beginnings (accepted_arrivals interval (one ∷ steps) (moved.answer ∷ answers_alone terms moved.state steps)))
+          by_tags (inl h) = rw h.0 (ih moved.state (interval_after one moved.answer interval) before kept (h.1 ∙ is))
           by_tags (inr h) =
-              let tag : limit_tag state h.0 ≡ pos (unrolled interval (before ++ h.0 ∷ [])) = next_tag interval state before h.0 same is in
+              let arrival : Arrival = record { moment = h.0; interval = interval } in
+              let tag : limit_tag state h.0 ≡ pos (unrolled (before ++ arrival ∷ [])) = next_tag state before h.0 interval same is in
               rw (h.2, h.1) (ap₂ (λ x xs. x ∷ xs) tag
-              (ih moved.state (before ++ h.0 ∷ []) kept (h.3 ∙ ap Some tag ∙ sym (last_of-push interval before h.0))
-              ∙ sym (begun_on interval before h.0 (beginnings (accepted_moments steps (answers_alone terms moved.state steps))))))
+              (ih moved.state (interval_after one moved.answer interval) (before ++ arrival ∷ []) kept (h.3 ∙ ap Some tag ∙ sym (last_of-push before arrival))
+              ∙ sym (begun_on before arrival (beginnings (accepted_arrivals (interval_after one moved.answer interval) steps (answers_alone terms moved.state steps))))))
 
   pub unrolled_tags : (terms : Terms) (steps : List (Step A)) → GivesUnrolledTags terms steps
-  unrolled_tags terms steps = tags_from terms terms.rates.l_interval steps (opening terms) [] refl refl
+  unrolled_tags terms steps = tags_from terms steps (opening terms) terms.rates.l_interval [] refl refl

@@ -9,9 +9,9 @@ use Rattle.tag_clock.specs.Intervals.{Intervals}
 use Rattle.tag_clock.specs.Tags.{later}
 use Rattle.reply_box.specs.Sessions.{Session, new_session, is_here, is_open_at, is_left_at, is_here_at, outbox_at, post_at, take_at, leave_at, drop_at}
 use Rattle.lone_export.specs.declared.step.Step.{Step}
-use Rattle.lone_export.specs.declared.step.Step.TheVariants.{Attach, Arrive, Pick, Perform, Take, Leave, Gone}
+use Rattle.lone_export.specs.declared.step.Step.TheVariants.{Attach, Arrive, Pick, Perform, Take, Leave, Gone, Retune}
 use Rattle.lone_export.specs.declared.step.StepAnswer.{StepAnswer}
-use Rattle.lone_export.specs.declared.step.StepAnswer.TheVariants.{Session as Numbered, Accepted, Answered, Picked, Nothing, Performed, Reply as Replied, Empty, End, Left, Dropped, NotOpen, Worn, Full, Hold, NotOut}
+use Rattle.lone_export.specs.declared.step.StepAnswer.TheVariants.{Session as Numbered, Accepted, Answered, Picked, Nothing, Performed, Reply as Replied, Empty, End, Left, Dropped, NotOpen, Worn, Full, Hold, NotOut, Retuned, Waiting}
 
 -- a request that waits or is out, that is in service
 pub record Job : Type 0 where
@@ -118,6 +118,10 @@ module _ {A : Type 0} where
   own_step terms state (Gone s) =
       if not (is_here_at state.sessions s) then stays state NotOpen
       else moves (record state { sessions = drop_at s state.sessions }) Dropped
+  own_step terms state (Retune rates) =
+      if nat_le (2 ^ 56) state.count then stays state Worn
+      else (if not (length state.waiting == 0) then stays state Waiting
+      else moves (record state { rates = rates }) Retuned)
 
   -- a list of steps, one after another: the last state, and each answer
   abbrev pub alone : Terms → Alone → List (Step A) → Alone

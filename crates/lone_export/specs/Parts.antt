@@ -57,7 +57,7 @@ abbrev pub IsTag : ℕ → Option ℤ → Type 0
 IsTag next None = Unit {0}
 IsTag next (Some tag) = (pos 0 ≤ℤ tag) × (tag <ℤ pos (2 ^ 62 + next * 2 ^ 30))
 
--- the numbers and tags are in range. Each attach and arrival brings four steps at most, itself among them
+-- the numbers and tags are in range. Each attach, arrival and retune brings four steps at most, itself among them
 pub record IsBounded (state : Alone) (asked : ℕ) : Type 0 where
   pub budget : state.count + to_come state ≤ 4 * asked
   pub asked_counted : asked ≤ state.count

@@ -260,3 +260,23 @@ fn each_growth_of_the_exports_is_refused_in_turn(rt: HostRuntime) {
     }
     assert!(rt; false, "no end");
 }
+
+// Of four rates out of range the first case is told; those in range have the intervals of an export that is configured so.
+#[test]
+fn rates_have_ranges(rt: HostRuntime) {
+    for (reservation, limit, weight, refusal) in [
+        (1_000_001, 1_000_001, 0, Refusal::BadReservation),
+        (5, 1_000_001, 0, Refusal::BadLimit),
+        (5, 4, 0, Refusal::BadWeight),
+        (5, 4, 1_000_001, Refusal::BadWeight),
+        (5, 4, 1, Refusal::ReservationAboveLimit),
+    ] {
+        let refused = Rates::new(reservation, limit, weight);
+        assert!(rt; refused == Err(ConfigError::Refused(refusal)));
+    }
+    assert!(rt; Rates::new(5, 0, 1).is_ok());
+    let rates = Rates::new(1_000_000, 1_000_000, 4).expect(&rt, "in range");
+    assert!(rt; rates.tuning().r_interval() == Some(1_000));
+    assert!(rt; rates.tuning().l_interval() == 1_000);
+    assert!(rt; rates.tuning().p_interval() == 250_000_000);
+}

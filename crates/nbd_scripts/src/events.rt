@@ -14,6 +14,7 @@ use crate::numbers::{half_word, moment, number, word};
 use crate::replay_line::ReplayLine;
 use crate::verbs::{Verb, verb_of};
 use hex::FromHexError;
+use nbd_commands::Rates;
 use nbd_text::fields_of;
 use nbd_wire::protocol::WRITE;
 use nbd_wire::{MAX_PAYLOAD, Request, RequestHead};
@@ -125,7 +126,23 @@ fn event_of<A: Allocator + Copy>(
             let (export, session) = pair(fields)?;
             Ok(Event::Gone { export, session })
         }
+        Verb::Retune => retune(fields),
         Verb::Tags => Err(LineFault::Form),
+    }
+}
+
+/// Other rates of an export: its number, a reservation, a limit and a weight.
+fn retune<A: Allocator>(fields: &[&[u8]]) -> Result<Event<A>, LineFault> {
+    match fields {
+        [export, reservation, limit, weight] => {
+            let export = word(export)?;
+            let reservation = number(reservation)?;
+            let limit = number(limit)?;
+            let weight = number(weight)?;
+            let rates = Rates::new(reservation, limit, weight)?;
+            Ok(Event::Retune { export, rates })
+        }
+        _ => Err(LineFault::Form),
     }
 }
 

@@ -12,11 +12,11 @@ use Rattle.nbd_commands.specs.Meaning.{may_want_memory}
 use Rattle.nbd_wire.specs.Grammar.{RequestMessage}
 use Rattle.reply_box.specs.Sessions.{Session, is_here, is_open_at, is_left_at, is_here_at, outbox_at}
 use Rattle.server_table.specs.declared.event.Event.{Event}
-use Rattle.server_table.specs.declared.event.Event.TheVariants.{Attach, Arrive, Dispatch, Perform, Take, Leave, Gone}
+use Rattle.server_table.specs.declared.event.Event.TheVariants.{Attach, Arrive, Dispatch, Perform, Take, Leave, Gone, Retune}
 use Rattle.server_table.specs.declared.event.Answer.{Answer}
 use Rattle.server_table.specs.declared.event.Answer.TheVariants as said
 use Rattle.server_table.specs.Table.{Row, Side, Table, Setup, Choice, side, waits_in, is_idle, foremost, r_key, p_key, choice, shifted, due_by_reservation, due_by_limit, is_due_by_reservation, is_due_by_limit, lower_last_p, lower_last_r}
-use Rattle.server_table.specs.Steps.{Outcome, outcome, step, changed, seated, with_sessions, is_out_row, outstanding_in, new_row, sent, is_by_weight, with_credit, with_last, done_side, undone_side, accepted_in}
+use Rattle.server_table.specs.Steps.{Outcome, outcome, step, changed, seated, with_sessions, with_rates, is_out_row, outstanding_in, new_row, sent, is_by_weight, with_credit, with_last, done_side, undone_side, accepted_in}
 use Rattle.server_table.specs.Shares.{mark_of}
 use Rattle.tag_clock.specs.declared.Tags.{Tags}
 use Rattle.server_table.proofs.Dispatch.{outs_of}
@@ -198,6 +198,13 @@ module _ {A : Type 0} where
       some_one P (slice_get setup.exports e) (λ terms h.
       if_one P (not (is_here_at (side table e).sessions s)) (no_more table table said.NotOpen refl refl)
       (seated_more table e _ _ (there setup table e terms fits h) refl)) (no_more table table said.NoExport refl refl)
+  counts setup table (Retune e rates) memory fits =
+      let P = Counts table in
+      some_one P (slice_get setup.exports e) (λ terms h.
+      if_one P (nat_le (2 ^ 56) (side table e).count) (no_more table table said.Worn refl refl)
+      (if_one P (not (length (filter (waits_in e) table.rows) == 0)) (no_more table table said.Waiting refl refl)
+      (if_one P (not memory) (no_more table table said.NoMemory refl refl)
+      (changed_more table e table.rows (with_rates rates) _ (there setup table e terms fits h) refl)))) (no_more table table said.NoExport refl refl)
 
 -- ---- as it is kept, export by export
 rows_there : (e n : ℕ) (ps : List Part) → e + length ps ≤ n → AllByRecursion (λ (row : Row). row.export < n) (rows_from e ps)

@@ -119,6 +119,8 @@ module _ {A : Type 0} where
   alone_again e phase alone.Full = refl
   alone_again e phase alone.Hold = refl
   alone_again e phase alone.NotOut = refl
+  alone_again e phase alone.Retuned = refl
+  alone_again e phase alone.Waiting = refl
 
   -- a call of one export that is an own step
   pub moves_own : (ms : List Standing) (now now' inflight e : ℕ) (phase : Phase) (m m' : Standing) (step : Step A) (a : StepAnswer A) (answer : Answer A) → as_answer e phase a ≡ answer → e < length ms → m ≡ get_or ms e m → JournalMove m.part.terms step (Some a) m.journal m'.journal → CellMoves (served_of ms now inflight) e step (served_of (set ms e m') now' inflight) answer

@@ -5,16 +5,16 @@ ghost use Rattle.nbd_commands.specs.Terms.{terms_of};
 ghost use Rattle.nbd_commands.specs.Exports.{IsWithin};
 ghost use Rattle.lone_export.specs.Lone.{leave_said, gone_said, take_said, attach_said, arrived_said};
 ghost use Rattle.lone_export.specs.declared.step.StepAnswer.TheVariants.{Performed};
-ghost use Rattle.export_cell.specs.Journal.{JournalMove, IsAdvanced, IsJournal, surplus, reserved, noted_as};
+ghost use Rattle.export_cell.specs.Journal.{JournalMove, IsAdvanced, IsJournal, surplus, reserved, noted_as, retuned_said};
 ghost use Rattle.server_table.specs.Parts.{alone_of};
 
 use crate::tagging::{give_credit, put_behind, shift_all};
-use export_cell::{ExportCell, Outdated};
+use export_cell::{ExportCell, NotRetuned, Outdated};
 use export_queue::Picked;
 use export_store::Image;
 use lone_export::{Arrived, NotArrived, NotAttached, Step, StepAnswer};
 use nbd_base::NoMemory;
-use nbd_commands::ExportConfig;
+use nbd_commands::{ExportConfig, Rates};
 use nbd_wire::Request;
 use reply_box::{NotOpen, Taken};
 use std::alloc::Allocator;
@@ -51,7 +51,7 @@ impl<I: Image> Model for Member<I> {
 }
 
 impl<I: Image> Member<I> {
-    ghost use Rattle.server_core.specs.Members.{opening_standing, slot_in, with_log, logged_as, Went, WentOr, IsLetIn, IsReservedAt, WantsMemory, Performs, Picks, AdmitsAt, Arrives, shifted_standing, told_tags};
+    ghost use Rattle.server_core.specs.Members.{opening_standing, slot_in, with_log, logged_as, Went, WentOr, Retunes, IsLetIn, IsReservedAt, WantsMemory, Performs, Picks, AdmitsAt, Arrives, shifted_standing, told_tags};
     ghost use Rattle.server_table.specs.Ways.{part_shifted};
     ghost use Rattle.server_table.specs.Order.{IsNumbered, head_tags};
     ghost use Rattle.server_table.specs.Picks.{part_picked};
@@ -112,6 +112,22 @@ impl<I: Image> Member<I> {
         ensures journal { JournalMove {A = I.Alloc} self.old.part.terms Step.Attach (attach_said result) self.old.journal self.new.journal }
     {
         self.cell.attach()
+    }
+
+    /// The rates are others from now on.
+    pub(crate) fn retune(&mut self, rates: Rates) -> Result<(), NotRetuned>
+        ensures retunes { Retunes self.old self.new rates result }
+        ensures short { AreShort self.old.part.rates → AreShort self.new.part.rates }
+        ensures journal { JournalMove {A = I.Alloc} self.old.part.terms (Step.Retune rates) (retuned_said result) self.old.journal self.new.journal }
+    {
+        if let Err(refused) = self.cell.retune(rates) {
+            return Err(refused);
+        }
+        let tuning = rates.tuning();
+        // Asked for what its contract tells: a second at most.
+        let _ = tuning.l_interval();
+        self.shares.retune(tuning.r_interval(), tuning.p_interval());
+        Ok(())
     }
 
     /// The export with its journal.

@@ -1,9 +1,10 @@
 -- The table as it is kept: export by export, each its own part.
-use Rattle.std.specs.Prelude.{ℕ, suc, Bool, true, false, ℤ, Option, List, [], ◌∷◌, ◌++◌, map, filter, not, ◌==◌}
+use Rattle.std.specs.Prelude.{ℕ, suc, ◌+◌, Bool, true, false, ℤ, Option, List, [], ◌∷◌, ◌++◌, map, filter, not, ◌==◌}
 use Rattle.nbd_wire.specs.Grammar.{RequestMessage}
 use Rattle.nbd_commands.specs.Terms.{Terms}
 use Rattle.tag_clock.specs.declared.Tags.{Tags}
 use Rattle.tag_clock.specs.Intervals.{Intervals}
+use Rattle.tag_clock.specs.Clocks.{last_r_for}
 use Rattle.reply_box.specs.Sessions.{Session}
 use Rattle.lone_export.specs.Alone.{Alone, Job}
 use Rattle.server_table.specs.Table.{Row, Side, Table, Setup}
@@ -59,6 +60,10 @@ alone_of part = record { image = part.image; waiting = map job_of_entry part.wai
 -- a part whose requests stay, with the image, the sessions and the count of another state
 abbrev pub with_alone : Alone → Part → Part
 with_alone state part = record part { image = state.image; sessions = state.sessions; count = state.count }
+
+-- a part with other rates; without a reservation it has no last R
+abbrev pub part_retuned : Intervals → Part → Part
+part_retuned rates part = record part { rates = rates; last_r = last_r_for rates.r_interval part.last_r; count = part.count + 1 }
 
 -- the requests but for one
 abbrev pub without : ℕ → List Entry → List Entry

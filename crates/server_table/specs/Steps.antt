@@ -7,11 +7,13 @@ use Rattle.nbd_commands.specs.Meaning.{image_after, data_of, may_want_memory}
 use Rattle.tag_clock.specs.declared.Phase.{Phase}
 use Rattle.tag_clock.specs.declared.Phase.TheVariants.{Reservation, Weight}
 use Rattle.tag_clock.specs.Tags.{later}
+use Rattle.tag_clock.specs.Intervals.{Intervals}
+use Rattle.tag_clock.specs.Clocks.{last_r_for}
 use Rattle.reply_box.specs.Sessions.{Session, new_session, is_here, is_open_at, is_left_at, is_here_at, outbox_at, post_at, take_at, leave_at, drop_at}
 use Rattle.server_table.specs.declared.event.Event.{Event}
-use Rattle.server_table.specs.declared.event.Event.TheVariants.{Attach, Arrive, Dispatch, Perform, Take, Leave, Gone}
+use Rattle.server_table.specs.declared.event.Event.TheVariants.{Attach, Arrive, Dispatch, Perform, Take, Leave, Gone, Retune}
 use Rattle.server_table.specs.declared.event.Answer.{Answer}
-use Rattle.server_table.specs.declared.event.Answer.TheVariants.{Session as Numbered, Accepted, Answered, Picked, Nothing, Performed, Reply as Replied, Empty, End, Left, Dropped, NoExport, NotOpen, Worn, Full, Hold, NotOut, NoMemory}
+use Rattle.server_table.specs.declared.event.Answer.TheVariants.{Session as Numbered, Accepted, Answered, Picked, Nothing, Performed, Reply as Replied, Empty, End, Left, Dropped, NoExport, NotOpen, Worn, Full, Hold, NotOut, Retuned, Waiting, NoMemory}
 use Rattle.server_table.specs.Table.{Row, Side, Table, Setup, Choice, side, waits_in, is_out_in, choice, shifted, credited, put, opening_table}
 
 -- the rows are these, the side of export e is changed, and its count rises
@@ -24,6 +26,13 @@ with_sessions sessions side = record side { sessions = sessions }
 
 abbrev pub seated : ℕ → List Session → Table → Table
 seated e sessions table = changed e table table.rows (with_sessions sessions)
+
+-- the rates are others, and without a reservation there is no last R
+abbrev pub with_rates : Intervals → Side → Side
+with_rates rates side = record side { rates = rates; last_r = last_r_for rates.r_interval side.last_r }
+
+abbrev pub retuned_in : ℕ → Intervals → Table → Table
+retuned_in e rates table = changed e table table.rows (with_rates rates)
 
 -- the rows of session s of export e, and its replies that aren't taken
 abbrev pub outstanding_in : ℕ → ℕ → Table → ℕ
@@ -155,6 +164,13 @@ module _ {A : Type 0} where
       when_some (slice_get setup.exports e)
       (λ terms. if not (is_here_at (side table e).sessions s) then outcome table NotOpen
       else outcome (seated e (drop_at s (side table e).sessions) table) Dropped)
+      (outcome table NoExport)
+  step setup table (Retune e rates) memory =
+      when_some (slice_get setup.exports e)
+      (λ terms. if nat_le (2 ^ 56) (side table e).count then outcome table Worn
+      else (if not (length (filter (waits_in e) table.rows) == 0) then outcome table Waiting
+      else (if not memory then outcome table NoMemory
+      else outcome (retuned_in e rates table) Retuned)))
       (outcome table NoExport)
 
   -- a list of events from a table on, each with its mark, and with memory there where the marks have ended: the last

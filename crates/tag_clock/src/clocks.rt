@@ -3,7 +3,7 @@ ghost use Rattle.std.specs.Prelude.{◌≡◌, ℕ, List};
 ghost use Rattle.nbd_base.specs.Range.{IsOptionInRange};
 ghost use Rattle.tag_clock.specs.Tags.{later};
 ghost use Rattle.tag_clock.specs.Clocks.{fresh_limit, limit_tag, limit_after, limit_retuned, fresh_share, r_tag, p_tag, share_after, share_retuned, share_credited, share_shifted, lowered};
-ghost use Rattle.tag_clock.specs.LimitTags.{limit_tags, given};
+ghost use Rattle.tag_clock.specs.LimitTags.{Arrival, limit_tags, given};
 
 use crate::moment::Moment;
 use std::marker::Model;
@@ -157,9 +157,9 @@ fn lowered_by(tag: Option<i128>, delta: i128) -> Option<i128>
 }
 
 /// The limit tags of a fresh clock without recursion: that of the k-th arrival is the greatest, over the arrivals j up to
-/// it, of `t_j + (k - j) * interval`.
+/// it, of `t_j` and the intervals in force at the arrivals behind j, up to the k-th.
 pub fn limit_tags_unrolled()
-    ensures { (interval : ℕ) (moments : List ℕ) → given (fresh_limit interval) moments ≡ limit_tags interval moments }
+    ensures { (interval : ℕ) (arrivals : List Arrival) → given (fresh_limit interval) arrivals ≡ limit_tags arrivals }
 {}
 
 #[cfg(test)]

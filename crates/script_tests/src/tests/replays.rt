@@ -48,6 +48,47 @@ const SHARES: [Row; 7] = [
     ),
 ];
 
+const RETUNES: [Row; 3] = [
+    (
+        "other rates wait until nothing waits, and the next limit tag is a new interval after the last",
+        "export a size=4096 l=10\n---\nattach 0\narrive 0 0 0 1 0 0 0 4\nretune 0 0 4 1\ndispatch 0\nretune 0 0 4 1\narrive 0 0 0 2 0 0 0 4\narrive 0 0 0 3 0 0 0 4\ndispatch 250000000\ndispatch 500000000\nretune 0 0 0 1\narrive 0 0 0 4 0 0 0 4\n",
+        "session 0\naccepted 0 0\nwaiting\nexport 0 request 0 weight\nretuned\naccepted 1 250000000\naccepted 2 500000000\nexport 0 request 1 weight\nexport 0 request 2 weight\nretuned\naccepted 3 500000000\nsteps 10\n",
+    ),
+    (
+        "a last R tag stays from one reservation to another, and is gone where there was none between",
+        "export a size=4096 r=1\n---\nattach 0\narrive 0 0 0 1 0 0 0 4\ndispatch 0\nretune 0 2 0 1\narrive 0 0 0 2 0 0 0 4\ntags 0\ndispatch 0\nretune 0 0 0 1\nretune 0 2 0 1\narrive 0 0 0 3 0 0 0 4\ntags 0\n",
+        "session 0\naccepted 0 0\nexport 0 request 0 reservation\nretuned\naccepted 1 0\nwaiting 1\ntag 1 500000000 0 1000000000\nexport 0 request 1 weight\nretuned\nretuned\naccepted 2 0\nwaiting 1\ntag 2 0 0 2000000000\nsteps 9\n",
+    ),
+    (
+        "there is no such export",
+        "export a size=4096\n---\nretune 1 0 0 1\n",
+        "no export\nsteps 0\n",
+    ),
+];
+
+const OUT_OF_RANGE: [Row; 4] = [
+    (
+        "the reservation is above 1,000,000, before all else",
+        "export a size=4096\n---\nattach 0\nretune 0 1000001 1000001 0\n",
+        "line 4 C6\n",
+    ),
+    (
+        "the limit is above 1,000,000",
+        "export a size=4096\n---\nretune 0 5 1000001 0\n",
+        "line 3 C6\n",
+    ),
+    (
+        "there is no weight 0",
+        "export a size=4096\n---\nretune 0 5 4 0\n",
+        "line 3 C7\n",
+    ),
+    (
+        "the reservation is above the limit",
+        "export a size=4096\n---\nretune 0 5 4 1\n",
+        "line 3 C9\n",
+    ),
+];
+
 const SHIFTS: [Row; 7] = [
     (
         "a shift leaves limit tags",
@@ -159,6 +200,23 @@ const TAGS: [Row; 3] = [
 fn shares(rt: HostRuntime) {
     for row in &SHARES {
         let well = replays(rt.alloc(), row.1.as_bytes(), row.2.as_bytes());
+        assert!(rt; well, "{}", row.0);
+    }
+}
+
+#[test]
+fn retunes(rt: HostRuntime) {
+    for row in &RETUNES {
+        let well = replays(rt.alloc(), row.1.as_bytes(), row.2.as_bytes());
+        assert!(rt; well, "{}", row.0);
+    }
+}
+
+#[test]
+fn rates_out_of_range(rt: HostRuntime) {
+    for row in &OUT_OF_RANGE {
+        let (outcome, written) = replayed(rt.alloc(), row.1.as_bytes());
+        let well = outcome == Outcome::Refused && written.as_slice() == row.2.as_bytes();
         assert!(rt; well, "{}", row.0);
     }
 }
