@@ -336,8 +336,8 @@ impl<I: Image, E: Eligibility<Alloc = I::Alloc>> Server<I, E> {
         if export as usize >= self.members.len() {
             return Err(NotRetuned::NoExport);
         }
-        let member = &mut self.members[export as usize];
-        retuned(member.retune(rates))
+        let tuned = &mut self.members[export as usize];
+        retuned(tuned.retune(rates))
     }
 
     /// The request that is in service under this number, where one is. It takes no memory.
