@@ -7,7 +7,7 @@ use Rattle.std.proofs.lemmas.Option.{same_Some, none-some}
 use Rattle.tag_clock.specs.declared.Phase.{Phase}
 use Rattle.tag_clock.specs.declared.Phase.TheVariants.{Reservation, Weight}
 use Rattle.server_table.specs.declared.event.Event.{Event}
-use Rattle.server_table.specs.declared.event.Event.TheVariants.{Attach, Arrive, Dispatch, Perform, Take, Leave, Gone}
+use Rattle.server_table.specs.declared.event.Event.TheVariants.{Attach, Arrive, Dispatch, Perform, Take, Leave, Gone, Retune}
 use Rattle.server_table.specs.declared.event.Answer.{Answer}
 use Rattle.server_table.specs.declared.event.Answer.TheVariants as said
 use Rattle.server_table.specs.Table.{Row, Table, Setup, Choice, waits_in, is_idle, is_due_by_limit, due_by_limit, foremost, p_key, precedes, choice, opening_table}
@@ -237,6 +237,7 @@ module _ (A : Type 0) (setup : Setup) (e f one other : ℕ) where
   beside_step table (Take g s) memory v count at_e at_f h waits_e waits_f due = beside_unchosen table (Take g s) memory v count at_e at_f h waits_e waits_f ((goes setup table e (Take g s) memory at_e.tidy).quiet_in tt e Weight)
   beside_step table (Leave g s) memory v count at_e at_f h waits_e waits_f due = beside_unchosen table (Leave g s) memory v count at_e at_f h waits_e waits_f ((goes setup table e (Leave g s) memory at_e.tidy).quiet_in tt e Weight)
   beside_step table (Gone g s) memory v count at_e at_f h waits_e waits_f due = beside_unchosen table (Gone g s) memory v count at_e at_f h waits_e waits_f ((goes setup table e (Gone g s) memory at_e.tidy).quiet_in tt e Weight)
+  beside_step table (Retune g rates) memory v count at_e at_f h waits_e waits_f due = beside_unchosen table (Retune g rates) memory v count at_e at_f h waits_e waits_f ((goes setup table e (Retune g rates) memory at_e.tidy).quiet_in tt e Weight)
 
 -- ---- from place to place
 

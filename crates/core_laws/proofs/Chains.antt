@@ -8,7 +8,7 @@ use Rattle.tag_clock.specs.Intervals.{Intervals}
 use Rattle.tag_clock.specs.Tags.{later}
 use Rattle.tag_clock.specs.Clocks.{lowered}
 use Rattle.server_table.specs.declared.event.Event.{Event}
-use Rattle.server_table.specs.declared.event.Event.TheVariants.{Attach, Arrive, Dispatch, Perform, Take, Leave, Gone}
+use Rattle.server_table.specs.declared.event.Event.TheVariants.{Attach, Arrive, Dispatch, Perform, Take, Leave, Gone, Retune}
 use Rattle.server_table.specs.declared.event.Answer.{Answer}
 use Rattle.server_table.specs.Table.{Side, Table, Setup, side, opening_table}
 use Rattle.server_table.specs.Steps.{step, table_after}
@@ -20,8 +20,10 @@ use Rattle.lone_export.proofs.Cases.{if_one}
 use Rattle.core_laws.proofs.Order.{lowered_le}
 use Rattle.core_laws.proofs.Tidy.{Tidy}
 use Rattle.core_laws.proofs.Chosen.{tidy_step}
-use Rattle.core_laws.proofs.Runs.{opening_tidy, opening_side_at, rates_step}
-use Rattle.core_laws.proofs.Lanes.{Turn, Lane, lane, turn_lowered, last_lowered, lane_lowered, lane_pushed, lane_popped, lane_after, goes}
+use Rattle.core_laws.specs.Shares.{p_interval_at, WaitsThrough}
+use Rattle.core_laws.proofs.Onward.{along, Ended, OnwardBy, onward}
+use Rattle.core_laws.proofs.Runs.{opening_tidy, Steady, rates_step, rates_kept}
+use Rattle.core_laws.proofs.Lanes.{Turn, Lane, lane, turn_of, turn_lowered, last_lowered, lane_lowered, lane_pushed, lane_popped, lane_after, goes}
 
 -- of a request and those behind it
 abbrev pub IsNext : ℕ → Turn → List Turn → ℕ → Option ℤ → Type 0
@@ -143,6 +145,7 @@ module _ {A : Type 0} where
   rise e interval table (Take f s) said lane v a h w = head_same v lane.waiting h
   rise e interval table (Leave f s) said lane v a h w = head_same v lane.waiting h
   rise e interval table (Gone f s) said lane v a h w = head_same v lane.waiting h
+  rise e interval table (Retune f rates) said lane v a h w = head_same v lane.waiting h
 
   chain_after : (e interval : ℕ) (event : Event A) (said : Answer A) (by : ℤ) (lane : Lane) → Chained interval lane → Chained interval (lane_after e interval event said by lane)
   chain_after e interval (Attach f) said by lane a = a
@@ -155,6 +158,7 @@ module _ {A : Type 0} where
   chain_after e interval (Take f s) said by lane a = a
   chain_after e interval (Leave f s) said by lane a = a
   chain_after e interval (Gone f s) said by lane a = a
+  chain_after e interval (Retune f rates) said by lane a = a
 
 -- ---- of a table
 
@@ -172,25 +176,63 @@ module _ {A : Type 0} where
       (goes setup table e event memory h.tidy).moves
       ∙ ap (λ (i : ℕ). lane_after e i event (step setup table event memory).answer (fall table event (step setup table event memory).answer) (lane e table)) h.rate
 
-  reached_step : (setup : Setup) (terms : Terms) (table : Table) (e interval : ℕ) (event : Event A) (memory : Bool) → slice_get setup.exports e ≡ Some terms → Reached e interval table → Reached e interval (step setup table event memory).table
-  reached_step setup terms table e interval event memory there h = record {
+  reached_step : (setup : Setup) (terms : Terms) (table : Table) (e : ℕ) (event : Event A) (memory : Bool) → slice_get setup.exports e ≡ Some terms →
+      Reached e (side table e).rates.p_interval table → Reached e (side (step setup table event memory).table e).rates.p_interval (step setup table event memory).table
+  reached_step setup terms table e event memory there h = record {
     tidy = tidy_step setup table e event memory h.tidy;
-    rate = ap (λ (rates : Intervals). rates.p_interval) (rates_step setup terms table e event memory there h.tidy) ∙ h.rate;
-    chained = subst (Chained interval) (sym (moves_at setup table e interval event memory h))
-        (chain_after e interval event (step setup table event memory).answer (fall table event (step setup table event memory).answer) (lane e table) h.chained);
+    rate = refl;
+    chained = by (rates_step setup terms table e event memory there h.tidy);
   }
+    where
+      old : ℕ
+      old = (side table e).rates.p_interval
 
-  reached_all : (setup : Setup) (terms : Terms) (e interval : ℕ) → slice_get setup.exports e ≡ Some terms → (events : List (Event A)) (table : Table) (marks : List Bool) → Reached e interval table → Reached e interval (table_after setup table events marks)
-  reached_all setup terms e interval there [] table marks h = h
-  reached_all setup terms e interval there (event ∷ events) table marks h = reached_all setup terms e interval there events (step setup table event (get_or marks 0 true)).table (drop 1 marks) (reached_step setup terms table e interval event (get_or marks 0 true) there h)
+      new : Outcome A
+      new = step setup table event memory
+
+      moved : Chained (side table e).rates.p_interval (lane e new.table)
+      moved = subst (Chained old) (sym (moves_at setup table e old event memory h)) (chain_after e old event new.answer (fall table event new.answer) (lane e table) h.chained)
+
+      by : Steady {A = A} e table new.table → Chained (side new.table e).rates.p_interval (lane e new.table)
+      by (inl same) = subst (λ (rates : Intervals). Chained rates.p_interval (lane e new.table)) (sym same) moved
+      by (inr none) = record { turns = subst (λ (xs : List Row). IsChain (side new.table e).rates.p_interval (map turn_of xs) (side new.table e).next (side new.table e).last_p) (sym none.1) tt }
+
+  reached_all : (setup : Setup) (terms : Terms) (e : ℕ) → slice_get setup.exports e ≡ Some terms → (events : List (Event A)) (table : Table) (marks : List Bool) →
+      Reached e (side table e).rates.p_interval table → Reached e (side (table_after setup table events marks) e).rates.p_interval (table_after setup table events marks)
+  reached_all setup terms e there [] table marks h = h
+  reached_all setup terms e there (event ∷ events) table marks h = reached_all setup terms e there events (step setup table event (get_or marks 0 true)).table (drop 1 marks) (reached_step setup terms table e event (get_or marks 0 true) there h)
 
   -- at each place from i up to j
   abbrev pub ReachedThrough : ℕ → ℕ → ℕ → ℕ → Setup → List (Event A) → List Bool → Type 0
   ReachedThrough e interval i j setup events marks = (k : ℕ) → i ≤ k → k ≤ j → Reached e interval (table_before k setup events marks)
 
-  pub reached_before : (setup : Setup) (terms : Terms) (e k : ℕ) (events : List (Event A)) (marks : List Bool) → slice_get setup.exports e ≡ Some terms → Reached e terms.rates.p_interval (table_before k setup events marks)
-  reached_before setup terms e k events marks there = reached_all setup terms e terms.rates.p_interval there (take k events) (opening_table setup) marks (record {
+  pub reached_before : (setup : Setup) (terms : Terms) (e k : ℕ) (events : List (Event A)) (marks : List Bool) → slice_get setup.exports e ≡ Some terms → Reached e (p_interval_at e k setup events marks) (table_before k setup events marks)
+  reached_before setup terms e k events marks there = reached_all setup terms e there (take k events) (opening_table setup) marks (record {
     tidy = opening_tidy setup e (slice_get_within setup.exports e terms there);
-    rate = ap (λ (s : Side). s.rates.p_interval) (opening_side_at setup terms e there);
+    rate = refl;
     chained = record { turns = tt };
   })
+
+  -- while a request of e waits its interval stays
+  pub interval_kept : (setup : Setup) (terms : Terms) (e i j : ℕ) (events : List (Event A)) (marks : List Bool) → slice_get setup.exports e ≡ Some terms → i ≤ j → WaitsThrough e i j setup events marks → p_interval_at e j setup events marks ≡ p_interval_at e i setup events marks
+  interval_kept setup terms e i j events marks there order waits = along P i j order refl onward_one
+    where
+      P : ℕ → Type 0
+      P k = p_interval_at e k setup events marks ≡ p_interval_at e i setup events marks
+
+      upto : (k : ℕ) → k < j → k ≤ j
+      upto k lt = omega (arith, lt)
+
+      onward_one : (k : ℕ) → i ≤ k → k < j → P k → P (suc k)
+      onward_one k low lt h = go (onward setup events (opening_table setup) marks k)
+        where
+          go : Ended setup (opening_table setup) events marks k ⊎ OnwardBy setup (opening_table setup) events marks k → P (suc k)
+          go (inl ended) = rw ended.tables h
+          go (inr next) = rw next.by.tables (ap (λ (rates : Intervals). rates.p_interval) (rates_kept setup terms (table_before k setup events marks) e next.event next.memory there (reached_before setup terms e k events marks there).tidy (waits k low (upto k lt))) ∙ h)
+
+  pub reached_through : (setup : Setup) (terms : Terms) (e i j : ℕ) (events : List (Event A)) (marks : List Bool) → slice_get setup.exports e ≡ Some terms → WaitsThrough e i j setup events marks → ReachedThrough e (p_interval_at e i setup events marks) i j setup events marks
+  reached_through setup terms e i j events marks there waits = λ k low up.
+      subst (λ (n : ℕ). Reached e n (table_before k setup events marks)) (interval_kept setup terms e i k events marks there low (λ m from to. waits m from (trans m k to up))) (reached_before setup terms e k events marks there)
+    where
+      trans : (m k : ℕ) → m ≤ k → k ≤ j → m ≤ j
+      trans m k h l = omega (arith, h, l)

@@ -6,7 +6,7 @@ use Rattle.std.proofs.lemmas.Option.{same_Some, none-some, slice_get-map}
 use Rattle.nbd_wire.specs.Grammar.{RequestMessage}
 use Rattle.tag_clock.specs.declared.Phase.TheVariants.{Reservation, Weight}
 use Rattle.server_table.specs.declared.event.Event.{Event}
-use Rattle.server_table.specs.declared.event.Event.TheVariants.{Attach, Arrive, Dispatch, Perform, Take, Leave, Gone}
+use Rattle.server_table.specs.declared.event.Event.TheVariants.{Attach, Arrive, Dispatch, Perform, Take, Leave, Gone, Retune}
 use Rattle.lone_export.specs.declared.step.Step.{Step}
 use Rattle.lone_export.specs.declared.step.Step.TheVariants as own
 use Rattle.lone_export.specs.declared.step.StepAnswer.{StepAnswer}
@@ -18,14 +18,14 @@ use Rattle.nbd_commands.specs.Meaning.{may_want_memory}
 use Rattle.reply_box.specs.Sessions.{is_here, is_open_at, is_left_at, is_here_at, outbox_at}
 use Rattle.lone_export.specs.Alone.{own_step}
 use Rattle.server_table.specs.Table.{Row, Table, Setup, Choice, side, waits_in, is_out_in, job_of, part, is_due_by_reservation, is_due_by_limit, due_by_reservation, due_by_limit, foremost, r_key, p_key, choice, shifted}
-use Rattle.server_table.specs.Steps.{changed, with_sessions, is_out_row, outstanding_in, accepted_in, send, sent, is_by_weight, with_credit, step}
+use Rattle.server_table.specs.Steps.{changed, with_sessions, with_rates, is_out_row, outstanding_in, accepted_in, send, sent, is_by_weight, with_credit, step}
 use Rattle.server_table.specs.Order.{TagBefore}
-use Rattle.lone_export.proofs.Cases.{if_one, some_one, some_told}
+use Rattle.lone_export.proofs.Cases.{if_one, if_told, some_one, some_told}
 use Rattle.core_laws.proofs.Lists.{filter-map}
 use Rattle.core_laws.proofs.Parts.{part_other, part_own, part_credited}
 use Rattle.core_laws.proofs.Named.{Agrees}
 use Rattle.core_laws.proofs.Tidy.{Sorted, is_of, rows_of, is_of_all, map_same_on, filter-and, Lowers, chosen_first, sent_waiting, sent_out, Tidy}
-use Rattle.core_laws.proofs.Kept.{Keeps, keeps_all, keeps_side, sessions_unseen, keeps_done, keeps_undone, tidy_shifted, keeps_accepted, keeps_accepted_other, keeps_sent, tidy_credited}
+use Rattle.core_laws.proofs.Kept.{Keeps, keeps_all, keeps_side, sessions_unseen, rates_unseen, keeps_done, keeps_undone, tidy_shifted, keeps_accepted, keeps_accepted_other, keeps_sent, tidy_credited}
 
 -- ---- which row is chosen
 
@@ -238,6 +238,12 @@ module _ {A : Type 0} where
       let P = Keeps e in
       some_one P (slice_get setup.exports named) (λ other h.
       if_one P (not (is_here_at (side table named).sessions s)) (keeps_all e table _ tidy) (keeps_side e named table (with_sessions _) _ (sessions_unseen named table _) tidy)) (keeps_all e table _ tidy)
+  keeps_step setup table e (Retune named rates) memory tidy =
+      let P = Keeps e in
+      some_one P (slice_get setup.exports named) (λ other h.
+      if_one P (nat_le (2 ^ 56) (side table named).count) (keeps_all e table _ tidy)
+      (if_told P (not (length (filter (waits_in named) table.rows) == 0)) (λ h. keeps_all e table _ tidy)
+      (λ idle. if_one P (not memory) (keeps_all e table _ tidy) (keeps_side e named table (with_rates rates) _ (rates_unseen named table rates idle) tidy)))) (keeps_all e table _ tidy)
 
   pub tidy_step : (setup : Setup) (table : Table) (e : ℕ) (event : Event A) (memory : Bool) → Tidy e table → Tidy e (step setup table event memory).table
   tidy_step setup table e event memory tidy = (keeps_step setup table e event memory tidy).tidy

@@ -10,7 +10,7 @@ use Rattle.tag_clock.specs.declared.Phase.{Phase}
 use Rattle.tag_clock.specs.declared.Phase.TheVariants.{Reservation, Weight}
 use Rattle.lone_export.specs.Alone.{Alone}
 use Rattle.server_table.specs.declared.event.Event.{Event}
-use Rattle.server_table.specs.declared.event.Event.TheVariants.{Attach, Arrive, Dispatch, Perform, Take, Leave, Gone}
+use Rattle.server_table.specs.declared.event.Event.TheVariants.{Attach, Arrive, Dispatch, Perform, Take, Leave, Gone, Retune}
 use Rattle.server_table.specs.declared.event.Answer.{Answer}
 use Rattle.nbd_base.specs.Words.{when_some}
 use Rattle.nbd_commands.specs.Terms.{Terms}
@@ -20,9 +20,9 @@ use Rattle.reply_box.specs.Sessions.{Session, is_here, is_open_at, is_left_at, i
 use Rattle.server_table.specs.declared.event.Answer.TheVariants as said
 use Rattle.server_table.specs.Table.{Row, Side, Table, Setup, Choice, side, no_side, waits_in, is_due_by_reservation, is_due_by_limit, due_by_reservation, due_by_limit, foremost, r_key, p_key, choice, is_idle, all_lowered, lower_p, lower_last_p, credited, lower_r, lower_last_r, shifted, opening_side, opening_table, put}
 use Rattle.tag_clock.specs.Tags.{later}
-use Rattle.server_table.specs.Steps.{Outcome, step, changed, with_sessions, is_out_row, outstanding_in, accepted_in, new_row, with_last, done_side, undone_side, done_in, undone_in, send, sent, is_by_weight, with_credit, answers_of, run_answers, entered_in, seated, outcome}
-use Rattle.core_laws.specs.Counts.{is_phase, now_after, is_choice_in, choices, accepted_at, first_accepted}
-use Rattle.lone_export.proofs.Cases.{if_one, some_one, some_told}
+use Rattle.server_table.specs.Steps.{Outcome, step, changed, with_sessions, with_rates, is_out_row, outstanding_in, accepted_in, new_row, with_last, done_side, undone_side, done_in, undone_in, send, sent, is_by_weight, with_credit, answers_of, run_answers, entered_in, seated, outcome}
+use Rattle.core_laws.specs.Counts.{is_phase, now_after, is_choice_in, choices, accepted_at, first_accepted, is_retune_of}
+use Rattle.lone_export.proofs.Cases.{if_one, if_told, some_one, some_told}
 use Rattle.nbd_base.proofs.Words.{length-change_at}
 use Rattle.core_laws.proofs.Lists.{unseen-change_at, unseen_there, unseen-change_each, get_or-change_at, get_or-change_at_other, filter-map, filter_swap}
 use Rattle.core_laws.proofs.Order.{Mem, mem_filter, mem_all, mem_of_filter, mem_passes, foremost_mem}
@@ -31,7 +31,7 @@ use Rattle.core_laws.proofs.Chosen.{IsChosen, is_chosen, choice_first, and_left,
 use Rattle.core_laws.specs.Runs.{Run, HasExport, answers_in}
 use Rattle.core_laws.proofs.Runs.{opening_tidy, opening_side_at, rates_step}
 use Rattle.core_laws.proofs.Limits.{credit_now}
-use Rattle.core_laws.proofs.Kept.{IsUnseen, sessions_unseen, tidy_shifted, is_of_export}
+use Rattle.core_laws.proofs.Kept.{IsUnseen, sessions_unseen, rates_unseen, tidy_shifted, is_of_export}
 use Rattle.core_laws.proofs.Parts.{put_own, put_other, part_shifted, length-shifted}
 use Rattle.core_laws.proofs.Pace.{Pace, pace, Reaches, Strides, r_step, LooksAtR, Reserves, KeepsReservation, IsPaced, Paced, IsAhead, runs_side, runs_done, runs_undone, runs_accepted, runs_accepted_other, paced_shifted, paced_sent_other, paced_sent_own, credits_after, paced_with_credit, paced_with_credit_other}
 
@@ -46,10 +46,6 @@ interval_by strides Weight = strides.limit
 
 abbrev pub interval_of : Strides → ℕ
 interval_of strides = interval_by strides strides.phase
-
--- with the intervals at the start
-abbrev strides_of : Terms → Phase → Strides
-strides_of terms phase = record { phase = phase; limit = terms.rates.l_interval; reservation = terms.rates.r_interval }
 
 abbrev one_if : Bool → ℕ
 one_if b = if b then 1 else 0
@@ -119,17 +115,17 @@ shifted_now f t table =
 -- ---- the bound over a run
 
 -- so many choices fit between t and b
-abbrev Within : ℕ → ℕ → ℕ → ℕ → Type 0
+abbrev pub Within : ℕ → ℕ → ℕ → ℕ → Type 0
 Within t interval b n = (j : ℕ) → n ≡ suc j → t + j * interval ≤ b
 
 -- ---- before the first arrival
 
-record Virgin (strides : Strides) (e : ℕ) (table : Table) : Type 0 where
-  next : (side table e).next ≡ 0
-  r : (side table e).last_r ≡ None
-  l : (side table e).last_l ≡ None
-  reserves : Reserves strides (side table e).rates
-  rows : rows_of e table.rows ≡ []
+pub record Virgin (strides : Strides) (e : ℕ) (table : Table) : Type 0 where
+  pub next : (side table e).next ≡ 0
+  pub r : (side table e).last_r ≡ None
+  pub l : (side table e).last_l ≡ None
+  pub reserves : Reserves strides (side table e).rates
+  pub rows : rows_of e table.rows ≡ []
 
 virgin_by : (strides : Strides) (e : ℕ) (old new : Table) → Virgin strides e old → (side new e).rates ≡ (side old e).rates → pace (side new e) ≡ pace (side old e) → rows_of e new.rows ≡ [] → Virgin strides e new
 virgin_by strides e old new h rates same rows = record { next = ap (λ (p : Pace). p.next) same ∙ h.next; r = ap (λ (p : Pace). p.r) same ∙ h.r; l = ap (λ (p : Pace). p.l) same ∙ h.l; reserves = rw rates h.reserves; rows = rows }
@@ -223,14 +219,14 @@ first_new strides e s t q table lt h =
 virgin_filter : (e : ℕ) (p : Row → Bool) (rows : List Row) → rows_of e rows ≡ [] → rows_of e (filter p rows) ≡ []
 virgin_filter e p rows h = filter_swap (is_of e) p rows ∙ ap (filter p) h
 
-none_before : (t i b n : ℕ) → Within t i b n → b < t → n ≡ 0
+pub none_before : (t i b n : ℕ) → Within t i b n → b < t → n ≡ 0
 none_before t i b zero h lt = refl
 none_before t i b (suc j) h lt = absurd (far t (j * i) b (h j refl) lt)
   where
     far : (t m b : ℕ) → t + m ≤ b → b < t → ⊥
     far t m b h lt = omega (arith, h, lt)
 
-at_most : (t i b n : ℕ) → Within t i b n → 0 < i → n ≤ 1 + (b - t) / i
+pub at_most : (t i b n : ℕ) → Within t i b n → 0 < i → n ≤ 1 + (b - t) / i
 at_most t i b zero h lt = omega arith
 at_most t i b (suc j) h lt = one j ((b - t) / i) ((le-div_iff_mul-le {k = i} {x = j} {y = b - t} lt).1 (less t (j * i) b (h j refl)))
   where
@@ -379,16 +375,30 @@ module _ {A : Type 0} where
   abbrev pub LimitHere : ℕ → ℕ → Table → Event A → Answer A → Type 0
   LimitHere m e table event said = (u : ℕ) → accepted_at e event said ≡ Some u → m ≤ (side table e).rates.l_interval
 
+  -- no event of a list is a retune of export e
+  abbrev pub AreKept : ℕ → List (Event A) → Type 0
+  AreKept e events = AllByRecursion (λ event. is_retune_of e event ≡ false) events
+
+  -- a retune of another export leaves the reservation of e
+  reservation_kept : (strides : Strides) (e f : ℕ) (table : Table) (rates : Intervals) → (strides.phase ≡ Reservation → is_retune_of {A = A} e (Retune f rates) ≡ false) → KeepsReservation strides e f table (with_rates rates)
+  reservation_kept strides e f table rates keeps counted same = absurd (differ (eqb f e) (keeps counted) here)
+    where
+      here : eqb f e ≡ true
+      here = grind (arith, nat_tests, same)
+
+      differ : (b : Bool) → b ≡ false → b ≡ true → ⊥
+      differ b h k = grind (arith, h, k)
+
   -- every step
-  next_step : (setup : Setup) (strides : Strides) (table : Table) (e t w r : ℕ) (event : Event A) (memory : Bool) → Tidy e table → Paced strides e t (w + r) w table → LimitHere strides.limit e table event (step setup table event memory).answer → Next strides e t w r (now_after table.now event) (step setup table event memory)
-  next_step setup strides table e t w r (Attach named) memory tidy paced limit =
+  next_step : (setup : Setup) (strides : Strides) (table : Table) (e t w r : ℕ) (event : Event A) (memory : Bool) → Tidy e table → Paced strides e t (w + r) w table → LimitHere strides.limit e table event (step setup table event memory).answer → (strides.phase ≡ Reservation → is_retune_of e event ≡ false) → Next strides e t w r (now_after table.now event) (step setup table event memory)
+  next_step setup strides table e t w r (Attach named) memory tidy paced limit keeps =
       let P = Next strides e t w r table.now in
       some_one P (slice_get setup.exports named) (λ other h.
       if_one P (nat_le (2 ^ 56) (side table named).count) (no_choice strides e t w r table.now _ paced (λ phase. refl) refl)
       (if_one P (length (filter is_here (side table named).sessions) == 64) (no_choice strides e t w r table.now _ paced (λ phase. refl) refl)
       (if_one P (not memory) (no_choice strides e t w r table.now _ paced (λ phase. refl) refl)
       (no_choice_sessions strides e t w r named table _ _ paced (λ phase. refl))))) (no_choice strides e t w r table.now _ paced (λ phase. refl) refl)
-  next_step setup strides table e t w r (Arrive named s u q) memory tidy paced limit =
+  next_step setup strides table e t w r (Arrive named s u q) memory tidy paced limit keeps =
       some_one P (slice_get setup.exports named) (λ other h.
       if_one P (not (is_open_at (side table named).sessions s)) (λ holds. no_choice strides e t w r table.now _ paced (λ phase. refl) refl)
       (if_one P (nat_le (2 ^ 56) (side table named).count) (λ holds. no_choice strides e t w r table.now _ paced (λ phase. refl) refl)
@@ -411,31 +421,38 @@ module _ {A : Type 0} where
         where
           here : e ≡ named → eqb named e ≡ true
           here same = grind (arith, nat_tests, same)
-  next_step setup strides table e t w r (Dispatch u) memory tidy paced limit =
+  next_step setup strides table e t w r (Dispatch u) memory tidy paced limit keeps =
       let now : Table = record table { now = max table.now u } in
       some_told (Next strides e t w r now.now) (choice setup.inflight now)
       (λ chosen is. next_sent setup strides e t w r now chosen (tidy_now e now.now table tidy) (paced_now strides e t (w + r) w now.now table paced) is (eqb chosen.row.export e) refl)
       (λ none. no_choice strides e t w r now.now _ (paced_now strides e t (w + r) w now.now table paced) (λ phase. refl) refl)
-  next_step setup strides table e t w r (Perform named n) memory tidy paced limit =
+  next_step setup strides table e t w r (Perform named n) memory tidy paced limit keeps =
       let P = Next strides e t w r table.now in
       some_one P (find (is_out_row named n) table.rows) (λ row h.
       if_one P (not memory && may_want_memory row.request)
       (no_choice strides e t w r table.now _ (runs_undone {A = A} strides e t (w + r) w named table row paced).paced (λ phase. refl) refl)
       (no_choice strides e t w r table.now _ (runs_done {A = A} strides e t (w + r) w named table row paced).paced (λ phase. refl) refl)) (no_choice strides e t w r table.now _ paced (λ phase. refl) refl)
-  next_step setup strides table e t w r (Take named s) memory tidy paced limit =
+  next_step setup strides table e t w r (Take named s) memory tidy paced limit keeps =
       let P = Next strides e t w r table.now in
       some_one P (slice_get setup.exports named) (λ other h.
       if_one P (not (is_here_at (side table named).sessions s)) (no_choice strides e t w r table.now _ paced (λ phase. refl) refl)
       (some_one P (slice_get (outbox_at (side table named).sessions s) 0) (λ reply k. no_choice_sessions strides e t w r named table _ _ paced (λ phase. refl))
       (if_one P (is_left_at (side table named).sessions s && outstanding_in named s table == 0) (no_choice strides e t w r table.now _ paced (λ phase. refl) refl) (no_choice strides e t w r table.now _ paced (λ phase. refl) refl)))) (no_choice strides e t w r table.now _ paced (λ phase. refl) refl)
-  next_step setup strides table e t w r (Leave named s) memory tidy paced limit =
+  next_step setup strides table e t w r (Leave named s) memory tidy paced limit keeps =
       let P = Next strides e t w r table.now in
       some_one P (slice_get setup.exports named) (λ other h.
       if_one P (not (is_open_at (side table named).sessions s)) (no_choice strides e t w r table.now _ paced (λ phase. refl) refl) (no_choice_sessions strides e t w r named table _ _ paced (λ phase. refl))) (no_choice strides e t w r table.now _ paced (λ phase. refl) refl)
-  next_step setup strides table e t w r (Gone named s) memory tidy paced limit =
+  next_step setup strides table e t w r (Gone named s) memory tidy paced limit keeps =
       let P = Next strides e t w r table.now in
       some_one P (slice_get setup.exports named) (λ other h.
       if_one P (not (is_here_at (side table named).sessions s)) (no_choice strides e t w r table.now _ paced (λ phase. refl) refl) (no_choice_sessions strides e t w r named table _ _ paced (λ phase. refl))) (no_choice strides e t w r table.now _ paced (λ phase. refl) refl)
+  next_step setup strides table e t w r (Retune named rates) memory tidy paced limit keeps =
+      let P = Next strides e t w r table.now in
+      some_one P (slice_get setup.exports named) (λ other h.
+      if_one P (nat_le (2 ^ 56) (side table named).count) (no_choice strides e t w r table.now _ paced (λ phase. refl) refl)
+      (if_told P (not (length (filter (waits_in named) table.rows) == 0)) (λ h. no_choice strides e t w r table.now _ paced (λ phase. refl) refl)
+      (λ idle. if_one P (not memory) (no_choice strides e t w r table.now _ paced (λ phase. refl) refl)
+      (no_choice_side strides e t w r named table (with_rates rates) _ (rates_unseen named table rates idle) (reservation_kept strides e named table rates keeps) paced (λ phase. refl))))) (no_choice strides e t w r table.now _ paced (λ phase. refl) refl)
 
   -- and so at each accepted arrival of a list of events
   abbrev pub LimitHolds : ℕ → ℕ → Setup → Table → List (Event A) → List Bool → Type 0
@@ -443,15 +460,15 @@ module _ {A : Type 0} where
   LimitHolds m e setup table (event ∷ events) marks =
       LimitHere m e table event (step setup table event (get_or marks 0 true)).answer × LimitHolds m e setup (step setup table event (get_or marks 0 true)).table events (drop 1 marks)
 
-  total : (setup : Setup) (strides : Strides) (e t b : ℕ) (events : List (Event A)) (table : Table) (marks : List Bool) (w r k : ℕ) → Tidy e table → Paced strides e t (w + r) w table → LimitHolds strides.limit e setup table events marks → k ≤ by_phase w r strides.phase → Within t (interval_of strides) b k →
+  total : (setup : Setup) (strides : Strides) (e t b : ℕ) (events : List (Event A)) (table : Table) (marks : List Bool) (w r k : ℕ) → Tidy e table → Paced strides e t (w + r) w table → LimitHolds strides.limit e setup table events marks → (strides.phase ≡ Reservation → AreKept e events) → k ≤ by_phase w r strides.phase → Within t (interval_of strides) b k →
       Within t (interval_of strides) b (k + choices e strides.phase b table.now events (answers_of setup table events marks))
-  total setup strides e t b [] table marks w r k tidy paced holds le within = λ j is. within j (sym (plus k) ∙ is)
+  total setup strides e t b [] table marks w r k tidy paced holds keeps le within = λ j is. within j (sym (plus k) ∙ is)
     where
       plus : (n : ℕ) → n + 0 ≡ n
       plus n = omega arith
-  total setup strides e t b (event ∷ events) table marks w r k tidy paced holds le within =
-      go (step setup table event (get_or marks 0 true)) (next_step setup strides table e t w r event (get_or marks 0 true) tidy paced holds.0)
-      (λ w' r' k' paced' le' within'. total setup strides e t b events (step setup table event (get_or marks 0 true)).table (drop 1 marks) w' r' k' (tidy_step setup table e event (get_or marks 0 true) tidy) paced' holds.1 le' within')
+  total setup strides e t b (event ∷ events) table marks w r k tidy paced holds keeps le within =
+      go (step setup table event (get_or marks 0 true)) (next_step setup strides table e t w r event (get_or marks 0 true) tidy paced holds.0 (λ counted. (keeps counted).0))
+      (λ w' r' k' paced' le' within'. total setup strides e t b events (step setup table event (get_or marks 0 true)).table (drop 1 marks) w' r' k' (tidy_step setup table e event (get_or marks 0 true) tidy) paced' holds.1 (λ counted. (keeps counted).1) le' within')
     where
       go : (new : Outcome A) → Next strides e t w r (now_after table.now event) new →
           ((w' r' k' : ℕ) → Paced strides e t (w' + r') w' new.table → k' ≤ by_phase w' r' strides.phase → Within t (interval_of strides) b k' → Within t (interval_of strides) b (k' + choices e strides.phase b new.table.now events (answers_of setup new.table events (drop 1 marks)))) →
@@ -568,8 +585,8 @@ module _ {A : Type 0} where
           other : (a : Table) (by : ℕ) → side (credited by chosen.row.export a) e ≡ side a e
           other a by = get_or-change_at_other (lower_last_r by) chosen.row.export e a.sides no_side differ
 
-  first_step : (setup : Setup) (strides : Strides) (table : Table) (e : ℕ) (event : Event A) (memory : Bool) → e < length table.sides → Virgin strides e table → First strides e event (now_after table.now event) (step setup table event memory)
-  first_step setup strides table e (Attach named) memory lt h =
+  first_step : (setup : Setup) (strides : Strides) (table : Table) (e : ℕ) (event : Event A) (memory : Bool) → e < length table.sides → Virgin strides e table → (strides.phase ≡ Reservation → is_retune_of e event ≡ false) → First strides e event (now_after table.now event) (step setup table event memory)
+  first_step setup strides table e (Attach named) memory lt h keeps =
       let event : Event A = Attach named in
       let P = First strides e event table.now in
       some_one P (slice_get setup.exports named) (λ other k.
@@ -577,7 +594,7 @@ module _ {A : Type 0} where
       (if_one P (length (filter is_here (side table named).sessions) == 64) (quiet strides e event table.now _ h refl (λ phase. refl) refl)
       (if_one P (not memory) (quiet strides e event table.now _ h refl (λ phase. refl) refl)
       (quiet_sessions strides e event named table _ _ h refl (λ phase. refl))))) (quiet strides e event table.now _ h refl (λ phase. refl) refl)
-  first_step setup strides table e (Arrive named s u q) memory lt h =
+  first_step setup strides table e (Arrive named s u q) memory lt h keeps =
       let event : Event A = Arrive named s u q in
       let P = First strides e event table.now in
       some_one P (slice_get setup.exports named) (λ other k.
@@ -595,13 +612,13 @@ module _ {A : Type 0} where
 
       no_arrival : (s u : ℕ) (q : RequestMessage) → ◌≡◌ {A = Option ℕ} (if eqb named e && false then Some u else None) None
       no_arrival s u q = neither (eqb named e) u
-  first_step setup strides table e (Dispatch u) memory lt h =
+  first_step setup strides table e (Dispatch u) memory lt h keeps =
       let now : Table = record table { now = max table.now u } in
       let virgin : Virgin strides e now = record { next = h.next; r = h.r; l = h.l; reserves = h.reserves; rows = h.rows } in
       some_told (First strides e (Dispatch u) now.now) (choice setup.inflight now)
       (λ chosen is. virgin_dispatch setup strides e u now chosen virgin is)
       (λ none. quiet strides e (Dispatch u) now.now _ virgin refl (λ phase. refl) refl)
-  first_step setup strides table e (Perform named n) memory lt h =
+  first_step setup strides table e (Perform named n) memory lt h keeps =
       let event : Event A = Perform named n in
       let P = First strides e event table.now in
       some_one P (find (is_out_row named n) table.rows) (λ row k.
@@ -609,23 +626,31 @@ module _ {A : Type 0} where
       (quiet strides e event table.now (outcome (undone_in named row table) (said.Performed false)) (virgin_by strides e table (undone_in named row table) h (unseen-change_at (λ (s : Side). s.rates) (λ side. record (undone_side row side) { count = side.count + 1 }) (λ x. refl) named e table.sides no_side) (unseen-change_at pace (λ side. record (undone_side row side) { count = side.count + 1 }) (λ x. refl) named e table.sides no_side) (virgin_filter e (λ other. not (is_out_row named row.number other)) table.rows h.rows)) refl (λ phase. refl) refl)
       (quiet strides e event table.now (outcome (done_in named row table) (said.Performed true)) (virgin_by strides e table (done_in named row table) h (unseen-change_at (λ (s : Side). s.rates) (λ side. record (done_side row side) { count = side.count + 1 }) (λ x. refl) named e table.sides no_side) (unseen-change_at pace (λ side. record (done_side row side) { count = side.count + 1 }) (λ x. refl) named e table.sides no_side) (virgin_filter e (λ other. not (is_out_row named row.number other)) table.rows h.rows)) refl (λ phase. refl) refl))
       (quiet strides e event table.now _ h refl (λ phase. refl) refl)
-  first_step setup strides table e (Take named s) memory lt h =
+  first_step setup strides table e (Take named s) memory lt h keeps =
       let event : Event A = Take named s in
       let P = First strides e event table.now in
       some_one P (slice_get setup.exports named) (λ other k.
       if_one P (not (is_here_at (side table named).sessions s)) (quiet strides e event table.now _ h refl (λ phase. refl) refl)
       (some_one P (slice_get (outbox_at (side table named).sessions s) 0) (λ reply i. quiet_sessions strides e event named table _ _ h refl (λ phase. refl))
       (if_one P (is_left_at (side table named).sessions s && outstanding_in named s table == 0) (quiet strides e event table.now _ h refl (λ phase. refl) refl) (quiet strides e event table.now _ h refl (λ phase. refl) refl)))) (quiet strides e event table.now _ h refl (λ phase. refl) refl)
-  first_step setup strides table e (Leave named s) memory lt h =
+  first_step setup strides table e (Leave named s) memory lt h keeps =
       let event : Event A = Leave named s in
       let P = First strides e event table.now in
       some_one P (slice_get setup.exports named) (λ other k.
       if_one P (not (is_open_at (side table named).sessions s)) (quiet strides e event table.now _ h refl (λ phase. refl) refl) (quiet_sessions strides e event named table _ _ h refl (λ phase. refl))) (quiet strides e event table.now _ h refl (λ phase. refl) refl)
-  first_step setup strides table e (Gone named s) memory lt h =
+  first_step setup strides table e (Gone named s) memory lt h keeps =
       let event : Event A = Gone named s in
       let P = First strides e event table.now in
       some_one P (slice_get setup.exports named) (λ other k.
       if_one P (not (is_here_at (side table named).sessions s)) (quiet strides e event table.now _ h refl (λ phase. refl) refl) (quiet_sessions strides e event named table _ _ h refl (λ phase. refl))) (quiet strides e event table.now _ h refl (λ phase. refl) refl)
+  first_step setup strides table e (Retune named rates) memory lt h keeps =
+      let event : Event A = Retune named rates in
+      let P = First strides e event table.now in
+      some_one P (slice_get setup.exports named) (λ other k.
+      if_one P (nat_le (2 ^ 56) (side table named).count) (quiet strides e event table.now _ h refl (λ phase. refl) refl)
+      (if_told P (not (length (filter (waits_in named) table.rows) == 0)) (λ _. quiet strides e event table.now _ h refl (λ phase. refl) refl)
+      (λ idle. if_one P (not memory) (quiet strides e event table.now _ h refl (λ phase. refl) refl)
+      (quiet_side strides e event named table (with_rates rates) _ (rates_unseen named table rates idle) (reservation_kept strides e named table rates keeps) h refl (λ phase. refl))))) (quiet strides e event table.now _ h refl (λ phase. refl) refl)
 
   -- ---- whole runs
 
@@ -637,13 +662,13 @@ module _ {A : Type 0} where
       (LimitHoldsLater m e setup (step setup table event (get_or marks 0 true)).table events (drop 1 marks))
       (λ u. LimitHolds m e setup (step setup table event (get_or marks 0 true)).table events (drop 1 marks))
 
-  counted : (setup : Setup) (strides : Strides) (e t b : ℕ) (events : List (Event A)) (table : Table) (marks : List Bool) → Tidy e table → Virgin strides e table → LimitHoldsLater strides.limit e setup table events marks → first_accepted e events (answers_of setup table events marks) ≡ Some t →
+  pub counted : (setup : Setup) (strides : Strides) (e t b : ℕ) (events : List (Event A)) (table : Table) (marks : List Bool) → Tidy e table → Virgin strides e table → LimitHoldsLater strides.limit e setup table events marks → (strides.phase ≡ Reservation → AreKept e events) → first_accepted e events (answers_of setup table events marks) ≡ Some t →
       Within t (interval_of strides) b (choices e strides.phase b table.now events (answers_of setup table events marks))
-  counted setup strides e t b [] table marks tidy virgin holds first = absurd (none-some t first)
-  counted setup strides e t b (event ∷ events) table marks tidy virgin holds first =
-      go (step setup table event (get_or marks 0 true)) (first_step setup strides table e event (get_or marks 0 true) tidy.there virgin)
+  counted setup strides e t b [] table marks tidy virgin holds keeps first = absurd (none-some t first)
+  counted setup strides e t b (event ∷ events) table marks tidy virgin holds keeps first =
+      go (step setup table event (get_or marks 0 true)) (first_step setup strides table e event (get_or marks 0 true) tidy.there virgin (λ counts. (keeps counts).0))
       (tidy_step setup table e event (get_or marks 0 true) tidy) holds first
-      (λ virgin' holds' first'. counted setup strides e t b events (step setup table event (get_or marks 0 true)).table (drop 1 marks) (tidy_step setup table e event (get_or marks 0 true) tidy) virgin' holds' first')
+      (λ virgin' holds' first'. counted setup strides e t b events (step setup table event (get_or marks 0 true)).table (drop 1 marks) (tidy_step setup table e event (get_or marks 0 true) tidy) virgin' holds' (λ counts. (keeps counts).1) first')
     where
       go : (new : Outcome A) → First strides e event (now_after table.now event) new → Tidy e new.table →
           MatchOption (accepted_at e event new.answer) (LimitHoldsLater strides.limit e setup new.table events (drop 1 marks)) (λ u. LimitHolds strides.limit e setup new.table events (drop 1 marks)) →
@@ -660,58 +685,9 @@ module _ {A : Type 0} where
           rest (inl h) = ih h.1 (rw h.0 at holds) (rw h.0 at first)
           rest (inr h) =
               let same : h.0 ≡ t = same_Some h.0 t (rw h.1 at first) in
-              let all : Within t (interval_of strides) b (0 + choices e strides.phase b new.table.now events (answers_of setup new.table events (drop 1 marks))) = total setup strides e t b events new.table (drop 1 marks) 0 0 0 tidy' (subst (λ (u : ℕ). Paced strides e u 0 0 new.table) same h.2) (rw h.1 at holds) (none_yet strides.phase) (λ j is. absurd (omega (arith, is))) in
+              let all : Within t (interval_of strides) b (0 + choices e strides.phase b new.table.now events (answers_of setup new.table events (drop 1 marks))) = total setup strides e t b events new.table (drop 1 marks) 0 0 0 tidy' (subst (λ (u : ℕ). Paced strides e u 0 0 new.table) same h.2) (rw h.1 at holds) (λ counts. (keeps counts).1) (none_yet strides.phase) (λ j is. absurd (omega (arith, is))) in
               subst (λ (m : ℕ). Within t (interval_of strides) b m) (sym (zero_plus (choices e strides.phase b new.table.now events (answers_of setup new.table events (drop 1 marks))))) all
             where
               none_yet : (phase : Phase) → 0 ≤ by_phase 0 0 phase
               none_yet Reservation = omega arith
               none_yet Weight = omega arith
-
-  -- ---- rates that stay as they were at the start
-
-  limit_held : (setup : Setup) (terms : Terms) (e : ℕ) → slice_get setup.exports e ≡ Some terms → (events : List (Event A)) (table : Table) (marks : List Bool) → Tidy e table → (side table e).rates ≡ terms.rates → LimitHolds terms.rates.l_interval e setup table events marks
-  limit_held setup terms e there [] table marks tidy same = tt
-  limit_held setup terms e there (event ∷ events) table marks tidy same = (
-    λ u is. least (ap (λ (rates : Intervals). rates.l_interval) same),
-    limit_held setup terms e there events (step setup table event (get_or marks 0 true)).table (drop 1 marks) (tidy_step setup table e event (get_or marks 0 true) tidy) (rates_step setup terms table e event (get_or marks 0 true) there tidy ∙ same),
-  )
-    where
-      least : {m n : ℕ} → m ≡ n → n ≤ m
-      least e = omega (arith, e)
-
-  limit_held_later : (setup : Setup) (terms : Terms) (e : ℕ) → slice_get setup.exports e ≡ Some terms → (events : List (Event A)) (table : Table) (marks : List Bool) → Tidy e table → (side table e).rates ≡ terms.rates → LimitHoldsLater terms.rates.l_interval e setup table events marks
-  limit_held_later setup terms e there [] table marks tidy same = tt
-  limit_held_later setup terms e there (event ∷ events) table marks tidy same =
-      let next : Table = (step setup table event (get_or marks 0 true)).table in
-      let tidy' : Tidy e next = tidy_step setup table e event (get_or marks 0 true) tidy in
-      let same' : (side next e).rates ≡ terms.rates = rates_step setup terms table e event (get_or marks 0 true) there tidy ∙ same in
-      go (accepted_at e event (step setup table event (get_or marks 0 true)).answer)
-      (limit_held_later setup terms e there events next (drop 1 marks) tidy' same')
-      (limit_held setup terms e there events next (drop 1 marks) tidy' same')
-    where
-      go : {X Y : Type 0} (o : Option ℕ) → X → Y → MatchOption o X (λ u. Y)
-      go None x y = x
-      go (Some u) x y = y
-
-  -- from the opening table
-  counted_run : (run : Run A) (e : ℕ) (terms : Terms) (t b : ℕ) (phase : Phase) → HasExport run e terms → first_accepted e run.events (run_answers run.setup run.events run.marks) ≡ Some t → Within t (interval_of (strides_of terms phase)) b (choices e phase b 0 run.events (answers_in run))
-  counted_run run e terms t b phase there first =
-      counted run.setup (strides_of terms phase) e t b run.events (opening_table run.setup) run.marks tidy virgin (limit_held_later run.setup terms e there run.events (opening_table run.setup) run.marks tidy (ap (λ (s : Side). s.rates) opened)) first
-    where
-      tidy : Tidy e (opening_table run.setup)
-      tidy = opening_tidy run.setup e (slice_get_within run.setup.exports e terms there)
-
-      opened : side (opening_table run.setup) e ≡ opening_side terms
-      opened = opening_side_at run.setup terms e there
-
-      virgin : Virgin (strides_of terms phase) e (opening_table run.setup)
-      virgin = record { next = ap (λ (s : Side). s.next) opened; r = ap (λ (s : Side). s.last_r) opened; l = ap (λ (s : Side). s.last_l) opened; reserves = λ counts. ap (λ (s : Side). s.rates.r_interval) opened; rows = refl }
-
-  pub nothing_before : (run : Run A) (e : ℕ) (terms : Terms) (t b : ℕ) (phase : Phase) → HasExport run e terms → first_accepted e run.events (run_answers run.setup run.events run.marks) ≡ Some t → b < t → choices e phase b 0 run.events (answers_in run) ≡ 0
-  nothing_before run e terms t b phase there first lt = none_before t (interval_of (strides_of terms phase)) b (choices e phase b 0 run.events (answers_in run)) (counted_run run e terms t b phase there first) lt
-
-  pub bounded_by_limit : (run : Run A) (e : ℕ) (terms : Terms) (t b : ℕ) → HasExport run e terms → first_accepted e run.events (run_answers run.setup run.events run.marks) ≡ Some t → t ≤ b → 0 < terms.rates.l_interval → choices e Weight b 0 run.events (answers_in run) ≤ 1 + (b - t) / terms.rates.l_interval
-  bounded_by_limit run e terms t b there first le lt = at_most t terms.rates.l_interval b (choices e Weight b 0 run.events (answers_in run)) (counted_run run e terms t b Weight there first) lt
-
-  pub bounded_by_reservation : (run : Run A) (e : ℕ) (terms : Terms) (t b interval : ℕ) → HasExport run e terms → first_accepted e run.events (run_answers run.setup run.events run.marks) ≡ Some t → t ≤ b → terms.rates.r_interval ≡ Some interval → 0 < interval → choices e Reservation b 0 run.events (answers_in run) ≤ 1 + (b - t) / interval
-  bounded_by_reservation run e terms t b interval there first le is lt = at_most t interval b (choices e Reservation b 0 run.events (answers_in run)) (subst (λ (i : ℕ). Within t i b (choices e Reservation b 0 run.events (answers_in run))) (ap (λ o. unwrap_or o 0) is) (counted_run run e terms t b Reservation there first)) lt

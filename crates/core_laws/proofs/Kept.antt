@@ -1,5 +1,5 @@
 -- Every step keeps the order of each export's rows.
-use Rattle.std.proofs.Common.{◌≡◌, ◌≢◌, ℕ, suc, ◌<◌, ◌≤◌, Bool, true, false, not, ◌&&◌, ◌||◌, eqb, ◌==◌, List, [], ◌∷◌, ◌++◌, length, filter, slice_get, Option, Some, None, is_some, option_map, if◌then◌else◌, ℤ, pos, ◌-ℤ◌, ◌+ℤ◌, ◌≤ℤ◌, refl, sym, subst, ap, ◌∙◌, arith, ◌+◌, ◌⊎◌, inl}
+use Rattle.std.proofs.Common.{◌≡◌, ◌≢◌, ℕ, suc, ◌<◌, ◌≤◌, Bool, true, false, not, ◌&&◌, ◌||◌, eqb, ◌==◌, List, [], ◌∷◌, ◌++◌, length, filter, slice_get, Option, Some, None, is_some, option_map, if◌then◌else◌, ℤ, pos, ◌-ℤ◌, ◌+ℤ◌, ◌≤ℤ◌, refl, sym, subst, ap, ◌∙◌, arith, ◌+◌, ◌⊎◌, inl, inr}
 use Rattle.std.specs.Int.{int_max}
 use Rattle.std.specs.List.{AllByRecursion}
 use Rattle.std.proofs.lemmas.Int.{ints}
@@ -11,7 +11,9 @@ use Rattle.reply_box.specs.Sessions.{Session}
 use Rattle.server_table.specs.declared.event.Answer.TheVariants as said
 use Rattle.server_table.specs.Table.{Row, Side, Table, Choice, side, no_side, waits_in, is_idle, p_key, foremost, lower_p, lower_last_p, all_lowered, shifted, lower_r, lower_last_r, credited, put}
 use Rattle.tag_clock.specs.Tags.{later}
-use Rattle.server_table.specs.Steps.{Outcome, outcome, changed, with_sessions, is_out_row, new_row, with_last, accepted_in, done_side, undone_side, done_in, undone_in, send, sent, entered_in}
+use Rattle.tag_clock.specs.Intervals.{Intervals}
+use Rattle.tag_clock.specs.Clocks.{last_r_for}
+use Rattle.server_table.specs.Steps.{Outcome, outcome, changed, with_sessions, with_rates, is_out_row, new_row, with_last, accepted_in, done_side, undone_side, done_in, undone_in, send, sent, entered_in}
 use Rattle.server_table.specs.Order.{TagBefore}
 use Rattle.lone_export.proofs.Cases.{if_one, some_one}
 use Rattle.nbd_base.proofs.Words.{length-change_at}
@@ -274,6 +276,17 @@ pub record IsUnseen (f : ℕ) (table : Table) (change : Side → Side) : Type 0 
 -- other sessions leave all of these
 pub sessions_unseen : (f : ℕ) (table : Table) (sessions : List Session) → IsUnseen f table (with_sessions sessions)
 sessions_unseen f table sessions = record { next = refl; l = refl; p = refl; r = inl refl; active = λ h. (refl, refl) }
+
+-- so do other rates where nothing waits
+pub rates_unseen : (f : ℕ) (table : Table) (rates : Intervals) → not (is_idle f table.rows) ≡ false → IsUnseen f table (with_rates rates)
+rates_unseen f table rates idle = record { next = refl; l = refl; p = refl; r = stays_or_goes rates.r_interval (side table f).last_r; active = λ h. absurd (differ (is_idle f table.rows) idle h) }
+  where
+    stays_or_goes : (o : Option ℕ) (last : Option ℤ) → (last_r_for o last ≡ last) ⊎ (last_r_for o last ≡ None)
+    stays_or_goes None last = inr refl
+    stays_or_goes (Some i) last = inl refl
+
+    differ : (b : Bool) → not b ≡ false → b ≡ false → ⊥
+    differ b h k = grind (arith, h, k)
 
 tidy_side : (e f : ℕ) (table : Table) (change : Side → Side) → IsUnseen f table change → Tidy e table → Tidy e (changed f table table.rows change)
 tidy_side e f table change unseen tidy = record {

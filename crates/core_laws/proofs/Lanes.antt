@@ -15,19 +15,19 @@ use Rattle.tag_clock.specs.Clocks.{lowered}
 use Rattle.reply_box.specs.Sessions.{is_here, is_open_at, is_left_at, is_here_at, outbox_at}
 use Rattle.lone_export.specs.Alone.{Alone}
 use Rattle.server_table.specs.declared.event.Event.{Event}
-use Rattle.server_table.specs.declared.event.Event.TheVariants.{Attach, Arrive, Dispatch, Perform, Take, Leave, Gone}
+use Rattle.server_table.specs.declared.event.Event.TheVariants.{Attach, Arrive, Dispatch, Perform, Take, Leave, Gone, Retune}
 use Rattle.server_table.specs.declared.event.Answer.{Answer}
 use Rattle.server_table.specs.declared.event.Answer.TheVariants as said
 use Rattle.server_table.specs.Table.{Row, Side, Table, Setup, Choice, side, no_side, waits_in, is_idle, foremost, p_key, lower_p, lower_last_p, all_lowered, shifted, lower_r, lower_last_r, credited, put, choice}
-use Rattle.server_table.specs.Steps.{Outcome, outcome, step, changed, with_sessions, is_out_row, outstanding_in, new_row, with_last, accepted_in, done_side, undone_side, done_in, undone_in, send, sent, is_by_weight, with_credit, entered_in}
+use Rattle.server_table.specs.Steps.{Outcome, outcome, step, changed, with_sessions, with_rates, is_out_row, outstanding_in, new_row, with_last, accepted_in, done_side, undone_side, done_in, undone_in, send, sent, is_by_weight, with_credit, entered_in}
 use Rattle.server_table.specs.Shares.{is_choice_of}
 use Rattle.core_laws.specs.Counts.{is_choice_in, is_accepted}
 use Rattle.core_laws.specs.Shares.{shift_at, fall}
-use Rattle.lone_export.proofs.Cases.{true_false, if_one, if_both, some_one, some_told}
+use Rattle.lone_export.proofs.Cases.{true_false, if_one, if_told, if_both, some_one, some_told}
 use Rattle.core_laws.proofs.Lists.{filter-map, map-map_same, all_pass, get_or-change_at, get_or-change_at_other, get_or-change_each, unseen-change_at, unseen_there}
 use Rattle.core_laws.proofs.Parts.{put_own, put_other, waits_here, waits_kept, part_shifted, length-shifted}
 use Rattle.core_laws.proofs.Tidy.{Sorted, is_of, rows_of, is_of_all, map_same_on, filter-and, is_sent, rest_same, Tidy}
-use Rattle.core_laws.proofs.Kept.{IsUnseen, sessions_unseen}
+use Rattle.core_laws.proofs.Kept.{IsUnseen, sessions_unseen, rates_unseen}
 use Rattle.core_laws.proofs.Chosen.{choice_first}
 
 -- a waiting request's number and P tag
@@ -402,3 +402,11 @@ module _ {A : Type 0} where
       let P = Goes e table event in
       some_one P (slice_get setup.exports named) (λ other h.
       if_one P (not (is_here_at (side table named).sessions s)) (still e table event _ refl (λ f. refl) (λ f phase. refl) refl) (still e table event _ (lane_side e named table (with_sessions _) (sessions_unseen named table _)) (λ f. refl) (λ f phase. refl) refl)) (still e table event _ refl (λ f. refl) (λ f phase. refl) refl)
+  goes setup table e (Retune named rates) memory tidy =
+      let event : Event A = Retune named rates in
+      let P = Goes e table event in
+      some_one P (slice_get setup.exports named) (λ other h.
+      if_one P (nat_le (2 ^ 56) (side table named).count) (still e table event _ refl (λ f. refl) (λ f phase. refl) refl)
+      (if_told P (not (length (filter (waits_in named) table.rows) == 0)) (λ h. still e table event _ refl (λ f. refl) (λ f phase. refl) refl)
+      (λ idle. if_one P (not memory) (still e table event _ refl (λ f. refl) (λ f phase. refl) refl)
+      (still e table event _ (lane_side e named table (with_rates rates) (rates_unseen named table rates idle)) (λ f. refl) (λ f phase. refl) refl)))) (still e table event _ refl (λ f. refl) (λ f phase. refl) refl)

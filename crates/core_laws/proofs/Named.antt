@@ -3,7 +3,7 @@ use Rattle.std.proofs.Common.{◌≡◌, ◌≢◌, ℕ, ◌+◌, ◌<◌, ◌^�
 use Rattle.std.proofs.lemmas.Bool.Decides.{nat_tests}
 use Rattle.nbd_wire.specs.Grammar.{RequestMessage, ReplyMessage}
 use Rattle.server_table.specs.declared.event.Event.{Event}
-use Rattle.server_table.specs.declared.event.Event.TheVariants.{Attach, Arrive, Dispatch, Perform, Take, Leave, Gone}
+use Rattle.server_table.specs.declared.event.Event.TheVariants.{Attach, Arrive, Dispatch, Perform, Take, Leave, Gone, Retune}
 use Rattle.server_table.specs.declared.event.Answer.{Answer}
 use Rattle.server_table.specs.declared.event.Answer.TheVariants as said
 use Rattle.lone_export.specs.declared.step.Step.{Step}
@@ -16,7 +16,7 @@ use Rattle.nbd_commands.specs.Meaning.{may_want_memory}
 use Rattle.reply_box.specs.Sessions.{Session, is_here, new_session, is_open_at, is_left_at, is_here_at, outbox_at, post_at, take_at, leave_at, drop_at}
 use Rattle.lone_export.specs.Alone.{Alone, Moved, own_step, outstanding, accepted, refused, done, undone, stays, moves}
 use Rattle.server_table.specs.Table.{Row, Side, Table, Setup, side, waits_in, is_out_in, job_of, part, shifted, put}
-use Rattle.server_table.specs.Steps.{Outcome, outcome, changed, with_sessions, is_out_row, outstanding_in, refused_in, new_row, with_last, accepted_in, done_in, undone_in, done_side, undone_side, step, entered_in, seated}
+use Rattle.server_table.specs.Steps.{Outcome, outcome, changed, with_sessions, with_rates, is_out_row, outstanding_in, refused_in, new_row, with_last, accepted_in, done_in, undone_in, done_side, undone_side, step, entered_in, seated}
 use Rattle.server_table.specs.Shares.{as_alone, is_made, mark_of, own_of}
 use Rattle.lone_export.proofs.Cases.{if_both, if_one, if_told, some_one, some_told, some_both}
 use Rattle.std.proofs.lemmas.List.{map-append, length-map}
@@ -111,6 +111,7 @@ module _ {A : Type 0} where
   IsNamed f (Take named s) = f ≡ named
   IsNamed f (Leave named s) = f ≡ named
   IsNamed f (Gone named s) = f ≡ named
+  IsNamed f (Retune named rates) = f ≡ named
 
   leaves_named : (setup : Setup) (table : Table) (e f : ℕ) (event : Event A) (memory : Bool) → IsNamed f event → e ≢ f → Leaves e table (step setup table event memory)
   leaves_named setup table e f (Attach named) memory is differ =
@@ -155,6 +156,13 @@ module _ {A : Type 0} where
       let P = Leaves e table in
       some_one P (slice_get setup.exports named) (λ terms there.
       if_one P (not (is_here_at (side table named).sessions s)) (leaves_all e table _) (leaves_side e named table (with_sessions _) _ away)) (leaves_all e table _)
+  leaves_named setup table e f (Retune named rates) memory is differ =
+      let away : e ≢ named = λ x. differ (x ∙ sym is) in
+      let P = Leaves e table in
+      some_one P (slice_get setup.exports named) (λ terms there.
+      if_one P (nat_le (2 ^ 56) (side table named).count) (leaves_all e table _)
+      (if_one P (not (length (filter (waits_in named) table.rows) == 0)) (leaves_all e table _)
+      (if_one P (not memory) (leaves_all e table _) (leaves_side e named table (with_rates rates) _ away)))) (leaves_all e table _)
 
   pub leaves : (setup : Setup) (table : Table) (e f : ℕ) (event : Event A) (memory : Bool) → IsNamed f event → e ≢ f → part e (step setup table event memory).table ≡ part e table
   leaves setup table e f event memory is differ = (leaves_named setup table e f event memory is differ).same
@@ -234,6 +242,16 @@ module _ {A : Type 0} where
       (if_both (Fits e table) (not (is_here_at (side table e).sessions s)) (not (is_here_at (side table e).sessions s)) refl (fits_stays e table said.NotOpen alone.NotOpen refl refl)
       (fits_sessions e table (drop_at s (side table e).sessions) said.Dropped alone.Dropped refl refl lt))
 
+  fits_retune : (setup : Setup) (terms : Terms) (table : Table) (e : ℕ) (rates : Intervals) (memory : Bool) → slice_get setup.exports e ≡ Some terms → e < length table.sides → Fits e table (step {A = A} setup table (Retune e rates) memory) (own_step terms (part e table) (own.Retune rates))
+  fits_retune setup terms table e rates memory there lt =
+      let P = Fits e table in
+      rw there
+      (if_both P (nat_le (2 ^ 56) (side table e).count) (nat_le (2 ^ 56) (side table e).count) refl (fits_stays e table said.Worn alone.Worn refl refl)
+      (if_both P (not (length (filter (waits_in e) table.rows) == 0)) (not (length (part e table).waiting == 0)) (ap (λ n. not (n == 0)) (waits_same e table)) (fits_stays e table said.Waiting alone.Waiting refl refl)
+      (if_one (λ new. P new (moves (record (part e table) { rates = rates }) alone.Retuned)) (not memory)
+      (record { is = refl })
+      (fits_side e table (with_rates rates) (record (part e table) { rates = rates }) said.Retuned alone.Retuned refl refl lt refl))))
+
   -- a request that is out is performed, by the mark that the answer shows
   fits_undone : (e : ℕ) (table : Table) (row : Row) → e < length table.sides → Fits e table (outcome (undone_in e row table) (said.Performed false)) (moves (undone (part e table) (job_of row)) (alone.Performed false))
   fits_undone e table row lt = record { is = (part_own e table (filter (λ other. not (is_out_row e row.number other)) table.rows) (undone_side row) lt ∙ rw (waits_kept e e row.number table.rows, out_removed e row.number table.rows) refl, refl) }
@@ -260,4 +278,5 @@ module _ {A : Type 0} where
       go (Perform named n) is = subst (λ (k : ℕ). Agrees terms e table (Perform k n) (step setup table (Perform k n) memory)) is (agrees_own terms e table _ (own.Perform n (mark_of (step setup table (Perform e n) memory).answer)) (fits_perform setup terms table e n memory lt))
       go (Take named s) is = subst (λ (k : ℕ). Agrees terms e table (Take k s) (step setup table (Take k s) memory)) is (agrees_own terms e table _ (own.Take s) (fits_take setup terms table e s memory there lt))
       go (Leave named s) is = subst (λ (k : ℕ). Agrees terms e table (Leave k s) (step setup table (Leave k s) memory)) is (agrees_own terms e table _ (own.Leave s) (fits_leave setup terms table e s memory there lt))
+      go (Retune named rates) is = subst (λ (k : ℕ). Agrees terms e table (Retune k rates) (step setup table (Retune k rates) memory)) is (agrees_own terms e table _ (own.Retune rates) (fits_retune setup terms table e rates memory there lt))
       go (Gone named s) is = subst (λ (k : ℕ). Agrees terms e table (Gone k s) (step setup table (Gone k s) memory)) is (agrees_own terms e table _ (own.Gone s) (fits_gone setup terms table e s memory there lt))

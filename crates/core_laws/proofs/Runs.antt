@@ -1,10 +1,10 @@
 -- Whole runs: each step is an own step of the export, or leaves its part.
-use Rattle.std.proofs.Common.{◌≡◌, ◌≢◌, ℕ, max, Bool, true, false, ◌&&◌, ◌<◌, eqb, List, [], ◌∷◌, length, map, get_or, take, drop, slice_get, Option, Some, None, option_map, if◌then◌else◌, refl, sym, subst, ap, ◌∙◌, arith}
+use Rattle.std.proofs.Common.{◌≡◌, ◌≢◌, ◌⊎◌, inl, inr, ℕ, max, Bool, true, false, ◌&&◌, ◌<◌, eqb, ◌==◌, List, [], ◌∷◌, length, filter, map, get_or, take, drop, slice_get, Option, Some, None, option_map, if◌then◌else◌, refl, sym, subst, ap, ◌∙◌, arith}
 use Rattle.std.proofs.lemmas.Bool.Decides.{nat_tests}
 use Rattle.std.proofs.lemmas.Option.{same_Some, none-some, slice_get-map, slice_get_within, get_or_from_slice_get}
 use Rattle.tag_clock.specs.declared.Phase.{Phase}
 use Rattle.server_table.specs.declared.event.Event.{Event}
-use Rattle.server_table.specs.declared.event.Event.TheVariants.{Attach, Arrive, Dispatch, Perform, Take, Leave, Gone}
+use Rattle.server_table.specs.declared.event.Event.TheVariants.{Attach, Arrive, Dispatch, Perform, Take, Leave, Gone, Retune}
 use Rattle.server_table.specs.declared.event.Answer.{Answer}
 use Rattle.server_table.specs.declared.event.Answer.TheVariants as said
 use Rattle.lone_export.specs.declared.step.Step.{Step}
@@ -12,13 +12,12 @@ use Rattle.lone_export.specs.declared.step.Step.TheVariants as own
 use Rattle.lone_export.specs.declared.step.StepAnswer.{StepAnswer}
 use Rattle.nbd_commands.specs.Terms.{Terms}
 use Rattle.lone_export.specs.Alone.{Alone, opening, own_step, alone, answers_alone}
-use Rattle.server_table.specs.Table.{Side, Table, Setup, side, no_side, part, opening_side, opening_table, choice}
+use Rattle.server_table.specs.Table.{Row, Side, Table, Setup, side, no_side, part, job_of, waits_in, is_idle, opening_side, opening_table, choice}
 use Rattle.server_table.specs.Steps.{Outcome, step, sent, table_after, answers_of}
 use Rattle.server_table.specs.Shares.{as_alone, own_of, own, told, named, is_made, mark_of}
 use Rattle.core_laws.specs.Runs.{Run, HasExport, own_steps, told_answers, last_part}
-use Rattle.core_laws.specs.Statements.{table_before}
 use Rattle.lone_export.proofs.Cases.{some_told}
-use Rattle.lone_export.proofs.Tags.{rates_of_step, rates_of_steps}
+use Rattle.lone_export.proofs.Tags.{rates_of_step}
 use Rattle.std.proofs.lemmas.List.{length-map}
 use Rattle.core_laws.proofs.Named.{Agrees, IsNamed, leaves, agrees_named, agrees_other}
 use Rattle.core_laws.proofs.Tidy.{Tidy}
@@ -56,6 +55,7 @@ module _ {A : Type 0} where
   agrees setup terms table e (Take f s) memory there tidy = by_name setup terms table e f (Take f s) memory (own.Take s) there tidy refl refl (eqb e f) refl
   agrees setup terms table e (Leave f s) memory there tidy = by_name setup terms table e f (Leave f s) memory (own.Leave s) there tidy refl refl (eqb e f) refl
   agrees setup terms table e (Gone f s) memory there tidy = by_name setup terms table e f (Gone f s) memory (own.Gone s) there tidy refl refl (eqb e f) refl
+  agrees setup terms table e (Retune f rates) memory there tidy = by_name setup terms table e f (Retune f rates) memory (own.Retune rates) there tidy refl refl (eqb e f) refl
 
   -- ---- runs
 
@@ -87,26 +87,39 @@ module _ {A : Type 0} where
 
   -- ---- the rates in force
 
-  pub rates_step : (setup : Setup) (terms : Terms) (table : Table) (e : ℕ) (event : Event A) (memory : Bool) → slice_get setup.exports e ≡ Some terms → Tidy e table → (side (step setup table event memory).table e).rates ≡ (side table e).rates
+  -- an event leaves the rates of export e, or no request of it waits before it and after it
+  abbrev pub Steady : ℕ → Table → Table → Type 0
+  Steady e old new = ((side new e).rates ≡ (side old e).rates) ⊎ ((filter (waits_in e) old.rows ≡ []) × (filter (waits_in e) new.rows ≡ []))
+
+  pub rates_step : (setup : Setup) (terms : Terms) (table : Table) (e : ℕ) (event : Event A) (memory : Bool) → slice_get setup.exports e ≡ Some terms → Tidy e table → Steady e table (step setup table event memory).table
   rates_step setup terms table e event memory there tidy = go (own_of e event new.answer) refl (agrees setup terms table e event memory there tidy)
     where
       new : Outcome A
       new = step setup table event memory
 
-      go : (o : Option (Step A)) → own_of e event new.answer ≡ o → Agrees terms e table event new → (side new.table e).rates ≡ (side table e).rates
+      none : (xs : List Row) → map job_of xs ≡ [] → xs ≡ []
+      none [] h = refl
+      none (x ∷ xs) h = absurd (cc)
+
+      go : (o : Option (Step A)) → own_of e event new.answer ≡ o → Agrees terms e table event new → Steady e table new.table
       go None is agreed =
           let same : part e new.table ≡ part e table = rw is at agreed in
-          ap (λ (a : Alone). a.rates) same
+          inl (ap (λ (a : Alone). a.rates) same)
       go (Some one) is agreed =
           let both : (part e new.table ≡ (own_step terms (part e table) one).state) × (as_alone new.answer ≡ Some (own_step terms (part e table) one).answer) = rw is at agreed in
-          ap (λ (a : Alone). a.rates) both.0 ∙ rates_of_step terms (part e table) one
+          by both.0 (rates_of_step terms (part e table) one)
+        where
+          by : part e new.table ≡ (own_step terms (part e table) one).state → ((own_step terms (part e table) one).state.rates ≡ (part e table).rates) ⊎ (((part e table).waiting ≡ []) × ((own_step terms (part e table) one).state.waiting ≡ [])) → Steady e table new.table
+          by same (inl h) = inl (ap (λ (a : Alone). a.rates) same ∙ h)
+          by same (inr h) = inr (none (filter (waits_in e) table.rows) h.0, none (filter (waits_in e) new.table.rows) (ap (λ (a : Alone). a.waiting) same ∙ h.1))
 
-  -- those at the start, at each place of a run
-  pub rates_before : (setup : Setup) (terms : Terms) (e k : ℕ) (events : List (Event A)) (marks : List Bool) → slice_get setup.exports e ≡ Some terms → (side (table_before k setup events marks) e).rates ≡ terms.rates
-  rates_before setup terms e k events marks there =
-      ap (λ (a : Alone). a.rates) (from_opening setup terms e (take k events) marks there).last
-      ∙ rates_of_steps terms (own e (take k events) (answers_of setup (opening_table setup) (take k events) marks)) (part e (opening_table setup))
-      ∙ ap (λ (s : Side). s.rates) (opening_side_at setup terms e there)
+  -- while a request waits the rates stay
+  pub rates_kept : (setup : Setup) (terms : Terms) (table : Table) (e : ℕ) (event : Event A) (memory : Bool) → slice_get setup.exports e ≡ Some terms → Tidy e table → is_idle e table.rows ≡ false → (side (step setup table event memory).table e).rates ≡ (side table e).rates
+  rates_kept setup terms table e event memory there tidy active = by (rates_step setup terms table e event memory there tidy)
+    where
+      by : Steady e table (step setup table event memory).table → (side (step setup table event memory).table e).rates ≡ (side table e).rates
+      by (inl same) = same
+      by (inr none) = absurd (let idle : is_idle e table.rows ≡ true = ap (λ (xs : List Row). length xs == 0) none.0 in cc)
 
   pub told_alone : (run : Run A) (e : ℕ) (terms : Terms) → HasExport run e terms → told_answers e run ≡ answers_alone terms (opening terms) (own_steps e run)
   told_alone run e terms there = rw (← opening_part run.setup terms e there) (from_opening run.setup terms e run.events run.marks there).told
@@ -127,6 +140,7 @@ module _ {A : Type 0} where
       names (Take named s) is = sym (same_Some named f is)
       names (Leave named s) is = sym (same_Some named f is)
       names (Gone named s) is = sym (same_Some named f is)
+      names (Retune named rates) is = sym (same_Some named f is)
 
   pub leaves_unchosen : (setup : Setup) (table : Table) (e f n t : ℕ) (phase : Phase) (memory : Bool) → (step {A = A} setup table (Dispatch t) memory).answer ≡ said.Picked f n phase → e ≢ f → part e (step {A = A} setup table (Dispatch t) memory).table ≡ part e table
   leaves_unchosen setup table e f n t phase memory =

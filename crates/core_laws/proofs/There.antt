@@ -3,7 +3,7 @@ use Rattle.std.proofs.Common.{ℕ, ◌<◌, ◌^◌, max, Bool, not, ◌&&◌, n
 use Rattle.std.specs.List.{AllByRecursion}
 use Rattle.std.proofs.lemmas.Option.{slice_get_within}
 use Rattle.server_table.specs.declared.event.Event.{Event}
-use Rattle.server_table.specs.declared.event.Event.TheVariants.{Attach, Arrive, Dispatch, Perform, Take, Leave, Gone}
+use Rattle.server_table.specs.declared.event.Event.TheVariants.{Attach, Arrive, Dispatch, Perform, Take, Leave, Gone, Retune}
 use Rattle.nbd_commands.specs.Verdict.{verdict_of}
 use Rattle.nbd_commands.specs.Meaning.{may_want_memory}
 use Rattle.reply_box.specs.Sessions.{is_here, is_open_at, is_left_at, is_here_at, outbox_at}
@@ -82,6 +82,12 @@ module _ {A : Type 0} where
       let P = StaysThere setup in
       some_one P (slice_get setup.exports named) (λ other h.
       if_one P (not (is_here_at (side table named).sessions s)) (record { is = a }) (record { is = record { rows = a.rows } })) (record { is = a })
+  there_after setup table (Retune named rates) memory a =
+      let P = StaysThere setup in
+      some_one P (slice_get setup.exports named) (λ other h.
+      if_one P (nat_le (2 ^ 56) (side table named).count) (record { is = a })
+      (if_one P (not (length (filter (waits_in named) table.rows) == 0)) (record { is = a })
+      (if_one P (not memory) (record { is = a }) (record { is = record { rows = a.rows } })))) (record { is = a })
 
   pub there_step : (setup : Setup) (table : Table) (event : Event A) (memory : Bool) → AllThere setup table → AllThere setup (step setup table event memory).table
   there_step setup table event memory a = (there_after setup table event memory a).is

@@ -7,7 +7,7 @@ use Rattle.std.proofs.lemmas.Option.{same_Some, none-some}
 use Rattle.nbd_wire.specs.Grammar.{RequestMessage}
 use Rattle.tag_clock.specs.Tags.{later}
 use Rattle.server_table.specs.declared.event.Event.{Event}
-use Rattle.server_table.specs.declared.event.Event.TheVariants.{Attach, Arrive, Dispatch, Perform, Take, Leave, Gone}
+use Rattle.server_table.specs.declared.event.Event.TheVariants.{Attach, Arrive, Dispatch, Perform, Take, Leave, Gone, Retune}
 use Rattle.server_table.specs.declared.event.Answer.{Answer}
 use Rattle.server_table.specs.declared.event.Answer.TheVariants as said
 use Rattle.server_table.specs.Table.{Row, Table, Setup, side, waits_in, is_idle, opening_table}
@@ -15,10 +15,13 @@ use Rattle.server_table.specs.Steps.{Outcome, step, run_answers}
 use Rattle.server_table.specs.Shares.{is_choice_of}
 use Rattle.core_laws.specs.Counts.{is_accepted}
 use Rattle.core_laws.specs.Statements.{StandsAt, table_before}
-use Rattle.core_laws.specs.Shares.{shift_at, fall, fallen_before, in_terms_of, chosen_before, weight_choices, all_choices, WaitsThrough, GoesFrom}
+use Rattle.core_laws.specs.Shares.{shift_at, fall, fallen_before, in_terms_of, chosen_before, weight_choices, all_choices, p_interval_at, WaitsThrough, GoesFrom, ArriveInTime}
 use Rattle.lone_export.proofs.Cases.{if_one}
 use Rattle.core_laws.proofs.Lanes.{Turn, Lane, lane, turn_of, turn_lowered, lane_lowered, lane_unlowered, lane_pushed, lane_popped, lane_after, IsQuiet, Goes, goes}
-use Rattle.core_laws.proofs.Chains.{IsChain, Chained, IsWaiting, Reached, ReachedThrough, moves_at}
+use Rattle.core_laws.proofs.Chains.{IsChain, Chained, IsWaiting, Reached, ReachedThrough, moves_at, reached_before, reached_through}
+use Rattle.core_laws.proofs.Runs.{Steady, rates_step}
+use Rattle.tag_clock.specs.Intervals.{Intervals}
+use Rattle.nbd_commands.specs.Terms.{Terms}
 use Rattle.core_laws.proofs.Onward.{along, counted, Ended, OnwardBy, onward}
 use Rattle.core_laws.proofs.Beside.{waiting_is, Alongside, bounded}
 
@@ -130,6 +133,7 @@ module _ (A : Type 0) (setup : Setup) (f interval a b : ℕ) where
       go (Take g s) in_time = h
       go (Leave g s) in_time = h
       go (Gone g s) in_time = h
+      go (Retune g rates) in_time = h
 
 -- ---- the first request
 
@@ -214,6 +218,7 @@ module _ (A : Type 0) (f interval a b n : ℕ) (v : ℤ) (lane : Lane) (chained 
   head_after table (Take g s) said quiet waits = rw (quiet tt) stays
   head_after table (Leave g s) said quiet waits = rw (quiet tt) stays
   head_after table (Gone g s) said quiet waits = rw (quiet tt) stays
+  head_after table (Retune g rates) said quiet waits = rw (quiet tt) stays
 
 -- ---- from place to place
 
@@ -235,35 +240,41 @@ of_head b v [] row first e = absurd (none-some row first)
 of_head b v (x ∷ xs) row first e = (ap (λ (r : Row). r.number) (same_Some x row first), λ le. ap (λ (r : Row). r.p) (same_Some x row first) ∙ e)
 
 module _ {A : Type 0} where
-  -- each request behind `start`, up to `end`, arrives no later than an interval after the last P tag
-  abbrev pub InTimeAt : ℕ → ℕ → Row → Row → Setup → List (Event A) → List (Answer A) → List Bool → Type 0
-  InTimeAt f interval start end setup events answers marks = (k s t n : ℕ) (q : RequestMessage) (tag last : ℤ) →
-      StandsAt k events answers (Arrive f s t q) (said.Accepted n tag) → start.number < n → n ≤ end.number →
-      (side (table_before k setup events marks) f).last_p ≡ Some last → pos t ≤ℤ (last +ℤ pos interval)
-
-  module _ (setup : Setup) (f interval : ℕ) (events : List (Event A)) (marks : List Bool) (start end : Row) (reached_at : (k : ℕ) → Reached f interval (table_before k setup events marks)) (in_time : InTimeAt f interval start end setup events (run_answers setup events marks) marks) where
+  module _ (setup : Setup) (terms : Terms) (f : ℕ) (there : slice_get setup.exports f ≡ Some terms) (events : List (Event A)) (marks : List Bool) (start end : Row) (in_time : ArriveInTime f start end setup events (run_answers setup events marks) marks) where
     abbrev answers : List (Answer A)
     answers = run_answers setup events marks
 
     abbrev at_place : (k : ℕ) → Table
     at_place k = table_before k setup events marks
 
-    timely_before : (k : ℕ) → IsTimely interval start.number end.number (lane f (at_place k)).waiting
+    abbrev interval_at : (k : ℕ) → ℕ
+    interval_at k = p_interval_at f k setup events marks
+
+    reached_at : (k : ℕ) → Reached f (p_interval_at f k setup events marks) (table_before k setup events marks)
+    reached_at k = reached_before setup terms f k events marks there
+
+    timely_before : (k : ℕ) → IsTimely (interval_at k) start.number end.number (lane f (at_place k)).waiting
     timely_before zero = tt
     timely_before (suc k) = go (onward setup events (opening_table setup) marks k) (timely_before k)
       where
-        go : Ended setup (opening_table setup) events marks k ⊎ OnwardBy setup (opening_table setup) events marks k → IsTimely interval start.number end.number (lane f (at_place k)).waiting → IsTimely interval start.number end.number (lane f (at_place (suc k))).waiting
-        go (inl ended) h = rw ended.tables h
-        go (inr next) h = rw next.by.tables (timely_step A setup f interval start.number end.number (at_place k) next.event next.memory (reached_at k)
-            (λ s t n q tag last is told low up before. in_time k s t n q tag last (next.by.stands ∙ ap Some is, next.by.answered ∙ ap Some told) low up before) h)
+        -- other rates leave no request
+        renewed : (new : Table) → Steady {A = A} f (at_place k) new → IsTimely (interval_at k) start.number end.number (lane f new).waiting → IsTimely (side new f).rates.p_interval start.number end.number (lane f new).waiting
+        renewed new (inl same) h = subst (λ (rates : Intervals). IsTimely rates.p_interval start.number end.number (lane f new).waiting) (sym same) h
+        renewed new (inr none) h = subst (λ (xs : List Row). IsTimely (side new f).rates.p_interval start.number end.number (map turn_of xs)) (sym none.1) tt
 
-    record HeadAt (i k : ℕ) : Type 0 where
+        go : Ended setup (opening_table setup) events marks k ⊎ OnwardBy setup (opening_table setup) events marks k → IsTimely (interval_at k) start.number end.number (lane f (at_place k)).waiting → IsTimely (interval_at (suc k)) start.number end.number (lane f (at_place (suc k))).waiting
+        go (inl ended) h = rw ended.tables h
+        go (inr next) h = rw next.by.tables (renewed (step setup (at_place k) next.event next.memory).table (rates_step setup terms (at_place k) f next.event next.memory there (reached_at k).tidy)
+            (timely_step A setup f (interval_at k) start.number end.number (at_place k) next.event next.memory (reached_at k)
+            (λ s t n q tag last is told low up before. in_time k s t n q tag last (next.by.stands ∙ ap Some is, next.by.answered ∙ ap Some told) low up before) h))
+
+    record HeadAt (interval i k : ℕ) : Type 0 where
       count : ℕ
       chosen : chosen_before (is_choice_of f) k answers ≡ chosen_before (is_choice_of f) i answers + count
       head : IsHead (start.number + count) end.number (in_terms_of i k setup events marks start.p +ℤ pos (count * interval)) (lane f (at_place k)).waiting
 
-    head_at : (i j : ℕ) → GoesFrom f i j setup events marks start end → WaitsThrough f i j setup events marks → HeadAt i j
-    head_at i j goes_from waits = along (HeadAt i) i j goes_from.order base onward_one
+    head_at : (interval i j : ℕ) → ReachedThrough f interval i j setup events marks → GoesFrom f i j setup events marks start end → WaitsThrough f i j setup events marks → HeadAt interval i j
+    head_at interval i j through goes_from waits = along (HeadAt interval i) i j goes_from.order base onward_one
       where
         zero_plus : (n : ℕ) → n ≡ n + 0
         zero_plus n = omega arith
@@ -271,7 +282,7 @@ module _ {A : Type 0} where
         nothing : (p a : ℤ) (i : ℕ) → p ≡ (p -ℤ (a -ℤ a)) +ℤ pos (0 * i)
         nothing p a i = omega (arith, ints)
 
-        base : HeadAt i i
+        base : HeadAt interval i i
         base = record {
           count = 0;
           chosen = zero_plus (chosen_before (is_choice_of f) i answers);
@@ -285,13 +296,16 @@ module _ {A : Type 0} where
         upto : (k : ℕ) → k < j → suc k ≤ j
         upto k lt = omega (arith, lt)
 
+        before : (k : ℕ) → k < j → k ≤ j
+        before k lt = omega (arith, lt)
+
         at_least : (n c : ℕ) → n ≤ n + c
         at_least n c = omega arith
 
-        onward_one : (k : ℕ) → i ≤ k → k < j → HeadAt i k → HeadAt i (suc k)
+        onward_one : (k : ℕ) → i ≤ k → k < j → HeadAt interval i k → HeadAt interval i (suc k)
         onward_one k low lt h = go (onward setup events (opening_table setup) marks k)
           where
-            go : Ended setup (opening_table setup) events marks k ⊎ OnwardBy setup (opening_table setup) events marks k → HeadAt i (suc k)
+            go : Ended setup (opening_table setup) events marks k ⊎ OnwardBy setup (opening_table setup) events marks k → HeadAt interval i (suc k)
             go (inl ended) = record {
               count = h.count;
               chosen = ap (λ (xs : List (Answer A)). length (filter (is_choice_of f) xs)) ended.answers ∙ h.chosen;
@@ -305,7 +319,7 @@ module _ {A : Type 0} where
                   (is_head_as (start.number + h.count + one_if (is_choice_of f new.answer)) (start.number + (h.count + one_if (is_choice_of f new.answer))) end.number _ after
                   (lane_after f interval next.event new.answer by (lane f (at_place k))).waiting (sum start.number h.count (one_if (is_choice_of f new.answer)))
                   (terms_at start.p (fallen_before k setup events marks) (fallen_before i setup events marks) by h.count (one_if (is_choice_of f new.answer)) interval)
-                  (head_after A f interval start.number end.number (start.number + h.count) (in_terms_of i k setup events marks start.p +ℤ pos (h.count * interval)) (lane f (at_place k)) reached.chained (timely_before k) (at_least start.number h.count) h.head
+                  (head_after A f interval start.number end.number (start.number + h.count) (in_terms_of i k setup events marks start.p +ℤ pos (h.count * interval)) (lane f (at_place k)) reached.chained timely (at_least start.number h.count) h.head
                   (at_place k) next.event new.answer (λ q. is.quiet q f)
                   (subst (λ (l : Lane). IsWaiting l.waiting) moves (subst (λ (t : Table). IsWaiting (lane f t).waiting) next.by.tables (waiting_is f (at_place (suc k)) (waits (suc k) (above k low) (upto k lt))))))));
             }
@@ -320,7 +334,10 @@ module _ {A : Type 0} where
                 after = (start.p -ℤ ((fallen_before k setup events marks +ℤ by) -ℤ fallen_before i setup events marks)) +ℤ pos ((h.count + one_if (is_choice_of f new.answer)) * interval)
 
                 reached : Reached f interval (at_place k)
-                reached = reached_at k
+                reached = through k low (before k lt)
+
+                timely : IsTimely interval start.number end.number (lane f (at_place k)).waiting
+                timely = subst (λ (n : ℕ). IsTimely n start.number end.number (lane f (at_place k)).waiting) reached.rate (timely_before k)
 
                 is : Goes f (at_place k) next.event new
                 is = goes setup (at_place k) f next.event next.memory reached.tidy
@@ -334,24 +351,27 @@ module _ {A : Type 0} where
                 sum : (a c d : ℕ) → a + c + d ≡ a + (c + d)
                 sum a c d = omega arith
 
-    pub rises : (i j : ℕ) → GoesFrom f i j setup events marks start end → WaitsThrough f i j setup events marks → end.p ≡ in_terms_of i j setup events marks start.p +ℤ pos (all_choices f i j answers * interval)
+    pub rises : (i j : ℕ) → GoesFrom f i j setup events marks start end → WaitsThrough f i j setup events marks → end.p ≡ in_terms_of i j setup events marks start.p +ℤ pos (all_choices f i j answers * p_interval_at f i setup events marks)
     rises i j goes_from waits =
-        let at : HeadAt i j = head_at i j goes_from waits in
+        let at : HeadAt interval i j = head_at interval i j (reached_through setup terms f i j events marks there waits) goes_from waits in
         let last : (end.number ≡ start.number + at.count) × (start.number + at.count ≤ end.number → end.p ≡ in_terms_of i j setup events marks start.p +ℤ pos (at.count * interval)) =
         head_of (start.number + at.count) end.number (in_terms_of i j setup events marks start.p +ℤ pos (at.count * interval)) (filter (waits_in f) (at_place j).rows) end goes_from.last at.head in
         last.1 (no_less end.number (start.number + at.count) last.0)
         ∙ ap (λ (c : ℕ). in_terms_of i j setup events marks start.p +ℤ pos (c * interval)) (difference (chosen_before (is_choice_of f) j answers) (chosen_before (is_choice_of f) i answers) at.count at.chosen)
       where
+        interval : ℕ
+        interval = p_interval_at f i setup events marks
+
         no_less : (m n : ℕ) → m ≡ n → n ≤ m
         no_less m n e = omega (arith, e)
 
         difference : (x a c : ℕ) → x ≡ a + c → c ≡ x - a
         difference x a c e = omega (arith, e)
 
-  pub bounded_by_ratio : (setup : Setup) (e f i j one other : ℕ) (events : List (Event A)) (marks : List Bool) (start end : Row) → ReachedThrough e one i j setup events marks → ((k : ℕ) → Reached f other (table_before k setup events marks)) → 0 < one →
-      GoesFrom f i j setup events marks start end → Alongside e f i j setup events marks start → InTimeAt f other start end setup events (run_answers setup events marks) marks →
-      weight_choices e i j (run_answers setup events marks) ≤ 1 + (all_choices f i j (run_answers setup events marks) * other) / one
-  bounded_by_ratio setup e f i j one other events marks start end reached_e reached_f some goes_from waits in_time =
-      subst (λ (gap : ℕ). weight_choices e i j (run_answers setup events marks) ≤ 1 + gap / one)
-      (gap_is (in_terms_of i j setup events marks start.p) end.p (all_choices f i j (run_answers setup events marks) * other) (rises setup f other events marks start end reached_f in_time i j goes_from waits.f_waits))
-      (bounded setup e f i j one other events marks start end reached_e (λ k low up. reached_f k) some goes_from waits)
+  pub bounded_by_ratio : (setup : Setup) (e f i j : ℕ) (one other : Terms) (events : List (Event A)) (marks : List Bool) (start end : Row) → slice_get setup.exports e ≡ Some one → slice_get setup.exports f ≡ Some other →
+      0 < p_interval_at e i setup events marks → GoesFrom f i j setup events marks start end → Alongside e f i j setup events marks start → ArriveInTime f start end setup events (run_answers setup events marks) marks →
+      weight_choices e i j (run_answers setup events marks) ≤ 1 + (all_choices f i j (run_answers setup events marks) * p_interval_at f i setup events marks) / p_interval_at e i setup events marks
+  bounded_by_ratio setup e f i j one other events marks start end one_there other_there some goes_from waits in_time =
+      subst (λ (gap : ℕ). weight_choices e i j (run_answers setup events marks) ≤ 1 + gap / p_interval_at e i setup events marks)
+      (gap_is (in_terms_of i j setup events marks start.p) end.p (all_choices f i j (run_answers setup events marks) * p_interval_at f i setup events marks) (rises setup other f other_there events marks start end in_time i j goes_from waits.f_waits))
+      (bounded setup e f i j (p_interval_at e i setup events marks) (p_interval_at f i setup events marks) events marks start end (reached_through setup one e i j events marks one_there waits.e_waits) (reached_through setup other f i j events marks other_there waits.f_waits) some goes_from waits)

@@ -1,5 +1,6 @@
 -- The limit tags of steps, from their arrivals and the intervals in force.
-use Rattle.std.proofs.Common.{◌≡◌, ◌⊎◌, inl, inr, ℕ, ◌^◌, ◌==◌, Bool, true, false, not, ◌&&◌, nat_le, List, [], ◌∷◌, ◌++◌, length, filter, find, map, Option, Some, None, slice_get, ℤ, pos, refl, sym, ap, ap₂, ◌∙◌}
+use Rattle.std.proofs.Common.{◌≡◌, ◌⊎◌, inl, inr, ℕ, ◌^◌, ◌==◌, Bool, true, false, not, ◌&&◌, nat_le, List, [], ◌∷◌, ◌++◌, length, filter, find, map, Option, Some, None, slice_get, ℤ, pos, refl, sym, ap, ap₂, ◌∙◌, arith}
+use Rattle.std.proofs.lemmas.Bool.Decides.{nat_tests}
 use Rattle.nbd_commands.specs.Terms.{Terms}
 use Rattle.nbd_commands.specs.Verdict.{verdict_of}
 use Rattle.nbd_commands.specs.Meaning.{may_want_memory}
@@ -7,12 +8,12 @@ use Rattle.reply_box.specs.Sessions.{is_here, is_open_at, is_left_at, is_here_at
 use Rattle.tag_clock.specs.Intervals.{Intervals}
 use Rattle.tag_clock.specs.LimitTags.{Arrival, unrolled, beginnings}
 use Rattle.tag_clock.proofs.Unrolled.{last_of, later-last_of, last_of-push, begun_on}
-use Rattle.lone_export.specs.Alone.{Alone, Moved, opening, own_step, answers_alone, outstanding, limit_tag}
+use Rattle.lone_export.specs.Alone.{Alone, Job, Moved, opening, own_step, answers_alone, outstanding, limit_tag}
 use Rattle.lone_export.specs.LimitTags.{tag_of, arrived, interval_after, given_tags, accepted_arrivals, GivesUnrolledTags}
 use Rattle.lone_export.specs.declared.step.Step.{Step}
 use Rattle.lone_export.specs.declared.step.Step.TheVariants.{Attach, Arrive, Pick, Perform, Take, Leave, Gone, Retune}
 use Rattle.lone_export.specs.declared.step.StepAnswer.{StepAnswer}
-use Rattle.lone_export.proofs.Cases.{if_one, some_one}
+use Rattle.lone_export.proofs.Cases.{if_one, if_told, some_one}
 
 -- the tag of one arrival more
 next_tag : (state : Alone) (before : List Arrival) (t interval : ℕ) → state.rates.l_interval ≡ interval → state.last ≡ last_of before
@@ -85,3 +86,37 @@ module _ {A : Type 0} where
 
   pub unrolled_tags : (terms : Terms) (steps : List (Step A)) → GivesUnrolledTags terms steps
   unrolled_tags terms steps = tags_from terms steps (opening terms) terms.rates.l_interval [] refl refl
+
+  -- the interval of the limit after a step
+  pub interval_of_step : (terms : Terms) (state : Alone) (one : Step A) → (own_step terms state one).state.rates.l_interval ≡ interval_after one (own_step terms state one).answer state.rates.l_interval
+  interval_of_step terms state one = (tags_of_step terms state one).interval
+
+  -- a step leaves the rates, or nothing waits before it and after it
+  abbrev pub Steady : Alone → Moved A → Type 0
+  Steady state moved = (moved.state.rates ≡ state.rates) ⊎ ((state.waiting ≡ []) × (moved.state.waiting ≡ []))
+
+  pub rates_of_step : (terms : Terms) (state : Alone) (one : Step A) → Steady state (own_step terms state one)
+  rates_of_step terms state Attach = let P = Steady state in if_one P (nat_le (2 ^ 56) state.count) (inl refl) (if_one P (length (filter is_here state.sessions) == 64) (inl refl) (inl refl))
+  rates_of_step terms state (Arrive s t q) =
+      let P = Steady state in
+      if_one P (not (is_open_at state.sessions s)) (inl refl)
+      (if_one P (nat_le (2 ^ 56) state.count) (inl refl)
+      (if_one P (outstanding state s == terms.window) (inl refl)
+      (if_one P (not (verdict_of terms q == 0)) (inl refl) (if_one P (length state.waiting == terms.depth) (inl refl) (inl refl)))))
+  rates_of_step terms state Pick = some_one (Steady state) (slice_get state.waiting 0) (λ job h. inl refl) (inl refl)
+  rates_of_step terms state (Perform n memory) =
+      some_one (Steady state) (find (λ job. job.number == n) state.out) (λ job h. if_one (Steady state) (not memory && may_want_memory job.request) (inl refl) (inl refl)) (inl refl)
+  rates_of_step terms state (Take s) =
+      let P = Steady state in
+      if_one P (not (is_here_at state.sessions s)) (inl refl)
+      (some_one P (slice_get (outbox_at state.sessions s) 0) (λ reply h. inl refl) (if_one P (is_left_at state.sessions s && outstanding state s == 0) (inl refl) (inl refl)))
+  rates_of_step terms state (Leave s) = if_one (Steady state) (not (is_open_at state.sessions s)) (inl refl) (inl refl)
+  rates_of_step terms state (Gone s) = if_one (Steady state) (not (is_here_at state.sessions s)) (inl refl) (inl refl)
+  rates_of_step terms state (Retune rates) =
+      let P = Steady state in
+      if_one P (nat_le (2 ^ 56) state.count) (inl refl)
+      (if_told P (not (length state.waiting == 0)) (λ h. inl refl) (λ h. inr (none state.waiting h, none state.waiting h)))
+    where
+      none : (xs : List Job) → not (length xs == 0) ≡ false → xs ≡ []
+      none [] h = refl
+      none (x ∷ xs) h = absurd (grind (arith, nat_tests, h))
