@@ -167,6 +167,9 @@ nbdq_export_wait_p99_seconds{export=\"a\"} NaN
 ];
 
 fn metrics_have(alloc: Global, part: &[u8]) -> bool {
+    if part.is_empty() {
+        return false;
+    }
     let mut text = Vec::new(alloc);
     if write_metrics(alloc, &SERVER, &[QUIET, BUSY], &mut text).is_err() {
         return false;
