@@ -66,7 +66,20 @@ fn tells(alloc: Global, stream: &mut UnixStream, line: &[u8], parts: &[&[u8]]) -
     let Ok(answer) = ask_line(alloc, stream, line) else {
         return false;
     };
-    parts.iter().all(|part| answer.windows(part.len()).any(|piece| piece == *part))
+    for part in parts {
+        if !has(answer.as_slice(), part) {
+            return false;
+        }
+    }
+    true
+}
+
+/// Whether a text has a part in it.
+fn has(text: &[u8], part: &[u8]) -> bool {
+    if part.is_empty() {
+        return false;
+    }
+    text.windows(part.len()).any(|piece| piece == part)
 }
 
 /// Opens a session of `a`, writes four bytes there and reads them.
