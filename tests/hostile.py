@@ -1,5 +1,5 @@
 """The tests of hostile.sh: each starts a server of its own, misuses it, and says what was seen."""
-import json, os, resource, socket, struct, subprocess, sys, threading, time
+import json, os, resource, socket, stat, struct, subprocess, sys, threading, time
 
 HERE = os.path.dirname(os.path.abspath(__file__))
 sys.path.insert(0, os.path.join(HERE, "..", "bench"))
@@ -250,6 +250,200 @@ def stuck_reader():
         yield dropped, "a client that reads nothing for a minute is %s" % ("dropped" if dropped else "kept")
 
 
+class Files:
+    """Paths of two sockets, which nothing stands at, in a new folder."""
+
+    def __enter__(self):
+        self.folder = "/dev/shm/nbdq-hostile-%d" % os.getpid()
+        os.mkdir(self.folder)
+        self.unix, self.control = self.folder + "/unix", self.folder + "/control"
+        self.words = ["--unix", self.unix, "--control", self.control]
+        self.server = None
+        return self
+
+    def serve(self, *words):
+        """A server at both, or as the words say. It ends with this at the latest."""
+        self.server = serve(*(words or ("--sessions", "forever", *self.words)))
+        return self.server
+
+    def __exit__(self, *_):
+        if self.server:
+            self.server.kill()
+            self.server.wait()
+        for name in self.left():
+            os.remove(self.folder + "/" + name)
+        os.rmdir(self.folder)
+
+    def left(self):
+        return sorted(os.listdir(self.folder))
+
+    def connect(self, patience=30):
+        one = socket.socket(socket.AF_UNIX, socket.SOCK_STREAM)
+        one.settimeout(patience)
+        one.connect(self.control)
+        return one
+
+    def tell(self, line):
+        """What a line is answered, and the status of `nbdq control`."""
+        ran = subprocess.run([PROGRAM, "control", "--unix", self.control], input=line, capture_output=True, timeout=60)
+        return ran.stdout, ran.returncode
+
+
+def is_answered(client):
+    """Whether a client of the control socket is told that there are no sessions."""
+    try:
+        client.sendall(b"sessions\n")
+        return client.recv(100) == b"\n"
+    except (ConnectionError, TimeoutError):
+        return False
+
+
+def seconds_to_the_cut(client, line, each=None):
+    """After how many seconds a client that sends so much is cut. Where `each` says so, it goes on with a byte in so many seconds."""
+    client.sendall(line)
+    began = time.time()
+    client.settimeout(each or 30)
+    for _ in range(30):
+        try:
+            if client.recv(MIB) == b"":
+                return time.time() - began
+        except TimeoutError:
+            if each is None:
+                break
+            client.sendall(b" ")
+        except ConnectionError:
+            return time.time() - began
+    return 999.0
+
+
+def ended(process, seconds=20):
+    """The status and the last line of a server that ends, or that it goes on."""
+    try:
+        process.wait(seconds)
+        return process.returncode, process.stdout.read().splitlines()[-1:]
+    except subprocess.TimeoutExpired:
+        process.kill()
+        process.wait()
+        return None, []
+
+
+def control_files():
+    """The control socket's mode, and the files of both sockets: gone at either end, and where a start fails."""
+    with Files() as files:
+        for line in (b"stop\n", b"stop now\n"):
+            server = files.serve()
+            server.stdout.readline()
+            mode = os.stat(files.control).st_mode
+            yield stat.S_ISSOCK(mode) and stat.S_IMODE(mode) == 0o600, "the control socket has mode %o (600)" % stat.S_IMODE(mode)
+            client = Client("unix:" + files.unix, "e0")
+            if line == b"stop\n":
+                client.close()
+            said = files.tell(line)
+            status, last = ended(server)
+            ok = said == (b"stopping\n\n", 0) and status == 0 and last[0].startswith(b"steps ")
+            yield ok and files.left() == [], "%s ends the server, and leaves %r" % (line.decode().strip(), files.left())
+    for what, words in (
+        ("the control socket's file is there", lambda files: files.words),
+        ("the control socket's folder isn't there", lambda files: ["--unix", files.unix, "--control", files.folder + "/no/control"]),
+        ("both are to be one file", lambda files: ["--unix", files.unix, "--control", files.unix]),
+    ):
+        with Files() as files:
+            if what.endswith("is there"):
+                open(files.control, "w").close()
+            before = files.left()
+            status, _ = ended(files.serve(*words(files)))
+            yield status == 4 and files.left() == before, "where %s the start fails, and leaves %r of %r" % (what, files.left(), before)
+    with Files() as files:
+        read, write = os.pipe()
+        os.close(read)
+        words = [PROGRAM, "serve", *files.words]
+        ran = subprocess.run(words, input=exports_of(["weight = 1"], mib=8).encode(), stdout=write, stderr=subprocess.PIPE, timeout=20)
+        os.close(write)
+        yield ran.returncode == 4 and files.left() == [], "where `ready` can't be written the start fails, and leaves %r" % files.left()
+
+
+def control_clients():
+    """Clients of the control socket that stop, that go on too slowly, that don't read, and that are too many."""
+    with Files() as files:
+        server = files.serve()
+        server.stdout.readline()
+        cases = [
+            ("stops in the middle of a line", b"sta", None),
+            ("says nothing", b"", None),
+            ("sends a byte each second", b"sta", 1),
+            ("stops behind an answer, in its next line", b"sessions\nsess", None),
+            ("stops in a line that is too long", b" " * 10000, None),
+        ]
+        took = [None] * len(cases)
+
+        def run(i):
+            took[i] = seconds_to_the_cut(files.connect(), cases[i][1], cases[i][2])
+
+        def pause():
+            how = {"stdin": subprocess.PIPE, "stdout": subprocess.PIPE, "stderr": subprocess.PIPE}
+            process = subprocess.Popen([PROGRAM, "control", "--unix", files.control], **how)
+            process.stdin.write(b"sessions\n")
+            process.stdin.flush()
+            time.sleep(12)
+            paused.extend(process.communicate(b"sessions\n", 20) + (process.returncode,))
+
+        paused = []
+        threads = [threading.Thread(target=run, args=(i,)) for i in range(len(cases))]
+        threads.append(threading.Thread(target=pause))
+        slow = files.connect()
+        [it.start() for it in threads]
+        answers = []
+        for _ in range(3):
+            time.sleep(6)
+            answers.append(is_answered(slow))
+        [it.join() for it in threads]
+        for (what, _, each), seconds in zip(cases, took):
+            yield 9.5 < seconds < 12.5, "a client that %s is cut after %.1f s (10)" % (what, seconds)
+        yield paused == [b"\n", b"control: socket failed\n", 4], "`nbdq control` that sends its second line 12 s later says %r" % paused
+        yield all(answers), "one that sends a line each 6 s is answered each time"
+        slow.close()
+        time.sleep(0.5)
+
+        eight = [files.connect() for _ in range(8)]
+        well = all([is_answered(one) for one in eight])
+        more = files.connect(5)
+        yield well and more.recv(100) == b"", "eight clients are answered, and one more is cut"
+        eight[0].close()
+        time.sleep(0.5)
+        again = files.connect(5)
+        yield is_answered(again), "once one of them is gone another is answered"
+        [one.close() for one in (*eight, more, again)]
+        time.sleep(0.5)
+
+        deaf = files.connect(2)
+        began = time.time()
+        try:
+            while time.time() - began < 30:
+                deaf.sendall(b"stats prometheus\n" * 1000)
+        except (TimeoutError, ConnectionError):
+            pass
+        others = [files.connect() for _ in range(7)]
+        said = files.tell(b"sessions\n")[1]
+        yield said == 4, "a client that reads no answer has one of the eight places"
+        [one.close() for one in others]
+        time.sleep(max(0.0, began + 13 - time.time()))
+        places = [files.connect(5) for _ in range(8)]
+        yield all([is_answered(one) for one in places]), "it has lost it 13 s later"
+        [one.close() for one in places]
+        time.sleep(0.5)
+
+        deaf = files.connect(1)
+        try:
+            for _ in range(30):
+                deaf.sendall(b"stats prometheus\n" * 1000)
+        except TimeoutError:
+            pass
+        began = time.time()
+        stopped = files.tell(b"stop now\n")[1]
+        status, _ = ended(server, 15)
+        yield stopped == status == 0, "stop now beside a client that reads no answer ends the server after %.1f s" % (time.time() - began)
+
+
 TESTS = [
     long_zeros,
     trim_of_a_filled_disk,
@@ -261,6 +455,8 @@ TESTS = [
     last_connection,
     many_descriptors,
     socket_files,
+    control_files,
+    control_clients,
     last_clients,
     stuck_reader,
 ]

@@ -42,7 +42,7 @@ def options(disk, seen):
     client.set_opt_mode(True)
     client.connect_uri(disk)
     client.opt_list(lambda name, description: listed.append(name))
-    assert listed == ["disk", "other", "seen"], listed
+    assert listed == ["disk", "other", "seen", "large"], listed
     client.set_export_name("nothing of this name")
     assert error_of(client.opt_info) == errno.ENOENT
     client.set_export_name("seen")

@@ -1,4 +1,5 @@
 #!/bin/sh
+# shellcheck disable=SC2016
 # Each link of README and docs to a file, or to a heading of one, leads there. Prints what doesn't, and a count.
 cd "$(dirname "$0")/.." || exit 2
 # The anchors of a file's headings, as GitHub makes them.

@@ -2,6 +2,7 @@
 # Each name of docs/MODEL.md that stands in `..` is in crates/, and each one that begins a list's line of a crate's section is defined in the
 # files that the line names in brackets: crates/CRATE/specs/FILE.antt. Prints what isn't so, and a count.
 cd "$(dirname "$0")/.." || exit 2
+tick=$(printf '\140')
 words=$(mktemp) && trap 'rm -f "$words"' EXIT
 find crates \( -name '*.antt' -o -name '*.rt' \) -exec cat {} + | grep -oE '[A-Za-z_][A-Za-z_0-9]*' | sort -u > "$words"
 awk '
@@ -19,7 +20,7 @@ awk '
         fi
         files=$(printf '%s\n' "$rest" | sed -n 's/^[^(]*(\([A-Za-z, ]*\)[;)].*/\1/p' | tr -d ,)
         [ -n "$files" ] || continue
-        for name in $(printf '%s\n' "${rest%%(*}" | grep -oE '`[A-Za-z_]+`' | tr -d '`'); do
+        for name in $(printf '%s\n' "${rest%%(*}" | grep -oE "${tick}[A-Za-z_]+$tick" | tr -d "$tick"); do
             found=
             for file in $files; do
                 grep -qsE "^ *([a-z]+ )+$name( |\$)" "crates/$crate/specs/$file.antt" && found=1

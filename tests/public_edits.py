@@ -1,12 +1,12 @@
 #!/usr/bin/env python3
 """Which public functions have an edit in their own body, in crates/NAME/must-fail and in tests/edits/NAME.
 
-  tests/public_edits.py [NAME..]          the public functions that have none in the gate, and edits whose text is stale
+  tests/public_edits.py [NAME..]          the public functions that have none, and edits whose text is stale
   tests/public_edits.py --all [NAME..]    each public function with its edits, then the edits that lie in none
 
 It reads the sources by their braces, and knows no macros. A public function is a `pub fn` that the root file exports, alone or
 by its type, or a method of a trait that an exported type implements. A law, whose body is empty, has an edit of its statement.
-Its status is 1 where one has no edit in the gate and no reason below.
+Its status is 1 where one has no edit and no reason below, or an edit's text is stale.
 """
 import os
 import re
@@ -35,6 +35,7 @@ LAWS = {
     "nbd_session requests_are_plain": "counted_from_the_second",
     "nbd_session handshake_is_haggled": "flags_of_three_bytes",
     "server_table choice_of_first_requests": "one_may_be_out",
+    "server_table steps_of_rates": "retune_while_waiting",
     "session_turns replies_in_order": "taken_before_those_that_wait",
     "turn_order given_by_weight": "head_start_not_counted",
     "turn_order step_of_weight": "every_weight_divides",
@@ -260,10 +261,13 @@ def main(words):
             law = LAWS.get(f"{name} {f.label}")
             if law and os.path.isfile(f"{folder}/must-fail/{law}.edit"):
                 f.gate.append(f"{law} (its statement)")
+            elif law and os.path.isfile(f"{TOP}/tests/edits/{name}/{law}.edit"):
+                f.beside.append(f"{law} (its statement)")
             why = NONE.get(f"{name} {f.label}") or (None if f.has_contract else "no contract")
-            if tells_all or not f.gate and not why:
+            has_none = not f.gate and not f.beside and not why
+            if tells_all or has_none:
                 print(f"{name}  {f.label}  gate: {', '.join(f.gate) or why or 'NONE'}; beside: {', '.join(f.beside) or '-'}")
-            missing += not f.gate and not why
+            missing += has_none
         if tells_all:
             for it in outside:
                 print(f"{name}  no public function: {it}")

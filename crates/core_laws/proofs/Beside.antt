@@ -4,11 +4,10 @@ use Rattle.std.specs.Int.{int_gap}
 use Rattle.std.proofs.lemmas.Int.{ints}
 use Rattle.std.proofs.lemmas.Bool.Decides.{nat_tests}
 use Rattle.std.proofs.lemmas.Option.{same_Some, none-some}
-use Rattle.nbd_commands.specs.Terms.{Terms}
 use Rattle.tag_clock.specs.declared.Phase.{Phase}
 use Rattle.tag_clock.specs.declared.Phase.TheVariants.{Reservation, Weight}
 use Rattle.server_table.specs.declared.event.Event.{Event}
-use Rattle.server_table.specs.declared.event.Event.TheVariants.{Attach, Arrive, Dispatch, Perform, Take, Leave, Gone}
+use Rattle.server_table.specs.declared.event.Event.TheVariants.{Attach, Arrive, Dispatch, Perform, Take, Leave, Gone, Retune}
 use Rattle.server_table.specs.declared.event.Answer.{Answer}
 use Rattle.server_table.specs.declared.event.Answer.TheVariants as said
 use Rattle.server_table.specs.Table.{Row, Table, Setup, Choice, waits_in, is_idle, is_due_by_limit, due_by_limit, foremost, p_key, precedes, choice, opening_table}
@@ -24,7 +23,7 @@ use Rattle.core_laws.proofs.Heads.{first_mem}
 use Rattle.core_laws.proofs.Tidy.{Tidy}
 use Rattle.core_laws.proofs.Chosen.{IsChosen, is_chosen, choice_first, and_left, and_right}
 use Rattle.core_laws.proofs.Lanes.{Turn, Lane, lane, turn_of, lane_popped, lane_after, goes}
-use Rattle.core_laws.proofs.Chains.{IsWaiting, HeadFrom, head_below, head_popped, rise, Reached, reached_before}
+use Rattle.core_laws.proofs.Chains.{IsWaiting, HeadFrom, head_below, head_popped, rise, Reached, ReachedThrough, moves_at}
 use Rattle.core_laws.proofs.Onward.{along, counted, Ended, OnwardBy, onward}
 
 -- ---- first requests
@@ -81,10 +80,10 @@ by_weight now chosen (inl h) w = absurd (differ (sym h.1 ∙ w))
 by_weight now chosen (inr h) w = h.0
 
 module _ {A : Type 0} where
-  pub weight_least : (setup : Setup) (terms : Terms) (table : Table) (e f n t : ℕ) (memory : Bool) (chosen other : Row) → Tidy terms f table →
+  pub weight_least : (setup : Setup) (table : Table) (e f n t : ℕ) (memory : Bool) (chosen other : Row) → Tidy f table →
       first_of f table ≡ Some chosen → first_of e table ≡ Some other → other.l ≤ℤ pos (max table.now t) →
       (step {A = A} setup table (Dispatch t) memory).answer ≡ said.Picked f n Weight → (chosen.number ≡ n) × (chosen.p ≤ℤ other.p)
-  weight_least setup terms table e f n t memory chosen other tidy first beside due =
+  weight_least setup table e f n t memory chosen other tidy first beside due =
       some_told P (choice setup.inflight now) (λ c is answer. go c is (fields c.row.export c.row.number c.phase answer)) (λ none answer. absurd (not_picked answer))
     where
       now : Table
@@ -109,8 +108,8 @@ module _ {A : Type 0} where
     of_e : is_choice_of e new.answer ≡ true
     least : (row : Row) → first_of f table ≡ Some row → row.l ≤ℤ pos (max table.now t) → (w : ℤ) → HeadFrom w (lane e table).waiting → HeadFrom w (lane f table).waiting
 
-  weighted : (setup : Setup) (terms : Terms) (table : Table) (e f t : ℕ) (memory : Bool) → Tidy terms e table → is_choice_in e Weight (step {A = A} setup table (Dispatch t) memory).answer ≡ true → IsWeighted e f t table (step setup table (Dispatch t) memory)
-  weighted setup terms table e f t memory tidy =
+  weighted : (setup : Setup) (table : Table) (e f t : ℕ) (memory : Bool) → Tidy e table → is_choice_in e Weight (step {A = A} setup table (Dispatch t) memory).answer ≡ true → IsWeighted e f t table (step setup table (Dispatch t) memory)
+  weighted setup table e f t memory tidy =
       some_told P (choice setup.inflight now) (λ c is chosen. go c is (and_left (eqb c.row.export e) _ chosen) (phases c.phase (and_right (eqb c.row.export e) _ chosen))) (λ none chosen. true_false (sym chosen))
     where
       now : Table
@@ -126,7 +125,7 @@ module _ {A : Type 0} where
       same_export : (a : ℕ) → eqb a e ≡ true → e ≡ a
       same_export a h = grind (arith, nat_tests, h)
 
-      go : (c : Choice) → choice setup.inflight now ≡ Some c → eqb c.row.export e ≡ true → c.phase ≡ Weight → IsWeighted e f t table (outcome (with_credit setup c (sent c.row now)) (said.Picked c.row.export c.row.number c.phase))
+      go : (c : Choice) → choice setup.inflight now ≡ Some c → eqb c.row.export e ≡ true → c.phase ≡ Weight → IsWeighted e f t table (outcome (with_credit c (sent c.row now)) (said.Picked c.row.export c.row.number c.phase))
       go c is here phase = record {
         of_e = here;
         least = λ row first due w h.
@@ -156,29 +155,29 @@ if_true true x y h = refl
 if_true false x y h = true_false (sym h)
 
 module _ {A : Type 0} where
-  risen : (setup : Setup) (terms : Terms) (table : Table) (e : ℕ) (event : Event A) (memory : Bool) → slice_get setup.exports e ≡ Some terms → Reached terms e table → (v : ℤ) → HeadFrom v (lane e table).waiting →
+  risen : (setup : Setup) (table : Table) (e interval : ℕ) (event : Event A) (memory : Bool) → Reached e interval table → (v : ℤ) → HeadFrom v (lane e table).waiting →
       IsWaiting (lane e (step setup table event memory).table).waiting → HeadFrom (v -ℤ fall table event (step setup table event memory).answer) (lane e (step setup table event memory).table).waiting
-  risen setup terms table e event memory there h v from waits =
-      let moves : lane e (step setup table event memory).table ≡ lane_after e terms.p_interval event (step setup table event memory).answer (fall table event (step setup table event memory).answer) (lane e table) = (goes setup terms table e event memory there h.tidy).moves in
+  risen setup table e interval event memory h v from waits =
+      let moves : lane e (step setup table event memory).table ≡ lane_after e interval event (step setup table event memory).answer (fall table event (step setup table event memory).answer) (lane e table) = moves_at setup table e interval event memory h in
       subst (λ (l : Lane). HeadFrom (v -ℤ fall table event (step setup table event memory).answer) l.waiting) (sym moves)
-      (rise e terms.p_interval table event (step setup table event memory).answer (lane e table) v h.chained from (subst (λ (l : Lane). IsWaiting l.waiting) moves waits))
+      (rise e interval table event (step setup table event memory).answer (lane e table) v h.chained from (subst (λ (l : Lane). IsWaiting l.waiting) moves waits))
 
-module _ (A : Type 0) (setup : Setup) (one other : Terms) (e f : ℕ) (one_there : slice_get setup.exports e ≡ Some one) (other_there : slice_get setup.exports f ≡ Some other) where
+module _ (A : Type 0) (setup : Setup) (e f one other : ℕ) where
   -- after a step both still wait
   abbrev BesideAfter : Table → Event A → Bool → ℤ → ℕ → Type 0
-  BesideAfter table event memory v count = Beside (v -ℤ fall table event (step setup table event memory).answer) (count + one_if (is_choice_in e Weight (step setup table event memory).answer)) one.p_interval
+  BesideAfter table event memory v count = Beside (v -ℤ fall table event (step setup table event memory).answer) (count + one_if (is_choice_in e Weight (step setup table event memory).answer)) one
       (lane e (step setup table event memory).table).waiting (lane f (step setup table event memory).table).waiting
 
-  beside_unchosen : (table : Table) (event : Event A) (memory : Bool) (v : ℤ) (count : ℕ) → Reached one e table → Reached other f table → Beside v count one.p_interval (lane e table).waiting (lane f table).waiting →
+  beside_unchosen : (table : Table) (event : Event A) (memory : Bool) (v : ℤ) (count : ℕ) → Reached e one table → Reached f other table → Beside v count one (lane e table).waiting (lane f table).waiting →
       IsWaiting (lane e (step setup table event memory).table).waiting → IsWaiting (lane f (step setup table event memory).table).waiting →
       is_choice_in e Weight (step setup table event memory).answer ≡ false → BesideAfter table event memory v count
   beside_unchosen table event memory v count at_e at_f h waits_e waits_f none = rw none (record {
-    mine_from = head_below ((v +ℤ pos (count * one.p_interval)) -ℤ by) ((v -ℤ by) +ℤ pos ((count + 0) * one.p_interval)) (lane e new.table).waiting
-        (kept v by ((count + 0) * one.p_interval) (count * one.p_interval) (ap (λ (n : ℕ). n * one.p_interval) (plus count)))
-        (risen setup one table e event memory one_there at_e (v +ℤ pos (count * one.p_interval)) h.mine_from waits_e);
-    other_from = head_below ((v +ℤ pos ((count - 1) * one.p_interval)) -ℤ by) ((v -ℤ by) +ℤ pos ((count + 0 - 1) * one.p_interval)) (lane f new.table).waiting
-        (kept v by ((count + 0 - 1) * one.p_interval) ((count - 1) * one.p_interval) (ap (λ (n : ℕ). (n - 1) * one.p_interval) (plus count)))
-        (risen setup other table f event memory other_there at_f (v +ℤ pos ((count - 1) * one.p_interval)) h.other_from waits_f);
+    mine_from = head_below ((v +ℤ pos (count * one)) -ℤ by) ((v -ℤ by) +ℤ pos ((count + 0) * one)) (lane e new.table).waiting
+        (kept v by ((count + 0) * one) (count * one) (ap (λ (n : ℕ). n * one) (plus count)))
+        (risen setup table e one event memory at_e (v +ℤ pos (count * one)) h.mine_from waits_e);
+    other_from = head_below ((v +ℤ pos ((count - 1) * one)) -ℤ by) ((v -ℤ by) +ℤ pos ((count + 0 - 1) * one)) (lane f new.table).waiting
+        (kept v by ((count + 0 - 1) * one) ((count - 1) * one) (ap (λ (n : ℕ). (n - 1) * one) (plus count)))
+        (risen setup table f other event memory at_f (v +ℤ pos ((count - 1) * one)) h.other_from waits_f);
   })
     where
       new : Outcome A
@@ -190,33 +189,33 @@ module _ (A : Type 0) (setup : Setup) (one other : Terms) (e f : ℕ) (one_there
       plus : (n : ℕ) → n + 0 ≡ n
       plus n = omega arith
 
-  beside_chosen : (table : Table) (t : ℕ) (memory : Bool) (v : ℤ) (count : ℕ) → Reached one e table → Reached other f table → Beside v count one.p_interval (lane e table).waiting (lane f table).waiting →
+  beside_chosen : (table : Table) (t : ℕ) (memory : Bool) (v : ℤ) (count : ℕ) → Reached e one table → Reached f other table → Beside v count one (lane e table).waiting (lane f table).waiting →
       IsWaiting (lane e (step {A = A} setup table (Dispatch t) memory).table).waiting → IsWaiting (lane f (step {A = A} setup table (Dispatch t) memory).table).waiting →
       ((row : Row) → first_of f table ≡ Some row → row.l ≤ℤ pos (max table.now t)) →
       is_choice_in e Weight (step {A = A} setup table (Dispatch t) memory).answer ≡ true → BesideAfter table (Dispatch t) memory v count
   beside_chosen table t memory v count at_e at_f h waits_e waits_f due chosen = rw chosen (record {
-    mine_from = subst (λ (l : Lane). HeadFrom ((v -ℤ pos 0) +ℤ pos ((count + 1) * one.p_interval)) l.waiting) (sym popped)
-        (head_below ((v +ℤ pos (count * one.p_interval)) +ℤ pos one.p_interval) ((v -ℤ pos 0) +ℤ pos ((count + 1) * one.p_interval)) (drop 1 (lane e table).waiting) (one_more v count one.p_interval)
-        (head_popped (v +ℤ pos (count * one.p_interval)) one.p_interval (lane e table).waiting (lane e table).next (lane e table).last at_e.chained.turns h.mine_from (subst (λ (l : Lane). IsWaiting l.waiting) popped waits_e)));
-    other_from = head_below ((v +ℤ pos (count * one.p_interval)) -ℤ pos 0) ((v -ℤ pos 0) +ℤ pos ((count + 1 - 1) * one.p_interval)) (lane f new.table).waiting
-        (kept v (pos 0) ((count + 1 - 1) * one.p_interval) (count * one.p_interval) (ap (λ (n : ℕ). n * one.p_interval) (less count)))
-        (risen setup other table f (Dispatch t) memory other_there at_f (v +ℤ pos (count * one.p_interval)) at_least waits_f);
+    mine_from = subst (λ (l : Lane). HeadFrom ((v -ℤ pos 0) +ℤ pos ((count + 1) * one)) l.waiting) (sym popped)
+        (head_below ((v +ℤ pos (count * one)) +ℤ pos one) ((v -ℤ pos 0) +ℤ pos ((count + 1) * one)) (drop 1 (lane e table).waiting) (one_more v count one)
+        (head_popped (v +ℤ pos (count * one)) one (lane e table).waiting (lane e table).next (lane e table).last at_e.chained.turns h.mine_from (subst (λ (l : Lane). IsWaiting l.waiting) popped waits_e)));
+    other_from = head_below ((v +ℤ pos (count * one)) -ℤ pos 0) ((v -ℤ pos 0) +ℤ pos ((count + 1 - 1) * one)) (lane f new.table).waiting
+        (kept v (pos 0) ((count + 1 - 1) * one) (count * one) (ap (λ (n : ℕ). n * one) (less count)))
+        (risen setup table f other (Dispatch t) memory at_f (v +ℤ pos (count * one)) at_least waits_f);
   })
     where
       new : Outcome A
       new = step setup table (Dispatch t) memory
 
       is : IsWeighted e f t table new
-      is = weighted setup one table e f t memory at_e.tidy chosen
+      is = weighted setup table e f t memory at_e.tidy chosen
 
       popped : lane e new.table ≡ lane_popped (lane e table)
-      popped = (goes setup one table e (Dispatch t) memory one_there at_e.tidy).moves ∙ if_true (is_choice_of e new.answer) (lane_popped (lane e table)) (lane e table) is.of_e
+      popped = moves_at setup table e one (Dispatch t) memory at_e ∙ if_true (is_choice_of e new.answer) (lane_popped (lane e table)) (lane e table) is.of_e
 
       first : (row : Row) × (first_of f table ≡ Some row)
-      first = some_first (v +ℤ pos ((count - 1) * one.p_interval)) (filter (waits_in f) table.rows) h.other_from
+      first = some_first (v +ℤ pos ((count - 1) * one)) (filter (waits_in f) table.rows) h.other_from
 
-      at_least : HeadFrom (v +ℤ pos (count * one.p_interval)) (lane f table).waiting
-      at_least = is.least first.0 first.1 (due first.0 first.1) (v +ℤ pos (count * one.p_interval)) h.mine_from
+      at_least : HeadFrom (v +ℤ pos (count * one)) (lane f table).waiting
+      at_least = is.least first.0 first.1 (due first.0 first.1) (v +ℤ pos (count * one)) h.mine_from
 
       one_more : (v : ℤ) (c i : ℕ) → ((v -ℤ pos 0) +ℤ pos ((c + 1) * i)) ≤ℤ ((v +ℤ pos (c * i)) +ℤ pos i)
       one_more v c i = omega (arith, ints)
@@ -224,20 +223,21 @@ module _ (A : Type 0) (setup : Setup) (one other : Terms) (e f : ℕ) (one_there
       less : (n : ℕ) → n + 1 - 1 ≡ n
       less n = omega arith
 
-  beside_step : (table : Table) (event : Event A) (memory : Bool) (v : ℤ) (count : ℕ) → Reached one e table → Reached other f table → Beside v count one.p_interval (lane e table).waiting (lane f table).waiting →
+  beside_step : (table : Table) (event : Event A) (memory : Bool) (v : ℤ) (count : ℕ) → Reached e one table → Reached f other table → Beside v count one (lane e table).waiting (lane f table).waiting →
       IsWaiting (lane e (step setup table event memory).table).waiting → IsWaiting (lane f (step setup table event memory).table).waiting →
       ((t : ℕ) (row : Row) → event ≡ Dispatch t → is_choice_in e Weight (step setup table event memory).answer ≡ true → first_of f table ≡ Some row → row.l ≤ℤ pos (max table.now t)) → BesideAfter table event memory v count
-  beside_step table (Attach g) memory v count at_e at_f h waits_e waits_f due = beside_unchosen table (Attach g) memory v count at_e at_f h waits_e waits_f ((goes setup one table e (Attach g) memory one_there at_e.tidy).quiet_in tt e Weight)
-  beside_step table (Arrive g s t q) memory v count at_e at_f h waits_e waits_f due = beside_unchosen table (Arrive g s t q) memory v count at_e at_f h waits_e waits_f ((goes setup one table e (Arrive g s t q) memory one_there at_e.tidy).quiet_in tt e Weight)
+  beside_step table (Attach g) memory v count at_e at_f h waits_e waits_f due = beside_unchosen table (Attach g) memory v count at_e at_f h waits_e waits_f ((goes setup table e (Attach g) memory at_e.tidy).quiet_in tt e Weight)
+  beside_step table (Arrive g s t q) memory v count at_e at_f h waits_e waits_f due = beside_unchosen table (Arrive g s t q) memory v count at_e at_f h waits_e waits_f ((goes setup table e (Arrive g s t q) memory at_e.tidy).quiet_in tt e Weight)
   beside_step table (Dispatch t) memory v count at_e at_f h waits_e waits_f due = go (is_choice_in e Weight (step {A = A} setup table (Dispatch t) memory).answer) refl
     where
       go : (b : Bool) → is_choice_in e Weight (step {A = A} setup table (Dispatch t) memory).answer ≡ b → BesideAfter table (Dispatch t) memory v count
       go true chosen = beside_chosen table t memory v count at_e at_f h waits_e waits_f (λ row first. due t row refl chosen first) chosen
       go false none = beside_unchosen table (Dispatch t) memory v count at_e at_f h waits_e waits_f none
-  beside_step table (Perform g n) memory v count at_e at_f h waits_e waits_f due = beside_unchosen table (Perform g n) memory v count at_e at_f h waits_e waits_f ((goes setup one table e (Perform g n) memory one_there at_e.tidy).quiet_in tt e Weight)
-  beside_step table (Take g s) memory v count at_e at_f h waits_e waits_f due = beside_unchosen table (Take g s) memory v count at_e at_f h waits_e waits_f ((goes setup one table e (Take g s) memory one_there at_e.tidy).quiet_in tt e Weight)
-  beside_step table (Leave g s) memory v count at_e at_f h waits_e waits_f due = beside_unchosen table (Leave g s) memory v count at_e at_f h waits_e waits_f ((goes setup one table e (Leave g s) memory one_there at_e.tidy).quiet_in tt e Weight)
-  beside_step table (Gone g s) memory v count at_e at_f h waits_e waits_f due = beside_unchosen table (Gone g s) memory v count at_e at_f h waits_e waits_f ((goes setup one table e (Gone g s) memory one_there at_e.tidy).quiet_in tt e Weight)
+  beside_step table (Perform g n) memory v count at_e at_f h waits_e waits_f due = beside_unchosen table (Perform g n) memory v count at_e at_f h waits_e waits_f ((goes setup table e (Perform g n) memory at_e.tidy).quiet_in tt e Weight)
+  beside_step table (Take g s) memory v count at_e at_f h waits_e waits_f due = beside_unchosen table (Take g s) memory v count at_e at_f h waits_e waits_f ((goes setup table e (Take g s) memory at_e.tidy).quiet_in tt e Weight)
+  beside_step table (Leave g s) memory v count at_e at_f h waits_e waits_f due = beside_unchosen table (Leave g s) memory v count at_e at_f h waits_e waits_f ((goes setup table e (Leave g s) memory at_e.tidy).quiet_in tt e Weight)
+  beside_step table (Gone g s) memory v count at_e at_f h waits_e waits_f due = beside_unchosen table (Gone g s) memory v count at_e at_f h waits_e waits_f ((goes setup table e (Gone g s) memory at_e.tidy).quiet_in tt e Weight)
+  beside_step table (Retune g rates) memory v count at_e at_f h waits_e waits_f due = beside_unchosen table (Retune g rates) memory v count at_e at_f h waits_e waits_f ((goes setup table e (Retune g rates) memory at_e.tidy).quiet_in tt e Weight)
 
 -- ---- from place to place
 
@@ -261,14 +261,14 @@ module _ {A : Type 0} where
     not_below = waits.not_below;
   }
 
-  record BesideAt (e f i k : ℕ) (one : Terms) (setup : Setup) (events : List (Event A)) (marks : List Bool) (p : ℤ) : Type 0 where
+  record BesideAt (e f i k one : ℕ) (setup : Setup) (events : List (Event A)) (marks : List Bool) (p : ℤ) : Type 0 where
     count : ℕ
     chosen : chosen_before (is_choice_in e Weight) k (run_answers setup events marks) ≡ chosen_before (is_choice_in e Weight) i (run_answers setup events marks) + count
-    beside : Beside (in_terms_of i k setup events marks p) count one.p_interval (lane e (table_before k setup events marks)).waiting (lane f (table_before k setup events marks)).waiting
+    beside : Beside (in_terms_of i k setup events marks p) count one (lane e (table_before k setup events marks)).waiting (lane f (table_before k setup events marks)).waiting
 
-  beside_at : (setup : Setup) (one other : Terms) (e f i j : ℕ) (events : List (Event A)) (marks : List Bool) (start end : Row) → slice_get setup.exports e ≡ Some one → slice_get setup.exports f ≡ Some other →
+  beside_at : (setup : Setup) (e f i j one other : ℕ) (events : List (Event A)) (marks : List Bool) (start end : Row) → ReachedThrough e one i j setup events marks → ReachedThrough f other i j setup events marks →
       GoesFrom f i j setup events marks start end → Alongside e f i j setup events marks start → BesideAt e f i j one setup events marks start.p
-  beside_at setup one other e f i j events marks start end one_there other_there goes_from waits = along P i j goes_from.order base onward_one
+  beside_at setup e f i j one other events marks start end reached_e reached_f goes_from waits = along P i j goes_from.order base onward_one
     where
       P : ℕ → Type 0
       P k = BesideAt e f i k one setup events marks start.p
@@ -299,10 +299,10 @@ module _ {A : Type 0} where
         count = 0;
         chosen = plus (chosen_before (is_choice_in e Weight) i (run_answers setup events marks));
         beside = record {
-          mine_from = head_out (in_terms_of i i setup events marks start.p +ℤ pos (0 * one.p_interval)) (filter (waits_in e) now_i.rows) first_e.0 first_e.1
-              (at_most (in_terms_of i i setup events marks start.p +ℤ pos (0 * one.p_interval)) start.p first_e.0.p (nothing start.p (fallen_before i setup events marks) (0 * one.p_interval) (none one.p_interval)) (waits.not_below first_e.0 first_e.1));
-          other_from = head_out (in_terms_of i i setup events marks start.p +ℤ pos ((0 - 1) * one.p_interval)) (filter (waits_in f) now_i.rows) start goes_from.first
-              (nothing start.p (fallen_before i setup events marks) ((0 - 1) * one.p_interval) (none_less one.p_interval));
+          mine_from = head_out (in_terms_of i i setup events marks start.p +ℤ pos (0 * one)) (filter (waits_in e) now_i.rows) first_e.0 first_e.1
+              (at_most (in_terms_of i i setup events marks start.p +ℤ pos (0 * one)) start.p first_e.0.p (nothing start.p (fallen_before i setup events marks) (0 * one) (none one)) (waits.not_below first_e.0 first_e.1));
+          other_from = head_out (in_terms_of i i setup events marks start.p +ℤ pos ((0 - 1) * one)) (filter (waits_in f) now_i.rows) start goes_from.first
+              (nothing start.p (fallen_before i setup events marks) ((0 - 1) * one) (none_less one));
         };
       }
         where
@@ -314,6 +314,9 @@ module _ {A : Type 0} where
 
       upto : (k : ℕ) → k < j → suc k ≤ j
       upto k lt = omega (arith, lt)
+
+      before : (k : ℕ) → k < j → k ≤ j
+      before k lt = omega (arith, lt)
 
       onward_one : (k : ℕ) → i ≤ k → k < j → P k → P (suc k)
       onward_one k low lt h = go (onward setup events (opening_table setup) marks k)
@@ -332,8 +335,8 @@ module _ {A : Type 0} where
             chosen = ap (λ (xs : List (Answer A)). length (filter (is_choice_in e Weight) xs)) next.by.answers ∙ counted (is_choice_in e Weight) (take k (run_answers setup events marks)) new.answer
                 ∙ regroup (chosen_before (is_choice_in e Weight) k (run_answers setup events marks)) (chosen_before (is_choice_in e Weight) i (run_answers setup events marks)) h.count (one_if (is_choice_in e Weight new.answer)) h.chosen;
             beside = rw (next.by.falls, next.by.tables, terms_at start.p (fallen_before k setup events marks) (fallen_before i setup events marks) by)
-                (beside_step A setup one other e f one_there other_there now next.event next.memory (in_terms_of i k setup events marks start.p) h.count
-                (reached_before setup one e k events marks one_there) (reached_before setup other f k events marks other_there) h.beside
+                (beside_step A setup e f one other now next.event next.memory (in_terms_of i k setup events marks start.p) h.count
+                (reached_e k low (before k lt)) (reached_f k low (before k lt)) h.beside
                 (subst (λ (t : Table). IsWaiting (lane e t).waiting) next.by.tables (waiting_is e (table_before (suc k) setup events marks) (waits.e_waits (suc k) (above k low) (upto k lt))))
                 (subst (λ (t : Table). IsWaiting (lane f t).waiting) next.by.tables (waiting_is f (table_before (suc k) setup events marks) (waits.f_waits (suc k) (above k low) (upto k lt))))
                 (λ t row is chosen first. waits.f_due k t row new.answer low lt (next.by.stands ∙ ap Some is, next.by.answered) chosen first));
@@ -357,17 +360,17 @@ gap_from (negsuc a) (pos b) m h = omega (arith, ints)
 gap_from (negsuc a) (negsuc b) m h = omega (arith, ints)
 
 module _ {A : Type 0} where
-  pub bounded : (setup : Setup) (one other : Terms) (e f i j : ℕ) (events : List (Event A)) (marks : List Bool) (start end : Row) → slice_get setup.exports e ≡ Some one → slice_get setup.exports f ≡ Some other → 0 < one.p_interval →
+  pub bounded : (setup : Setup) (e f i j one other : ℕ) (events : List (Event A)) (marks : List Bool) (start end : Row) → ReachedThrough e one i j setup events marks → ReachedThrough f other i j setup events marks → 0 < one →
       GoesFrom f i j setup events marks start end → Alongside e f i j setup events marks start →
-      weight_choices e i j (run_answers setup events marks) ≤ 1 + int_gap (in_terms_of i j setup events marks start.p) end.p / one.p_interval
-  bounded setup one other e f i j events marks start end one_there other_there some goes_from waits =
-      within (chosen_before (is_choice_in e Weight) j (run_answers setup events marks)) (chosen_before (is_choice_in e Weight) i (run_answers setup events marks)) at.count (gap / one.p_interval) at.chosen
-      ((le-div_iff_mul-le {k = one.p_interval} {x = at.count - 1} {y = gap} some).1
-      (gap_from (in_terms_of i j setup events marks start.p) end.p ((at.count - 1) * one.p_interval)
-      (head_in (in_terms_of i j setup events marks start.p +ℤ pos ((at.count - 1) * one.p_interval)) (filter (waits_in f) (table_before j setup events marks).rows) end goes_from.last at.beside.other_from)))
+      weight_choices e i j (run_answers setup events marks) ≤ 1 + int_gap (in_terms_of i j setup events marks start.p) end.p / one
+  bounded setup e f i j one other events marks start end reached_e reached_f some goes_from waits =
+      within (chosen_before (is_choice_in e Weight) j (run_answers setup events marks)) (chosen_before (is_choice_in e Weight) i (run_answers setup events marks)) at.count (gap / one) at.chosen
+      ((le-div_iff_mul-le {k = one} {x = at.count - 1} {y = gap} some).1
+      (gap_from (in_terms_of i j setup events marks start.p) end.p ((at.count - 1) * one)
+      (head_in (in_terms_of i j setup events marks start.p +ℤ pos ((at.count - 1) * one)) (filter (waits_in f) (table_before j setup events marks).rows) end goes_from.last at.beside.other_from)))
     where
       at : BesideAt e f i j one setup events marks start.p
-      at = beside_at setup one other e f i j events marks start end one_there other_there goes_from waits
+      at = beside_at setup e f i j one other events marks start end reached_e reached_f goes_from waits
 
       gap : ℕ
       gap = int_gap (in_terms_of i j setup events marks start.p) end.p

@@ -53,7 +53,7 @@ abbrev IsFirst : ℕ → ℕ → Table → Type 0
 IsFirst f n table = (c : Row) × (first_of f table ≡ Some c) × (c.number ≡ n)
 
 module _ {A : Type 0} where
-  picks_first : (setup : Setup) (terms : Terms) (table : Table) (f n t : ℕ) (phase : Phase) (memory : Bool) → Tidy terms f table →
+  picks_first : (setup : Setup) (terms : Terms) (table : Table) (f n t : ℕ) (phase : Phase) (memory : Bool) → Tidy f table →
       (step {A = A} setup table (Dispatch t) memory).answer ≡ said.Picked f n phase → IsFirst f n table
   picks_first setup terms table f n t phase memory tidy =
       some_told P (choice setup.inflight now) (λ c is answer. go c.row (fields c.row.export c.row.number c.phase answer) (λ same. choice_first setup.inflight now c is f same tidy.sorted)) (λ none answer. absurd (not_picked answer))
@@ -77,7 +77,7 @@ module _ {A : Type 0} where
       IsChosenAt f k setup events (run_answers setup events marks) marks row → first_of f (table_before k setup events marks) ≡ Some row
   chosen_is_first setup terms f k events marks row there at =
       let table : Table = table_before k setup events marks in
-      let tidy : Tidy terms f table = (reached_before setup terms f k events marks there).tidy in
+      let tidy : Tidy f table = (reached_before setup terms f k events marks there).tidy in
       let first : IsFirst f row.number table = at_place setup (λ answer. answer ≡ said.Picked f row.number at.phase → IsFirst f row.number table) (Dispatch at.moment) events (opening_table setup) marks k at.stands.0
       (λ memory. picks_first setup terms table f row.number at.moment at.phase memory tidy) (said.Picked f row.number at.phase) at.stands.1 refl in
       one_of_number (filter (waits_in f) table.rows) first.0 row (waiting_sorted f table.rows tidy.sorted) first.1 (at_mem row (filter (waits_in f) table.rows) at.place at.waits) (sym first.2)

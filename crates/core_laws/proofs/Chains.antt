@@ -1,16 +1,17 @@
 -- From each waiting request to the next the number rises by one and the P tag by the interval or more: so every step leaves it.
-use Rattle.std.proofs.Common.{◌≡◌, ℕ, ◌+◌, Bool, true, false, ◌==◌, List, [], ◌∷◌, ◌++◌, map, take, drop, get_or, slice_get, Option, Some, None, if◌then◌else◌, ℤ, pos, ◌-ℤ◌, ◌+ℤ◌, ◌≤ℤ◌, refl, sym, subst, ap, arith}
+use Rattle.std.proofs.Common.{◌≡◌, ◌⊎◌, inl, inr, ◌<◌, ◌≤◌, ℕ, suc, ◌+◌, Bool, true, false, ◌==◌, List, [], ◌∷◌, ◌++◌, map, take, drop, get_or, slice_get, Option, Some, None, if◌then◌else◌, ℤ, pos, ◌-ℤ◌, ◌+ℤ◌, ◌≤ℤ◌, refl, sym, subst, ap, ◌∙◌, arith}
 use Rattle.std.specs.Int.{int_max}
 use Rattle.std.proofs.lemmas.Int.{ints}
-use Rattle.std.proofs.lemmas.Option.{same_Some, none-some}
+use Rattle.std.proofs.lemmas.Option.{same_Some, none-some, slice_get_within}
 use Rattle.nbd_commands.specs.Terms.{Terms}
+use Rattle.tag_clock.specs.Intervals.{Intervals}
 use Rattle.tag_clock.specs.Tags.{later}
 use Rattle.tag_clock.specs.Clocks.{lowered}
 use Rattle.server_table.specs.declared.event.Event.{Event}
-use Rattle.server_table.specs.declared.event.Event.TheVariants.{Attach, Arrive, Dispatch, Perform, Take, Leave, Gone}
+use Rattle.server_table.specs.declared.event.Event.TheVariants.{Attach, Arrive, Dispatch, Perform, Take, Leave, Gone, Retune}
 use Rattle.server_table.specs.declared.event.Answer.{Answer}
-use Rattle.server_table.specs.Table.{Table, Setup, opening_table}
-use Rattle.server_table.specs.Steps.{step, table_after}
+use Rattle.server_table.specs.Table.{Row, Table, Setup, side, opening_table}
+use Rattle.server_table.specs.Steps.{Outcome, step, table_after}
 use Rattle.server_table.specs.Shares.{is_choice_of}
 use Rattle.core_laws.specs.Counts.{is_accepted}
 use Rattle.core_laws.specs.Statements.{table_before}
@@ -19,8 +20,10 @@ use Rattle.lone_export.proofs.Cases.{if_one}
 use Rattle.core_laws.proofs.Order.{lowered_le}
 use Rattle.core_laws.proofs.Tidy.{Tidy}
 use Rattle.core_laws.proofs.Chosen.{tidy_step}
-use Rattle.core_laws.proofs.Runs.{opening_tidy}
-use Rattle.core_laws.proofs.Lanes.{Turn, Lane, lane, turn_lowered, last_lowered, lane_lowered, lane_pushed, lane_popped, lane_after, goes}
+use Rattle.core_laws.specs.Shares.{p_interval_at, WaitsThrough}
+use Rattle.core_laws.proofs.Onward.{along, Ended, OnwardBy, onward}
+use Rattle.core_laws.proofs.Runs.{opening_tidy, Steady, rates_step, rates_kept}
+use Rattle.core_laws.proofs.Lanes.{Turn, Lane, lane, turn_of, turn_lowered, last_lowered, lane_lowered, lane_pushed, lane_popped, lane_after, goes}
 
 -- of a request and those behind it
 abbrev pub IsNext : ℕ → Turn → List Turn → ℕ → Option ℤ → Type 0
@@ -142,6 +145,7 @@ module _ {A : Type 0} where
   rise e interval table (Take f s) said lane v a h w = head_same v lane.waiting h
   rise e interval table (Leave f s) said lane v a h w = head_same v lane.waiting h
   rise e interval table (Gone f s) said lane v a h w = head_same v lane.waiting h
+  rise e interval table (Retune f rates) said lane v a h w = head_same v lane.waiting h
 
   chain_after : (e interval : ℕ) (event : Event A) (said : Answer A) (by : ℤ) (lane : Lane) → Chained interval lane → Chained interval (lane_after e interval event said by lane)
   chain_after e interval (Attach f) said by lane a = a
@@ -154,24 +158,87 @@ module _ {A : Type 0} where
   chain_after e interval (Take f s) said by lane a = a
   chain_after e interval (Leave f s) said by lane a = a
   chain_after e interval (Gone f s) said by lane a = a
+  chain_after e interval (Retune f rates) said by lane a = a
 
 -- ---- of a table
 
-pub record Reached (terms : Terms) (e : ℕ) (table : Table) : Type 0 where
-  pub tidy : Tidy terms e table
-  pub chained : Chained terms.p_interval (lane e table)
+-- the interval of export e's weight that is in force is this one, and its requests that wait are as far apart
+pub record Reached (e interval : ℕ) (table : Table) : Type 0 where
+  pub tidy : Tidy e table
+  pub rate : (side table e).rates.p_interval ≡ interval
+  pub chained : Chained interval (lane e table)
 
 module _ {A : Type 0} where
-  reached_step : (setup : Setup) (terms : Terms) (table : Table) (e : ℕ) (event : Event A) (memory : Bool) → slice_get setup.exports e ≡ Some terms → Reached terms e table → Reached terms e (step setup table event memory).table
-  reached_step setup terms table e event memory there h = record {
-    tidy = tidy_step setup terms table e event memory there h.tidy;
-    chained = subst (Chained terms.p_interval) (sym (goes setup terms table e event memory there h.tidy).moves)
-        (chain_after e terms.p_interval event (step setup table event memory).answer (fall table event (step setup table event memory).answer) (lane e table) h.chained);
-  }
+  -- what an event does to the requests that wait
+  pub moves_at : (setup : Setup) (table : Table) (e interval : ℕ) (event : Event A) (memory : Bool) → Reached e interval table →
+      lane e (step setup table event memory).table ≡ lane_after e interval event (step setup table event memory).answer (fall table event (step setup table event memory).answer) (lane e table)
+  moves_at setup table e interval event memory h =
+      (goes setup table e event memory h.tidy).moves
+      ∙ ap (λ (i : ℕ). lane_after e i event (step setup table event memory).answer (fall table event (step setup table event memory).answer) (lane e table)) h.rate
 
-  reached_all : (setup : Setup) (terms : Terms) (e : ℕ) → slice_get setup.exports e ≡ Some terms → (events : List (Event A)) (table : Table) (marks : List Bool) → Reached terms e table → Reached terms e (table_after setup table events marks)
+  reached_step : (setup : Setup) (terms : Terms) (table : Table) (e : ℕ) (event : Event A) (memory : Bool) → slice_get setup.exports e ≡ Some terms →
+      Reached e (side table e).rates.p_interval table → Reached e (side (step setup table event memory).table e).rates.p_interval (step setup table event memory).table
+  reached_step setup terms table e event memory there h = record {
+    tidy = tidy_step setup table e event memory h.tidy;
+    rate = refl;
+    chained = by (rates_step setup terms table e event memory there h.tidy);
+  }
+    where
+      old : ℕ
+      old = (side table e).rates.p_interval
+
+      new : Outcome A
+      new = step setup table event memory
+
+      moved : Chained (side table e).rates.p_interval (lane e new.table)
+      moved = subst (Chained old) (sym (moves_at setup table e old event memory h)) (chain_after e old event new.answer (fall table event new.answer) (lane e table) h.chained)
+
+      by : Steady e table new.table → Chained (side new.table e).rates.p_interval (lane e new.table)
+      by (inl same) = subst (λ (rates : Intervals). Chained rates.p_interval (lane e new.table)) (sym same) moved
+      by (inr none) = record { turns = subst (λ (xs : List Row). IsChain (side new.table e).rates.p_interval (map turn_of xs) (side new.table e).next (side new.table e).last_p) (sym none.1) tt }
+
+  reached_all : (setup : Setup) (terms : Terms) (e : ℕ) → slice_get setup.exports e ≡ Some terms → (events : List (Event A)) (table : Table) (marks : List Bool) →
+      Reached e (side table e).rates.p_interval table → Reached e (side (table_after setup table events marks) e).rates.p_interval (table_after setup table events marks)
   reached_all setup terms e there [] table marks h = h
   reached_all setup terms e there (event ∷ events) table marks h = reached_all setup terms e there events (step setup table event (get_or marks 0 true)).table (drop 1 marks) (reached_step setup terms table e event (get_or marks 0 true) there h)
 
-  pub reached_before : (setup : Setup) (terms : Terms) (e k : ℕ) (events : List (Event A)) (marks : List Bool) → slice_get setup.exports e ≡ Some terms → Reached terms e (table_before k setup events marks)
-  reached_before setup terms e k events marks there = reached_all setup terms e there (take k events) (opening_table setup) marks (record { tidy = opening_tidy setup terms e there; chained = record { turns = tt } })
+  -- at each place from i up to j
+  abbrev pub ReachedThrough : ℕ → ℕ → ℕ → ℕ → Setup → List (Event A) → List Bool → Type 0
+  ReachedThrough e interval i j setup events marks = (k : ℕ) → i ≤ k → k ≤ j → Reached e interval (table_before k setup events marks)
+
+  pub reached_before : (setup : Setup) (terms : Terms) (e k : ℕ) (events : List (Event A)) (marks : List Bool) → slice_get setup.exports e ≡ Some terms → Reached e (p_interval_at e k setup events marks) (table_before k setup events marks)
+  reached_before setup terms e k events marks there = reached_all setup terms e there (take k events) (opening_table setup) marks (record {
+    tidy = opening_tidy setup e (slice_get_within setup.exports e terms there);
+    rate = refl;
+    chained = record { turns = tt };
+  })
+
+  -- while a request of e waits its interval stays
+  pub interval_kept : (setup : Setup) (terms : Terms) (e i j : ℕ) (events : List (Event A)) (marks : List Bool) → slice_get setup.exports e ≡ Some terms → i ≤ j → WaitsThrough e i j setup events marks → p_interval_at e j setup events marks ≡ p_interval_at e i setup events marks
+  interval_kept setup terms e i j events marks there order waits = along P i j order refl onward_one
+    where
+      P : ℕ → Type 0
+      P k = p_interval_at e k setup events marks ≡ p_interval_at e i setup events marks
+
+      upto : (k : ℕ) → k < j → k ≤ j
+      upto k lt = omega (arith, lt)
+
+      onward_one : (k : ℕ) → i ≤ k → k < j → P k → P (suc k)
+      onward_one k low lt h = go (onward setup events (opening_table setup) marks k)
+        where
+          interval_of : Table → ℕ
+          interval_of table = (side table e).rates.p_interval
+
+          go : Ended setup (opening_table setup) events marks k ⊎ OnwardBy setup (opening_table setup) events marks k → P (suc k)
+          go (inl ended) = ap interval_of ended.tables ∙ h
+          go (inr next) =
+              ap interval_of next.by.tables
+              ∙ ap (λ (rates : Intervals). rates.p_interval) (rates_kept setup terms (table_before k setup events marks) e next.event next.memory there (reached_before setup terms e k events marks there).tidy (waits k low (upto k lt)))
+              ∙ h
+
+  pub reached_through : (setup : Setup) (terms : Terms) (e i j : ℕ) (events : List (Event A)) (marks : List Bool) → slice_get setup.exports e ≡ Some terms → WaitsThrough e i j setup events marks → ReachedThrough e (p_interval_at e i setup events marks) i j setup events marks
+  reached_through setup terms e i j events marks there waits = λ k low up.
+      subst (λ (n : ℕ). Reached e n (table_before k setup events marks)) (interval_kept setup terms e i k events marks there low (λ m from to. waits m from (trans m k to up))) (reached_before setup terms e k events marks there)
+    where
+      trans : (m k : ℕ) → m ≤ k → k ≤ j → m ≤ j
+      trans m k h l = omega (arith, h, l)

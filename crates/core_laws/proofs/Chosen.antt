@@ -6,7 +6,7 @@ use Rattle.std.proofs.lemmas.Option.{same_Some, none-some, slice_get-map}
 use Rattle.nbd_wire.specs.Grammar.{RequestMessage}
 use Rattle.tag_clock.specs.declared.Phase.TheVariants.{Reservation, Weight}
 use Rattle.server_table.specs.declared.event.Event.{Event}
-use Rattle.server_table.specs.declared.event.Event.TheVariants.{Attach, Arrive, Dispatch, Perform, Take, Leave, Gone}
+use Rattle.server_table.specs.declared.event.Event.TheVariants.{Attach, Arrive, Dispatch, Perform, Take, Leave, Gone, Retune}
 use Rattle.lone_export.specs.declared.step.Step.{Step}
 use Rattle.lone_export.specs.declared.step.Step.TheVariants as own
 use Rattle.lone_export.specs.declared.step.StepAnswer.{StepAnswer}
@@ -18,14 +18,14 @@ use Rattle.nbd_commands.specs.Meaning.{may_want_memory}
 use Rattle.reply_box.specs.Sessions.{is_here, is_open_at, is_left_at, is_here_at, outbox_at}
 use Rattle.lone_export.specs.Alone.{own_step}
 use Rattle.server_table.specs.Table.{Row, Table, Setup, Choice, side, waits_in, is_out_in, job_of, part, is_due_by_reservation, is_due_by_limit, due_by_reservation, due_by_limit, foremost, r_key, p_key, choice, shifted}
-use Rattle.server_table.specs.Steps.{changed, is_out_row, outstanding_in, accepted_in, send, sent, is_by_weight, with_credit, step}
+use Rattle.server_table.specs.Steps.{changed, with_sessions, with_rates, is_out_row, outstanding_in, accepted_in, send, sent, is_by_weight, with_credit, step}
 use Rattle.server_table.specs.Order.{TagBefore}
-use Rattle.lone_export.proofs.Cases.{if_one, some_one, some_told}
+use Rattle.lone_export.proofs.Cases.{if_one, if_told, some_one, some_told}
 use Rattle.core_laws.proofs.Lists.{filter-map}
 use Rattle.core_laws.proofs.Parts.{part_other, part_own, part_credited}
 use Rattle.core_laws.proofs.Named.{Agrees}
 use Rattle.core_laws.proofs.Tidy.{Sorted, is_of, rows_of, is_of_all, map_same_on, filter-and, Lowers, chosen_first, sent_waiting, sent_out, Tidy}
-use Rattle.core_laws.proofs.Kept.{Keeps, keeps_all, keeps_sessions, keeps_done, keeps_undone, tidy_shifted, keeps_accepted, keeps_accepted_other, keeps_sent, tidy_credited}
+use Rattle.core_laws.proofs.Kept.{Keeps, keeps_all, keeps_side, sessions_unseen, rates_unseen, keeps_done, keeps_undone, tidy_shifted, keeps_accepted, keeps_accepted_other, keeps_sent, tidy_credited}
 
 -- ---- which row is chosen
 
@@ -97,10 +97,10 @@ choice_first inflight table chosen is e same sorted = subst (λ (k : ℕ). slice
 
 -- ---- a dispatch, and the part of each export
 
-pub part_with_credit : (setup : Setup) (chosen : Choice) (e : ℕ) (table : Table) → part e (with_credit setup chosen table) ≡ part e table
-part_with_credit setup chosen e table =
+pub part_with_credit : (chosen : Choice) (e : ℕ) (table : Table) → part e (with_credit chosen table) ≡ part e table
+part_with_credit chosen e table =
     if_one P (is_by_weight chosen.phase)
-    (some_one P (slice_get setup.exports chosen.row.export) (λ terms h. some_one P terms.r_interval (λ by k. part_credited e by chosen.row.export table) refl) refl)
+    (some_one P (side table chosen.row.export).rates.r_interval (λ by k. part_credited e by chosen.row.export table) refl)
     refl
   where
     P : Table → Type 0
@@ -145,18 +145,15 @@ sent_own A terms e table chosen same lt sorted first =
     out : map job_of (filter (is_out_in e) rows) ≡ map job_of (filter (is_out_in e) table.rows) ++ job_of chosen.row ∷ []
     out = ap (map job_of) (filter-and (is_of e) (λ x. x.out) rows ∙ ap (filter (λ x. x.out)) of_e) ∙ sent_out chosen.row (rows_of e table.rows) sorted first_of_e ∙ ap (λ (xs : List Row). map job_of xs ++ job_of chosen.row ∷ []) (sym (filter-and (is_of e) (λ x. x.out) table.rows))
 
-pub tidy_now : (terms : Terms) (e n : ℕ) (table : Table) → Tidy terms e table → Tidy terms e (record table { now = n })
-tidy_now terms e n table tidy = record { there = tidy.there; sorted = tidy.sorted; kept = tidy.kept }
+pub tidy_now : (e n : ℕ) (table : Table) → Tidy e table → Tidy e (record table { now = n })
+tidy_now e n table tidy = record { there = tidy.there; sorted = tidy.sorted; kept = tidy.kept }
 
 -- ---- every step keeps the order of the rows
 
-pub same_record : (a b : Terms) (o : Option Terms) → o ≡ Some a → o ≡ Some b → a ≡ b
-same_record a b o h k = same_Some a b (sym h ∙ k)
-
-tidy_with_credit : (setup : Setup) (terms : Terms) (chosen : Choice) (e : ℕ) (table : Table) → Tidy terms e table → Tidy terms e (with_credit setup chosen table)
-tidy_with_credit setup terms chosen e table tidy =
-    if_one (Tidy terms e) (is_by_weight chosen.phase)
-    (some_one (Tidy terms e) (slice_get setup.exports chosen.row.export) (λ there h. some_one (Tidy terms e) there.r_interval (λ by k. tidy_credited terms e by chosen.row.export table tidy) tidy) tidy)
+tidy_with_credit : (chosen : Choice) (e : ℕ) (table : Table) → Tidy e table → Tidy e (with_credit chosen table)
+tidy_with_credit chosen e table tidy =
+    if_one (Tidy e) (is_by_weight chosen.phase)
+    (some_one (Tidy e) (side table chosen.row.export).rates.r_interval (λ by k. tidy_credited e by chosen.row.export table tidy) tidy)
     tidy
 
 module _ {A : Type 0} where
@@ -167,83 +164,86 @@ module _ {A : Type 0} where
   pick_answer terms e table c first = rw (slice_get-map job_of (filter (waits_in e) table.rows) 0, first) refl
 
 -- what a dispatch does to the part of e
-agrees_sent : (A : Type 0) (setup : Setup) (terms : Terms) (e t : ℕ) (table : Table) (chosen : Choice) → Tidy terms e table → (e ≡ chosen.row.export → slice_get (filter (waits_in e) table.rows) 0 ≡ Some chosen.row) → (b : Bool) → eqb chosen.row.export e ≡ b →
-    MatchOption (pick_if {A = A} b) (part e (with_credit setup chosen (sent chosen.row table)) ≡ part e table)
-    (λ one. (part e (with_credit setup chosen (sent chosen.row table)) ≡ (own_step terms (part e table) one).state) × (◌≡◌ {A = Option (StepAnswer A)} (Some (alone.Picked chosen.row.number)) (Some (own_step terms (part e table) one).answer)))
-agrees_sent A setup terms e t table chosen tidy first true h =
-    (part_with_credit setup chosen e (sent chosen.row table) ∙ sent_own A terms e table chosen same tidy.there tidy.sorted (first same), ap Some (sym (pick_answer terms e table chosen.row (first same))))
+agrees_sent : (A : Type 0) (terms : Terms) (e t : ℕ) (table : Table) (chosen : Choice) → Tidy e table → (e ≡ chosen.row.export → slice_get (filter (waits_in e) table.rows) 0 ≡ Some chosen.row) → (b : Bool) → eqb chosen.row.export e ≡ b →
+    MatchOption (pick_if {A = A} b) (part e (with_credit chosen (sent chosen.row table)) ≡ part e table)
+    (λ one. (part e (with_credit chosen (sent chosen.row table)) ≡ (own_step terms (part e table) one).state) × (◌≡◌ {A = Option (StepAnswer A)} (Some (alone.Picked chosen.row.number)) (Some (own_step terms (part e table) one).answer)))
+agrees_sent A terms e t table chosen tidy first true h =
+    (part_with_credit chosen e (sent chosen.row table) ∙ sent_own A terms e table chosen same tidy.there tidy.sorted (first same), ap Some (sym (pick_answer terms e table chosen.row (first same))))
   where
     same : e ≡ chosen.row.export
     same = grind (arith, nat_tests, h)
-agrees_sent A setup terms e t table chosen tidy first false h =
-    part_with_credit setup chosen e (sent chosen.row table) ∙ sent_other e table chosen (λ k. differ k)
+agrees_sent A terms e t table chosen tidy first false h =
+    part_with_credit chosen e (sent chosen.row table) ∙ sent_other e table chosen (λ k. differ k)
   where
     differ : e ≡ chosen.row.export → ⊥
     differ k = grind (arith, nat_tests, h, k)
 
-pub agrees_dispatch : (A : Type 0) (setup : Setup) (terms : Terms) (table : Table) (e t : ℕ) (memory : Bool) → Tidy terms e table → Agrees terms e table (Dispatch t) (step {A = A} setup table (Dispatch t) memory)
+pub agrees_dispatch : (A : Type 0) (setup : Setup) (terms : Terms) (table : Table) (e t : ℕ) (memory : Bool) → Tidy e table → Agrees terms e table (Dispatch t) (step {A = A} setup table (Dispatch t) memory)
 agrees_dispatch A setup terms table e t memory tidy =
     let now : Table = record table { now = max table.now t } in
     some_told (Agrees terms e table (Dispatch t)) (choice setup.inflight now)
-    (λ chosen is. agrees_sent A setup terms e t now chosen (tidy_now terms e (max table.now t) table tidy) (λ same. choice_first setup.inflight now chosen is e same tidy.sorted) (eqb chosen.row.export e) refl)
+    (λ chosen is. agrees_sent A terms e t now chosen (tidy_now e (max table.now t) table tidy) (λ same. choice_first setup.inflight now chosen is e same tidy.sorted) (eqb chosen.row.export e) refl)
     (λ none. refl)
 
 module _ {A : Type 0} where
-  keeps_arrival : (setup : Setup) (terms there : Terms) (e f s t : ℕ) (q : RequestMessage) (table : Table) → slice_get setup.exports e ≡ Some terms → slice_get setup.exports f ≡ Some there → Tidy terms e table → (b : Bool) → eqb e f ≡ b → Keeps {A = A} terms e (accepted_in there f s t q table)
-  keeps_arrival setup terms there e f s t q table h k tidy true is =
-      let same : e ≡ f = equal is in
-      let one : terms ≡ there = same_record terms there (slice_get setup.exports f) (subst (λ (x : ℕ). slice_get setup.exports x ≡ Some terms) same h) k in
-      subst (λ (x : ℕ). Keeps {A = A} terms e (accepted_in there x s t q table)) same (subst (λ (x : Terms). Keeps {A = A} terms e (accepted_in x e s t q table)) one (keeps_accepted terms e s t q table tidy))
+  keeps_arrival : (e f s t : ℕ) (q : RequestMessage) (table : Table) → Tidy e table → (b : Bool) → eqb e f ≡ b → Keeps {A = A} e (accepted_in f s t q table)
+  keeps_arrival e f s t q table tidy true is = subst (λ (x : ℕ). Keeps {A = A} e (accepted_in x s t q table)) (equal is) (keeps_accepted e s t q table tidy)
     where
       equal : eqb e f ≡ true → e ≡ f
       equal h = grind (arith, nat_tests, h)
-  keeps_arrival setup terms there e f s t q table h k tidy false is = keeps_accepted_other terms there e f s t q table (λ x. differ x) tidy
+  keeps_arrival e f s t q table tidy false is = keeps_accepted_other e f s t q table (λ x. differ x) tidy
     where
       differ : e ≡ f → ⊥
       differ x = grind (arith, nat_tests, is, x)
 
-  keeps_step : (setup : Setup) (terms : Terms) (table : Table) (e : ℕ) (event : Event A) (memory : Bool) → slice_get setup.exports e ≡ Some terms → Tidy terms e table → Keeps terms e (step setup table event memory)
-  keeps_step setup terms table e (Attach named) memory there tidy =
-      let P = Keeps terms e in
+  keeps_step : (setup : Setup) (table : Table) (e : ℕ) (event : Event A) (memory : Bool) → Tidy e table → Keeps e (step setup table event memory)
+  keeps_step setup table e (Attach named) memory tidy =
+      let P = Keeps e in
       some_one P (slice_get setup.exports named) (λ other h.
-      if_one P (nat_le (2 ^ 56) (side table named).count) (keeps_all terms e table _ tidy)
-      (if_one P (length (filter is_here (side table named).sessions) == 64) (keeps_all terms e table _ tidy)
-      (if_one P (not memory) (keeps_all terms e table _ tidy)
-      (keeps_sessions terms e named table _ _ tidy)))) (keeps_all terms e table _ tidy)
-  keeps_step setup terms table e (Arrive named s t q) memory there tidy =
-      let P = Keeps terms e in
+      if_one P (nat_le (2 ^ 56) (side table named).count) (keeps_all e table _ tidy)
+      (if_one P (length (filter is_here (side table named).sessions) == 64) (keeps_all e table _ tidy)
+      (if_one P (not memory) (keeps_all e table _ tidy)
+      (keeps_side e named table (with_sessions _) _ (sessions_unseen named table _) tidy)))) (keeps_all e table _ tidy)
+  keeps_step setup table e (Arrive named s t q) memory tidy =
+      let P = Keeps e in
       some_one P (slice_get setup.exports named) (λ other h.
-      if_one P (not (is_open_at (side table named).sessions s)) (keeps_all terms e table _ tidy)
-      (if_one P (nat_le (2 ^ 56) (side table named).count) (keeps_all terms e table _ tidy)
-      (if_one P (outstanding_in named s table == other.window) (keeps_all terms e table _ tidy)
-      (if_one P (not memory) (keeps_all terms e table _ tidy)
-      (if_one P (not (verdict_of other q == 0)) (keeps_sessions terms e named table _ _ tidy)
-      (if_one P (length (filter (waits_in named) table.rows) == other.depth) (keeps_sessions terms e named table _ _ tidy)
-      (keeps_arrival setup terms other e named s t q (shifted named t table) there h (tidy_shifted terms e named t table tidy) (eqb e named) refl))))))) (keeps_all terms e table _ tidy)
-  keeps_step setup terms table e (Dispatch t) memory there tidy =
+      if_one P (not (is_open_at (side table named).sessions s)) (keeps_all e table _ tidy)
+      (if_one P (nat_le (2 ^ 56) (side table named).count) (keeps_all e table _ tidy)
+      (if_one P (outstanding_in named s table == other.window) (keeps_all e table _ tidy)
+      (if_one P (not memory) (keeps_all e table _ tidy)
+      (if_one P (not (verdict_of other q == 0)) (keeps_side e named table (with_sessions _) _ (sessions_unseen named table _) tidy)
+      (if_one P (length (filter (waits_in named) table.rows) == other.depth) (keeps_side e named table (with_sessions _) _ (sessions_unseen named table _) tidy)
+      (keeps_arrival e named s t q (shifted named t table) (tidy_shifted e named t table tidy) (eqb e named) refl))))))) (keeps_all e table _ tidy)
+  keeps_step setup table e (Dispatch t) memory tidy =
       let now : Table = record table { now = max table.now t } in
-      let tidy_at : Tidy terms e now = tidy_now terms e (max table.now t) table tidy in
-      some_told (Keeps terms e) (choice setup.inflight now)
-      (λ chosen is. record { tidy = tidy_with_credit setup terms chosen e (sent chosen.row now) (keeps_sent terms e now chosen (λ same. subst (λ (xs : List Row). slice_get xs 0 ≡ Some chosen.row) (filter-and (is_of e) (λ x. not x.out) table.rows) (choice_first setup.inflight now chosen is e same tidy.sorted)) tidy_at) })
-      (λ none. keeps_all terms e now _ tidy_at)
-  keeps_step setup terms table e (Perform named n) memory there tidy =
-      let P = Keeps terms e in
+      let tidy_at : Tidy e now = tidy_now e (max table.now t) table tidy in
+      some_told (Keeps e) (choice setup.inflight now)
+      (λ chosen is. record { tidy = tidy_with_credit chosen e (sent chosen.row now) (keeps_sent e now chosen (λ same. subst (λ (xs : List Row). slice_get xs 0 ≡ Some chosen.row) (filter-and (is_of e) (λ x. not x.out) table.rows) (choice_first setup.inflight now chosen is e same tidy.sorted)) tidy_at) })
+      (λ none. keeps_all e now _ tidy_at)
+  keeps_step setup table e (Perform named n) memory tidy =
+      let P = Keeps e in
       some_one P (find (is_out_row named n) table.rows) (λ row h.
-      if_one P (not memory && may_want_memory row.request) (keeps_undone terms e named table row tidy) (keeps_done terms e named table row tidy)) (keeps_all terms e table _ tidy)
-  keeps_step setup terms table e (Take named s) memory there tidy =
-      let P = Keeps terms e in
+      if_one P (not memory && may_want_memory row.request) (keeps_undone e named table row tidy) (keeps_done e named table row tidy)) (keeps_all e table _ tidy)
+  keeps_step setup table e (Take named s) memory tidy =
+      let P = Keeps e in
       some_one P (slice_get setup.exports named) (λ other h.
-      if_one P (not (is_here_at (side table named).sessions s)) (keeps_all terms e table _ tidy)
-      (some_one P (slice_get (outbox_at (side table named).sessions s) 0) (λ reply k. keeps_sessions terms e named table _ _ tidy)
-      (if_one P (is_left_at (side table named).sessions s && outstanding_in named s table == 0) (keeps_all terms e table _ tidy) (keeps_all terms e table _ tidy)))) (keeps_all terms e table _ tidy)
-  keeps_step setup terms table e (Leave named s) memory there tidy =
-      let P = Keeps terms e in
+      if_one P (not (is_here_at (side table named).sessions s)) (keeps_all e table _ tidy)
+      (some_one P (slice_get (outbox_at (side table named).sessions s) 0) (λ reply k. keeps_side e named table (with_sessions _) _ (sessions_unseen named table _) tidy)
+      (if_one P (is_left_at (side table named).sessions s && outstanding_in named s table == 0) (keeps_all e table _ tidy) (keeps_all e table _ tidy)))) (keeps_all e table _ tidy)
+  keeps_step setup table e (Leave named s) memory tidy =
+      let P = Keeps e in
       some_one P (slice_get setup.exports named) (λ other h.
-      if_one P (not (is_open_at (side table named).sessions s)) (keeps_all terms e table _ tidy) (keeps_sessions terms e named table _ _ tidy)) (keeps_all terms e table _ tidy)
-  keeps_step setup terms table e (Gone named s) memory there tidy =
-      let P = Keeps terms e in
+      if_one P (not (is_open_at (side table named).sessions s)) (keeps_all e table _ tidy) (keeps_side e named table (with_sessions _) _ (sessions_unseen named table _) tidy)) (keeps_all e table _ tidy)
+  keeps_step setup table e (Gone named s) memory tidy =
+      let P = Keeps e in
       some_one P (slice_get setup.exports named) (λ other h.
-      if_one P (not (is_here_at (side table named).sessions s)) (keeps_all terms e table _ tidy) (keeps_sessions terms e named table _ _ tidy)) (keeps_all terms e table _ tidy)
+      if_one P (not (is_here_at (side table named).sessions s)) (keeps_all e table _ tidy) (keeps_side e named table (with_sessions _) _ (sessions_unseen named table _) tidy)) (keeps_all e table _ tidy)
+  keeps_step setup table e (Retune named rates) memory tidy =
+      let P = Keeps e in
+      some_one P (slice_get setup.exports named) (λ other h.
+      if_one P (nat_le (2 ^ 56) (side table named).count) (keeps_all e table _ tidy)
+      (if_told P (not (length (filter (waits_in named) table.rows) == 0)) (λ h. keeps_all e table _ tidy)
+      (λ idle. if_one P (not memory) (keeps_all e table _ tidy) (keeps_side e named table (with_rates rates) _ (rates_unseen named table rates idle) tidy)))) (keeps_all e table _ tidy)
 
-  pub tidy_step : (setup : Setup) (terms : Terms) (table : Table) (e : ℕ) (event : Event A) (memory : Bool) → slice_get setup.exports e ≡ Some terms → Tidy terms e table → Tidy terms e (step setup table event memory).table
-  tidy_step setup terms table e event memory there tidy = (keeps_step setup terms table e event memory there tidy).tidy
+  pub tidy_step : (setup : Setup) (table : Table) (e : ℕ) (event : Event A) (memory : Bool) → Tidy e table → Tidy e (step setup table event memory).table
+  tidy_step setup table e event memory tidy = (keeps_step setup table e event memory tidy).tidy

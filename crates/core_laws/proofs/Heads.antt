@@ -2,10 +2,9 @@
 use Rattle.std.proofs.Common.{◌≡◌, ◌⊎◌, ℕ, zero, suc, ◌<◌, Bool, true, false, eqb, List, [], ◌∷◌, ◌++◌, length, filter, get_or, drop, slice_get, Option, Some, None, option_to_list, if◌then◌else◌, ℤ, refl, sym, subst, ap, ◌∙◌, arith, inl, inr}
 use Rattle.std.proofs.lemmas.Int.{ints}
 use Rattle.std.proofs.lemmas.Bool.Decides.{nat_tests}
-use Rattle.std.proofs.lemmas.Option.{same_Some, none-some, slice_get-get_or}
+use Rattle.std.proofs.lemmas.Option.{same_Some, none-some}
 use Rattle.server_table.specs.declared.event.Event.{Event}
 use Rattle.nbd_base.specs.Words.{when_some}
-use Rattle.nbd_commands.specs.Terms.{Terms}
 use Rattle.server_table.specs.Table.{Row, Table, Setup, waits_in, is_due_by_reservation, is_due_by_limit, precedes, foremost, r_key, p_key, choice, opening_table, choice_with}
 use Rattle.server_table.specs.Steps.{step, table_after, last_table}
 use Rattle.core_laws.specs.Heads.{first_rows}
@@ -130,9 +129,9 @@ pub same_choice : (setup : Setup) (table : Table) → Ordered setup table → ch
 same_choice setup table ordered = rw (← foremost_of_first r_key (is_due_by_reservation table.now) (lowers_r table.now) setup table ordered, ← foremost_of_first p_key (is_due_by_limit table.now) (lowers_p table.now) setup table ordered) refl
 
 module _ {A : Type 0} where
-  pub tidy_all : (setup : Setup) (terms : Terms) (e : ℕ) → slice_get setup.exports e ≡ Some terms → (events : List (Event A)) (table : Table) (marks : List Bool) → Tidy terms e table → Tidy terms e (table_after setup table events marks)
-  tidy_all setup terms e there [] table marks tidy = tidy
-  tidy_all setup terms e there (event ∷ events) table marks tidy = tidy_all setup terms e there events (step setup table event (get_or marks 0 true)).table (drop 1 marks) (tidy_step setup terms table e event (get_or marks 0 true) there tidy)
+  pub tidy_all : (setup : Setup) (e : ℕ) (events : List (Event A)) (table : Table) (marks : List Bool) → Tidy e table → Tidy e (table_after setup table events marks)
+  tidy_all setup e [] table marks tidy = tidy
+  tidy_all setup e (event ∷ events) table marks tidy = tidy_all setup e events (step setup table event (get_or marks 0 true)).table (drop 1 marks) (tidy_step setup table e event (get_or marks 0 true) tidy)
 
   there_all : (setup : Setup) (events : List (Event A)) (table : Table) (marks : List Bool) → AllThere setup table → AllThere setup (table_after setup table events marks)
   there_all setup [] table marks a = a
@@ -141,15 +140,8 @@ module _ {A : Type 0} where
   pub ordered_last : (run : Run A) → Ordered run.setup (last_table run.setup run.events run.marks)
   ordered_last run = record {
     there = there_all run.setup run.events (opening_table run.setup) run.marks (record { rows = tt });
-    sorted = λ e lt. go e (slice_get run.setup.exports e) refl lt;
+    sorted = λ e lt. (tidy_all run.setup e run.events (opening_table run.setup) run.marks (opening_tidy run.setup e lt)).sorted;
   }
-    where
-      go : (e : ℕ) (o : Option Terms) → slice_get run.setup.exports e ≡ o → e < length run.setup.exports → Sorted (rows_of e (last_table run.setup run.events run.marks).rows)
-      go e None is lt = absurd (none-some (get_or run.setup.exports e blank) (sym is ∙ slice_get-get_or run.setup.exports e blank lt))
-        where
-          blank : Terms
-          blank = record { size = 0; read_only = false; depth = 0; window = 0; r_interval = None; l_interval = 0; p_interval = 0 }
-      go e (Some terms) is lt = (tidy_all run.setup terms e is run.events (opening_table run.setup) run.marks (opening_tidy run.setup terms e is)).sorted
 
   pub heads_are_enough : (run : Run A) (t : ℕ) → choice run.setup.inflight (record (last_table run.setup run.events run.marks) { now = t }) ≡ choice_with run.setup.inflight (length (filter (λ row. row.out) (last_table run.setup run.events run.marks).rows)) (record (last_table run.setup run.events run.marks) { now = t; rows = first_rows (length run.setup.exports) (last_table run.setup run.events run.marks).rows })
   heads_are_enough run t =

@@ -1,5 +1,5 @@
 -- Every step keeps the order of each export's rows.
-use Rattle.std.proofs.Common.{◌≡◌, ◌≢◌, ℕ, suc, ◌<◌, ◌≤◌, Bool, true, false, not, ◌&&◌, ◌||◌, eqb, ◌==◌, List, [], ◌∷◌, ◌++◌, length, filter, slice_get, Option, Some, None, is_some, option_map, if◌then◌else◌, ℤ, pos, ◌-ℤ◌, ◌+ℤ◌, ◌≤ℤ◌, refl, sym, subst, ap, ◌∙◌, arith, ◌+◌}
+use Rattle.std.proofs.Common.{◌≡◌, ◌≢◌, ℕ, suc, ◌<◌, ◌≤◌, Bool, true, false, not, ◌&&◌, ◌||◌, eqb, ◌==◌, List, [], ◌∷◌, ◌++◌, length, filter, slice_get, Option, Some, None, is_some, option_map, if◌then◌else◌, ℤ, pos, ◌-ℤ◌, ◌+ℤ◌, ◌≤ℤ◌, refl, sym, subst, ap, ◌∙◌, arith, ◌+◌, ◌⊎◌, inl, inr}
 use Rattle.std.specs.Int.{int_max}
 use Rattle.std.specs.List.{AllByRecursion}
 use Rattle.std.proofs.lemmas.Int.{ints}
@@ -7,16 +7,17 @@ use Rattle.std.proofs.lemmas.Bool.Decides.{nat_tests}
 use Rattle.std.proofs.lemmas.Option.{same_Some}
 use Rattle.nbd_wire.specs.Grammar.{RequestMessage}
 use Rattle.server_table.specs.declared.event.Answer.{Answer}
-use Rattle.nbd_commands.specs.Terms.{Terms}
 use Rattle.reply_box.specs.Sessions.{Session}
 use Rattle.server_table.specs.declared.event.Answer.TheVariants as said
 use Rattle.server_table.specs.Table.{Row, Side, Table, Choice, side, no_side, waits_in, is_idle, p_key, foremost, lower_p, lower_last_p, all_lowered, shifted, lower_r, lower_last_r, credited, put}
 use Rattle.tag_clock.specs.Tags.{later}
-use Rattle.server_table.specs.Steps.{Outcome, outcome, with_sessions, is_out_row, new_row, with_last, accepted_in, done_side, undone_side, done_in, undone_in, send, sent, entered_in, seated}
+use Rattle.tag_clock.specs.Intervals.{Intervals}
+use Rattle.tag_clock.specs.Clocks.{last_r_for}
+use Rattle.server_table.specs.Steps.{Outcome, outcome, changed, with_sessions, with_rates, is_out_row, new_row, with_last, accepted_in, done_side, undone_side, done_in, undone_in, send, sent, entered_in}
 use Rattle.server_table.specs.Order.{TagBefore}
 use Rattle.lone_export.proofs.Cases.{if_one, some_one}
 use Rattle.nbd_base.proofs.Words.{length-change_at}
-use Rattle.core_laws.proofs.Lists.{all_here, all-append, length-change_each, get_or-change_at, get_or-change_at_other, get_or-change_each, unseen-change_at}
+use Rattle.core_laws.proofs.Lists.{all_here, all-append, length-change_each, get_or-change_at, get_or-change_at_other, get_or-change_each, unseen-change_at, unseen_there}
 use Rattle.core_laws.proofs.Order.{larger, lowered_le}
 use Rattle.core_laws.proofs.Parts.{put_own, put_other}
 use Rattle.core_laws.proofs.Tidy.{IsBefore, Latest, latest, IsKept, Sorted, is_of, rows_of, is_of_all, Sorted-push, all_both, Tidy, tidy_same, tidy_filter, tidy_map}
@@ -83,20 +84,20 @@ lower_p_order by a b h = record {
   p = λ o. rw (o, h.place o) (lowered_le a.p b.p by (h.p o));
 }
 
-tidy_lowered : (terms : Terms) (e : ℕ) (by : ℤ) (table : Table) → Tidy terms e table → Tidy terms e (all_lowered by table)
-tidy_lowered terms e by table tidy = go (is_idle e table.rows) refl
+tidy_lowered : (e : ℕ) (by : ℤ) (table : Table) → Tidy e table → Tidy e (all_lowered by table)
+tidy_lowered e by table tidy = go (is_idle e table.rows) refl
   where
     late : side (all_lowered by table) e ≡ lower_last_p by table.rows e (side table e)
     late = get_or-change_each (lower_last_p by table.rows) 0 e table.sides no_side tidy.there ∙ ap (λ k. lower_last_p by table.rows k (side table e)) (omega arith)
 
-    go : (b : Bool) → is_idle e table.rows ≡ b → Tidy terms e (all_lowered by table)
-    go true idle = tidy_map terms e (lower_p by) (λ x. x.out ≡ true) table (all_lowered by table) tidy (λ x. refl) (idle_out e table.rows idle) (λ a b p q h. lower_p_order by a b h)
+    go : (b : Bool) → is_idle e table.rows ≡ b → Tidy e (all_lowered by table)
+    go true idle = tidy_map e (lower_p by) (λ x. x.out ≡ true) table (all_lowered by table) tidy (λ x. refl) (idle_out e table.rows idle) (λ a b p q h. lower_p_order by a b h)
         (λ x o h. rw (late, idle) (record { number = h.number; shape = h.shape; r = h.r; l = h.l; p = λ w. absurd (differ x.out o w) }))
         (length-change_each (lower_last_p by table.rows) 0 table.sides) refl
       where
         differ : (b : Bool) → b ≡ true → b ≡ false → ⊥
         differ b h k = grind (arith, h, k)
-    go false active = tidy_map terms e (lower_p by) (λ x. Unit {0}) table (all_lowered by table) tidy (λ x. refl) (anything (rows_of e table.rows)) (λ a b p q h. lower_p_order by a b h)
+    go false active = tidy_map e (lower_p by) (λ x. Unit {0}) table (all_lowered by table) tidy (λ x. refl) (anything (rows_of e table.rows)) (λ a b p q h. lower_p_order by a b h)
         (λ x o h. rw (late, active) (record { number = h.number; shape = h.shape; r = h.r; l = h.l; p = λ w. rw w (upto_lowered (Some x.p) (side table e).last_p by (h.p w)) }))
         (length-change_each (lower_last_p by table.rows) 0 table.sides) refl
       where
@@ -104,36 +105,36 @@ tidy_lowered terms e by table tidy = go (is_idle e table.rows) refl
         anything [] = tt
         anything (x ∷ xs) = (tt, anything xs)
 
-pub tidy_shifted : (terms : Terms) (e f t : ℕ) (table : Table) → Tidy terms e table → Tidy terms e (shifted f t table)
-tidy_shifted terms e f t table tidy =
-    if_one (Tidy terms e) (is_idle f table.rows)
-    (some_one (Tidy terms e) (foremost p_key (filter (λ row. not row.out) table.rows)) (λ first is. tidy_lowered terms e (first.p -ℤ pos t) table tidy) tidy)
+pub tidy_shifted : (e f t : ℕ) (table : Table) → Tidy e table → Tidy e (shifted f t table)
+tidy_shifted e f t table tidy =
+    if_one (Tidy e) (is_idle f table.rows)
+    (some_one (Tidy e) (foremost p_key (filter (λ row. not row.out) table.rows)) (λ first is. tidy_lowered e (first.p -ℤ pos t) table tidy) tidy)
     tidy
 
 -- ---- an arrival
 
 -- a row that was there is before a new one, and below the latest arrival
-before_new : (terms : Terms) (e s t : ℕ) (q : RequestMessage) (side : Side) (x : Row) → IsKept terms (latest side) x → IsBefore x (new_row terms e s t q side)
-before_new terms e s t q side x h = record {
+before_new : (e s t : ℕ) (q : RequestMessage) (side : Side) (x : Row) → IsKept (latest side) x → IsBefore x (new_row e s t q side)
+before_new e s t q side x h = record {
   number = h.number;
   place = λ w. refl;
-  r = λ w. upto_r x.r side.last_r terms.r_interval t (h.shape w) (h.r w);
-  l = λ w. upto_later x.l side.last_l terms.l_interval t (h.l w);
-  p = λ w. upto_later x.p side.last_p terms.p_interval t (h.p w);
+  r = λ w. upto_r x.r side.last_r side.rates.r_interval t (h.shape w) (h.r w);
+  l = λ w. upto_later x.l side.last_l side.rates.l_interval t (h.l w);
+  p = λ w. upto_later x.p side.last_p side.rates.p_interval t (h.p w);
 }
 
-kept_new : (terms : Terms) (e s t : ℕ) (q : RequestMessage) (side : Side) (x : Row) → IsKept terms (latest side) x → IsKept terms (latest (with_last (new_row terms e s t q side) side)) x
-kept_new terms e s t q side x h =
-    let b : IsBefore x (new_row terms e s t q side) = before_new terms e s t q side x h in
+kept_new : (e s t : ℕ) (q : RequestMessage) (side : Side) (x : Row) → IsKept (latest side) x → IsKept (latest (with_last (new_row e s t q side) side)) x
+kept_new e s t q side x h =
+    let b : IsBefore x (new_row e s t q side) = before_new e s t q side x h in
     record { number = omega (arith, h.number); shape = h.shape; r = b.r; l = b.l; p = b.p }
 
-new_kept : (terms : Terms) (e s t : ℕ) (q : RequestMessage) (side : Side) → IsKept terms (latest (with_last (new_row terms e s t q side) side)) (new_row terms e s t q side)
-new_kept terms e s t q side = record {
+new_kept : (e s t : ℕ) (q : RequestMessage) (side : Side) → IsKept (latest (with_last (new_row e s t q side) side)) (new_row e s t q side)
+new_kept e s t q side = record {
   number = omega arith;
-  shape = λ w. same_shape terms.r_interval (λ i. later side.last_r i t);
-  r = λ w. upto_refl (new_row terms e s t q side).r;
-  l = λ w. upto_refl (Some (new_row terms e s t q side).l);
-  p = λ w. upto_refl (Some (new_row terms e s t q side).p);
+  shape = λ w. same_shape side.rates.r_interval (λ i. later side.last_r i t);
+  r = λ w. upto_refl (new_row e s t q side).r;
+  l = λ w. upto_refl (Some (new_row e s t q side).l);
+  p = λ w. upto_refl (Some (new_row e s t q side).p);
 }
 
 pub is_of_export : (e : ℕ) (x : Row) → is_of e x ≡ true → x.export ≡ e
@@ -195,16 +196,16 @@ send_order c e a b p q h = record {
             above : c.number ≤ a.number → eqb b.number c.number ≡ false
             above le = grind (arith, nat_tests, le, lt)
 
-send_kept : (c : Row) (terms : Terms) (late : Latest) (x : Row) → IsKept terms late x → IsKept terms late (send c x)
-send_kept c terms late x h = record { number = h.number; shape = λ w. h.shape (send_waits c x w); r = λ w. h.r (send_waits c x w); l = λ w. h.l (send_waits c x w); p = λ w. h.p (send_waits c x w) }
+send_kept : (c : Row) (late : Latest) (x : Row) → IsKept late x → IsKept late (send c x)
+send_kept c late x h = record { number = h.number; shape = λ w. h.shape (send_waits c x w); r = λ w. h.r (send_waits c x w); l = λ w. h.l (send_waits c x w); p = λ w. h.p (send_waits c x w) }
 
 -- c is the first of its export that waits, where that export is e
-pub keeps_sent : (terms : Terms) (e : ℕ) (table : Table) (chosen : Choice) → (e ≡ chosen.row.export → slice_get (filter (λ x. not x.out) (rows_of e table.rows)) 0 ≡ Some chosen.row) → Tidy terms e table → Tidy terms e (sent chosen.row table)
-keeps_sent terms e table chosen first tidy =
+pub keeps_sent : (e : ℕ) (table : Table) (chosen : Choice) → (e ≡ chosen.row.export → slice_get (filter (λ x. not x.out) (rows_of e table.rows)) 0 ≡ Some chosen.row) → Tidy e table → Tidy e (sent chosen.row table)
+keeps_sent e table chosen first tidy =
     let late : latest (side (sent chosen.row table) e) ≡ latest (side table e) = unseen-change_at latest (λ side. record side { count = side.count + 1 }) (λ x. refl) chosen.row.export e table.sides no_side in
-    tidy_map terms e (send chosen.row) (Behind chosen.row e) table (sent chosen.row table) tidy (λ x. refl) (behind (eqb e chosen.row.export) refl)
+    tidy_map e (send chosen.row) (Behind chosen.row e) table (sent chosen.row table) tidy (λ x. refl) (behind (eqb e chosen.row.export) refl)
     (λ a b p q h. send_order chosen.row e a b p q h)
-    (λ x q h. rw late (send_kept chosen.row terms (latest (side table e)) x h))
+    (λ x q h. rw late (send_kept chosen.row (latest (side table e)) x h))
     (length-change_at (λ side. record side { count = side.count + 1 }) chosen.row.export table.sides) refl
   where
     c : Row
@@ -228,12 +229,12 @@ credit_order by f e a b i j h = record { number = h.number; place = h.place; r =
     go true t w v u = rw (i, w, j, v, t) (upto_lowered a.r b.r (pos by) u)
     go false t w v u = rw (i, w, j, v, t) u
 
-pub tidy_credited : (terms : Terms) (e by f : ℕ) (table : Table) → Tidy terms e table → Tidy terms e (credited by f table)
-tidy_credited terms e by f table tidy =
-    tidy_map terms e (lower_r by f) (λ x. x.export ≡ e) table (credited by f table) tidy (λ x. refl) (is_of_all e table.rows) (λ a b i j h. credit_order by f e a b i j h)
+pub tidy_credited : (e by f : ℕ) (table : Table) → Tidy e table → Tidy e (credited by f table)
+tidy_credited e by f table tidy =
+    tidy_map e (lower_r by f) (λ x. x.export ≡ e) table (credited by f table) tidy (λ x. refl) (is_of_all e table.rows) (λ a b i j h. credit_order by f e a b i j h)
     (λ x i h. keeps x i h (eqb e f) refl) (length-change_at (lower_last_r by) f table.sides) refl
   where
-    keeps : (x : Row) → x.export ≡ e → IsKept terms (latest (side table e)) x → (t : Bool) → eqb e f ≡ t → IsKept terms (latest (side (credited by f table) e)) (lower_r by f x)
+    keeps : (x : Row) → x.export ≡ e → IsKept (latest (side table e)) x → (t : Bool) → eqb e f ≡ t → IsKept (latest (side (credited by f table) e)) (lower_r by f x)
     keeps x i h true t = rw late (record {
       number = h.number;
       shape = λ w. rw (i, t, w) (lower_shape x.r (λ r. r -ℤ pos by) ∙ h.shape w);
@@ -261,59 +262,114 @@ tidy_credited terms e by f table tidy =
         late : side (credited by f table) e ≡ side table e
         late = get_or-change_at_other (lower_last_r by) f e table.sides no_side differ
 
+-- ---- a change of one export's side
+
+-- the number of the next request and the last L and P stay, and the last R stays or goes; where a request waits, the last R
+-- and the rates stay
+pub record IsUnseen (f : ℕ) (table : Table) (change : Side → Side) : Type 0 where
+  pub next : (change (side table f)).next ≡ (side table f).next
+  pub l : (change (side table f)).last_l ≡ (side table f).last_l
+  pub p : (change (side table f)).last_p ≡ (side table f).last_p
+  pub r : ((change (side table f)).last_r ≡ (side table f).last_r) ⊎ ((change (side table f)).last_r ≡ None)
+  pub active : is_idle f table.rows ≡ false → ((change (side table f)).last_r ≡ (side table f).last_r) × ((change (side table f)).rates ≡ (side table f).rates)
+
+-- other sessions leave all of these
+pub sessions_unseen : (f : ℕ) (table : Table) (sessions : List Session) → IsUnseen f table (with_sessions sessions)
+sessions_unseen f table sessions = record { next = refl; l = refl; p = refl; r = inl refl; active = λ h. (refl, refl) }
+
+-- so do other rates where nothing waits
+pub rates_unseen : (f : ℕ) (table : Table) (rates : Intervals) → not (is_idle f table.rows) ≡ false → IsUnseen f table (with_rates rates)
+rates_unseen f table rates idle = record { next = refl; l = refl; p = refl; r = stays_or_goes rates.r_interval (side table f).last_r; active = λ h. absurd (differ (is_idle f table.rows) idle h) }
+  where
+    stays_or_goes : (o : Option ℕ) (last : Option ℤ) → (last_r_for o last ≡ last) ⊎ (last_r_for o last ≡ None)
+    stays_or_goes None last = inr refl
+    stays_or_goes (Some i) last = inl refl
+
+    differ : (b : Bool) → not b ≡ false → b ≡ false → ⊥
+    differ b h k = grind (arith, h, k)
+
+tidy_side : (e f : ℕ) (table : Table) (change : Side → Side) → IsUnseen f table change → Tidy e table → Tidy e (changed f table table.rows change)
+tidy_side e f table change unseen tidy = record {
+  there = rw (length-change_at counting f table.sides) tidy.there;
+  sorted = tidy.sorted;
+  kept = go (is_idle f table.rows) (eqb e f) refl refl;
+}
+  where
+    counting : Side → Side
+    counting side = record (change side) { count = side.count + 1 }
+
+    next : (side (changed f table table.rows change) e).next ≡ (side table e).next
+    next = unseen_there (λ (s : Side). s.next) counting f e table.sides no_side unseen.next
+
+    waits : is_idle f table.rows ≡ false → latest (counting (side table f)) ≡ latest (side table f)
+    waits active = λ i. record { next = unseen.next i; interval = ((unseen.active active).1 i).r_interval; r = (unseen.active active).0 i; l = unseen.l i; p = unseen.p i }
+
+    differ : (b : Bool) → b ≡ true → b ≡ false → ⊥
+    differ b h k = grind (arith, h, k)
+
+    go : (idle own : Bool) → is_idle f table.rows ≡ idle → eqb e f ≡ own → AllByRecursion (IsKept (latest (side (changed f table table.rows change) e))) (rows_of e table.rows)
+    go false own h k = rw (unseen_there latest counting f e table.sides no_side (waits h)) tidy.kept
+    go true false h k = rw (get_or-change_at_other counting f e table.sides no_side (λ same. other same)) tidy.kept
+      where
+        other : e ≡ f → ⊥
+        other same = grind (arith, nat_tests, k, same)
+    go true true h k =
+        all_both (λ x. x.out ≡ true) (IsKept (latest (side table e))) (IsKept (latest (side (changed f table table.rows change) e)))
+        (λ x out kept. record { number = rw next kept.number; shape = λ w. absurd (differ x.out out w); r = λ w. absurd (differ x.out out w); l = λ w. absurd (differ x.out out w); p = λ w. absurd (differ x.out out w) })
+        (rows_of e table.rows) (idle_out e table.rows (subst (λ (n : ℕ). is_idle n table.rows ≡ true) (sym same) h)) tidy.kept
+      where
+        same : e ≡ f
+        same = grind (arith, nat_tests, k)
+
 module _ {A : Type 0} where
-  -- ---- sessions, and rows that are performed
+  -- ---- a side, and rows that are performed
 
-  pub record Keeps (terms : Terms) (e : ℕ) (new : Outcome A) : Type 0 where
-    pub tidy : Tidy terms e new.table
+  pub record Keeps (e : ℕ) (new : Outcome A) : Type 0 where
+    pub tidy : Tidy e new.table
 
-  pub keeps_all : (terms : Terms) (e : ℕ) (table : Table) (answer : Answer A) → Tidy terms e table → Keeps terms e (outcome table answer)
-  keeps_all terms e table answer tidy = record { tidy = tidy }
+  pub keeps_all : (e : ℕ) (table : Table) (answer : Answer A) → Tidy e table → Keeps e (outcome table answer)
+  keeps_all e table answer tidy = record { tidy = tidy }
 
-  pub keeps_sessions : (terms : Terms) (e f : ℕ) (table : Table) (sessions : List Session) (answer : Answer A) → Tidy terms e table → Keeps terms e (outcome (seated f sessions table) answer)
-  keeps_sessions terms e f table sessions answer tidy = record {
+  pub keeps_side : (e f : ℕ) (table : Table) (change : Side → Side) (answer : Answer A) → IsUnseen f table change → Tidy e table → Keeps e (outcome (changed f table table.rows change) answer)
+  keeps_side e f table change answer unseen tidy = record { tidy = tidy_side e f table change unseen tidy }
+
+  pub keeps_done : (e f : ℕ) (table : Table) (row : Row) → Tidy e table → Keeps e (outcome (done_in f row table) (said.Performed true))
+  keeps_done e f table row tidy = record {
     tidy =
-        tidy_same terms e table (seated f sessions table) tidy (length-change_at _ f table.sides) refl
-        (unseen-change_at latest (λ side. record (with_sessions sessions side) { count = side.count + 1 }) (λ x. refl) f e table.sides no_side);
-  }
-
-  pub keeps_done : (terms : Terms) (e f : ℕ) (table : Table) (row : Row) → Tidy terms e table → Keeps terms e (outcome (done_in f row table) (said.Performed true))
-  keeps_done terms e f table row tidy = record {
-    tidy =
-        tidy_filter terms e (λ other. not (is_out_row f row.number other)) table (done_in f row table) tidy (length-change_at _ f table.sides) refl
+        tidy_filter e (λ other. not (is_out_row f row.number other)) table (done_in f row table) tidy (length-change_at _ f table.sides) refl
         (unseen-change_at latest (λ side. record (done_side row side) { count = side.count + 1 }) (λ x. refl) f e table.sides no_side);
   }
 
-  pub keeps_undone : (terms : Terms) (e f : ℕ) (table : Table) (row : Row) → Tidy terms e table → Keeps terms e (outcome (undone_in f row table) (said.Performed false))
-  keeps_undone terms e f table row tidy = record {
+  pub keeps_undone : (e f : ℕ) (table : Table) (row : Row) → Tidy e table → Keeps e (outcome (undone_in f row table) (said.Performed false))
+  keeps_undone e f table row tidy = record {
     tidy =
-        tidy_filter terms e (λ other. not (is_out_row f row.number other)) table (undone_in f row table) tidy (length-change_at _ f table.sides) refl
+        tidy_filter e (λ other. not (is_out_row f row.number other)) table (undone_in f row table) tidy (length-change_at _ f table.sides) refl
         (unseen-change_at latest (λ side. record (undone_side row side) { count = side.count + 1 }) (λ x. refl) f e table.sides no_side);
   }
 
-  pub keeps_accepted : (terms : Terms) (e s t : ℕ) (q : RequestMessage) (table : Table) → Tidy terms e table → Keeps terms e (accepted_in terms e s t q table)
-  keeps_accepted terms e s t q table tidy =
-      let row : Row = new_row terms e s t q (side table e) in
+  pub keeps_accepted : (e s t : ℕ) (q : RequestMessage) (table : Table) → Tidy e table → Keeps e (accepted_in e s t q table)
+  keeps_accepted e s t q table tidy =
+      let row : Row = new_row e s t q (side table e) in
       let rows : rows_of e (put row table.rows) ≡ rows_of e table.rows ++ row ∷ [] = put_own (is_of e) row (λ x h. is_of_export e x h) (here e) table.rows in
-      let late : latest (side (entered_in terms e s t q table) e) ≡ latest (with_last row (side table e)) = ap latest (get_or-change_at (λ side. record (with_last row side) { count = side.count + 1 }) e table.sides no_side tidy.there) in
+      let late : latest (side (entered_in e s t q table) e) ≡ latest (with_last row (side table e)) = ap latest (get_or-change_at (λ side. record (with_last row side) { count = side.count + 1 }) e table.sides no_side tidy.there) in
       record {
         tidy = record {
           there = rw (length-change_at (λ side. record (with_last row side) { count = side.count + 1 }) e table.sides) tidy.there;
-          sorted = rw rows (Sorted-push (rows_of e table.rows) row tidy.sorted (all_here (IsKept terms (latest (side table e))) (λ x. IsBefore x row) (λ x h. before_new terms e s t q (side table e) x h) (rows_of e table.rows) tidy.kept));
-          kept = rw (rows, late) (all-append (IsKept terms (latest (with_last row (side table e)))) (rows_of e table.rows) (row ∷ [])
-              (all_here (IsKept terms (latest (side table e))) (IsKept terms (latest (with_last row (side table e)))) (λ x h. kept_new terms e s t q (side table e) x h) (rows_of e table.rows) tidy.kept)
-              (new_kept terms e s t q (side table e), tt));
+          sorted = rw rows (Sorted-push (rows_of e table.rows) row tidy.sorted (all_here (IsKept (latest (side table e))) (λ x. IsBefore x row) (λ x h. before_new e s t q (side table e) x h) (rows_of e table.rows) tidy.kept));
+          kept = rw (rows, late) (all-append (IsKept (latest (with_last row (side table e)))) (rows_of e table.rows) (row ∷ [])
+              (all_here (IsKept (latest (side table e))) (IsKept (latest (with_last row (side table e)))) (λ x h. kept_new e s t q (side table e) x h) (rows_of e table.rows) tidy.kept)
+              (new_kept e s t q (side table e), tt));
         };
       }
     where
       here : (e : ℕ) → eqb e e ≡ true
       here e = grind (arith, nat_tests)
 
-  pub keeps_accepted_other : (terms there : Terms) (e f s t : ℕ) (q : RequestMessage) (table : Table) → e ≢ f → Tidy terms e table → Keeps terms e (accepted_in there f s t q table)
-  keeps_accepted_other terms there e f s t q table differ tidy =
-      let row : Row = new_row there f s t q (side table f) in
+  pub keeps_accepted_other : (e f s t : ℕ) (q : RequestMessage) (table : Table) → e ≢ f → Tidy e table → Keeps e (accepted_in f s t q table)
+  keeps_accepted_other e f s t q table differ tidy =
+      let row : Row = new_row f s t q (side table f) in
       record {
-        tidy = tidy_same terms e table (entered_in there f s t q table) tidy
+        tidy = tidy_same e table (entered_in f s t q table) tidy
             (length-change_at (λ side. record (with_last row side) { count = side.count + 1 }) f table.sides)
             (put_other (is_of e) row e (λ x h. is_of_export e x h) (away differ) table.rows)
             (ap latest (get_or-change_at_other (λ side. record (with_last row side) { count = side.count + 1 }) f e table.sides no_side differ));

@@ -6,27 +6,29 @@ use Rattle.std.proofs.lemmas.Bool.Decides.{nat_tests}
 use Rattle.std.proofs.lemmas.Option.{same_Some}
 use Rattle.nbd_wire.specs.Grammar.{RequestMessage}
 use Rattle.nbd_base.specs.Words.{when_some}
-use Rattle.nbd_commands.specs.Terms.{Terms}
 use Rattle.nbd_commands.specs.Verdict.{verdict_of}
 use Rattle.nbd_commands.specs.Meaning.{may_want_memory}
 use Rattle.tag_clock.specs.declared.Phase.{Phase}
+use Rattle.tag_clock.specs.Intervals.{Intervals}
 use Rattle.tag_clock.specs.Tags.{later}
 use Rattle.tag_clock.specs.Clocks.{lowered}
-use Rattle.reply_box.specs.Sessions.{Session, is_here, is_open_at, is_left_at, is_here_at, outbox_at}
+use Rattle.reply_box.specs.Sessions.{is_here, is_open_at, is_left_at, is_here_at, outbox_at}
+use Rattle.lone_export.specs.Alone.{Alone}
 use Rattle.server_table.specs.declared.event.Event.{Event}
-use Rattle.server_table.specs.declared.event.Event.TheVariants.{Attach, Arrive, Dispatch, Perform, Take, Leave, Gone}
+use Rattle.server_table.specs.declared.event.Event.TheVariants.{Attach, Arrive, Dispatch, Perform, Take, Leave, Gone, Retune}
 use Rattle.server_table.specs.declared.event.Answer.{Answer}
 use Rattle.server_table.specs.declared.event.Answer.TheVariants as said
 use Rattle.server_table.specs.Table.{Row, Side, Table, Setup, Choice, side, no_side, waits_in, is_idle, foremost, p_key, lower_p, lower_last_p, all_lowered, shifted, lower_r, lower_last_r, credited, put, choice}
-use Rattle.server_table.specs.Steps.{Outcome, outcome, step, with_sessions, is_out_row, outstanding_in, new_row, with_last, accepted_in, done_side, undone_side, done_in, undone_in, send, sent, is_by_weight, with_credit, entered_in, seated}
+use Rattle.server_table.specs.Steps.{Outcome, outcome, step, changed, with_sessions, with_rates, is_out_row, outstanding_in, new_row, with_last, accepted_in, done_side, undone_side, done_in, undone_in, send, sent, is_by_weight, with_credit, entered_in}
 use Rattle.server_table.specs.Shares.{is_choice_of}
 use Rattle.core_laws.specs.Counts.{is_choice_in, is_accepted}
 use Rattle.core_laws.specs.Shares.{shift_at, fall}
-use Rattle.lone_export.proofs.Cases.{true_false, if_one, if_both, some_one, some_told}
-use Rattle.core_laws.proofs.Lists.{filter-map, map-map_same, all_pass, get_or-change_at, get_or-change_at_other, get_or-change_each, unseen-change_at}
-use Rattle.core_laws.proofs.Parts.{put_own, put_other, waits_here, waits_kept, length-shifted}
+use Rattle.lone_export.proofs.Cases.{true_false, if_one, if_told, if_both, some_one, some_told}
+use Rattle.core_laws.proofs.Lists.{filter-map, map-map_same, all_pass, get_or-change_at, get_or-change_at_other, get_or-change_each, unseen-change_at, unseen_there}
+use Rattle.core_laws.proofs.Parts.{put_own, put_other, waits_here, waits_kept, part_shifted, length-shifted}
 use Rattle.core_laws.proofs.Tidy.{Sorted, is_of, rows_of, is_of_all, map_same_on, filter-and, is_sent, rest_same, Tidy}
-use Rattle.core_laws.proofs.Chosen.{choice_first, same_record}
+use Rattle.core_laws.proofs.Kept.{IsUnseen, sessions_unseen, rates_unseen}
+use Rattle.core_laws.proofs.Chosen.{choice_first}
 
 -- a waiting request's number and P tag
 pub record Turn : Type 0 where
@@ -152,13 +154,13 @@ map_push : (xs : List Row) (x : Row) → map turn_of (xs ++ x ∷ []) ≡ map tu
 map_push [] x = refl
 map_push (y ∷ xs) x = ap (λ (turns : List Turn). turn_of y ∷ turns) (map_push xs x)
 
-lane_entered : (terms : Terms) (e s t : ℕ) (q : RequestMessage) (table : Table) → e < length table.sides → lane e (entered_in terms e s t q table) ≡ lane_pushed terms.p_interval t (lane e table)
-lane_entered terms e s t q table lt =
+lane_entered : (e s t : ℕ) (q : RequestMessage) (table : Table) → e < length table.sides → lane e (entered_in e s t q table) ≡ lane_pushed (side table e).rates.p_interval t (lane e table)
+lane_entered e s t q table lt =
     ap (lane_of (map turn_of (filter (waits_in e) (put row table.rows)))) late
     ∙ ap (λ (turns : List Turn). lane_made turns ((side table e).next + 1) (Some row.p)) (ap (map turn_of) rows ∙ map_push (filter (waits_in e) table.rows) row)
   where
     row : Row
-    row = new_row terms e s t q (side table e)
+    row = new_row e s t q (side table e)
 
     here : (e : ℕ) → (eqb e e && true) ≡ true
     here e = grind (arith, nat_tests)
@@ -166,17 +168,17 @@ lane_entered terms e s t q table lt =
     rows : filter (waits_in e) (put row table.rows) ≡ filter (waits_in e) table.rows ++ row ∷ []
     rows = put_own (waits_in e) row (λ x h. (waits_here e x h).0) (here e) table.rows
 
-    late : side (entered_in terms e s t q table) e ≡ record (with_last row (side table e)) { count = (side table e).count + 1 }
+    late : side (entered_in e s t q table) e ≡ record (with_last row (side table e)) { count = (side table e).count + 1 }
     late = get_or-change_at (λ side. record (with_last row side) { count = side.count + 1 }) e table.sides no_side lt
 
-lane_entered_other : (there : Terms) (e f s t : ℕ) (q : RequestMessage) (table : Table) → e ≢ f → lane e (entered_in there f s t q table) ≡ lane e table
-lane_entered_other there e f s t q table differ =
-    same_lane e table (entered_in there f s t q table)
+lane_entered_other : (e f s t : ℕ) (q : RequestMessage) (table : Table) → e ≢ f → lane e (entered_in f s t q table) ≡ lane e table
+lane_entered_other e f s t q table differ =
+    same_lane e table (entered_in f s t q table)
     (put_other (waits_in e) row e (λ x h. (waits_here e x h).0) (away differ) table.rows)
     (λ turns. ap (lane_of turns) (get_or-change_at_other (λ side. record (with_last row side) { count = side.count + 1 }) f e table.sides no_side differ))
   where
     row : Row
-    row = new_row there f s t q (side table f)
+    row = new_row f s t q (side table f)
 
     away : e ≢ f → (eqb f e && true) ≡ false
     away d = grind (arith, nat_tests, d)
@@ -240,17 +242,23 @@ lane_credited e by f table =
     ∙ ap (λ (turns : List Turn). lane_of turns (side (credited by f table) e)) (map-map_same turn_of (lower_r by f) (λ x. refl) (filter (waits_in e) table.rows))
     ∙ unseen-change_at (lane_of (map turn_of (filter (waits_in e) table.rows))) (lower_last_r by) (λ x. refl) f e table.sides no_side
 
-lane_credit : (setup : Setup) (chosen : Choice) (e : ℕ) (table : Table) → lane e (with_credit setup chosen table) ≡ lane e table
-lane_credit setup chosen e table =
+lane_credit : (chosen : Choice) (e : ℕ) (table : Table) → lane e (with_credit chosen table) ≡ lane e table
+lane_credit chosen e table =
     if_one P (is_by_weight chosen.phase)
-    (some_one P (slice_get setup.exports chosen.row.export) (λ there h. some_one P there.r_interval (λ by k. lane_credited e by chosen.row.export table) refl) refl)
+    (some_one P (side table chosen.row.export).rates.r_interval (λ by k. lane_credited e by chosen.row.export table) refl)
     refl
   where
     P : Table → Type 0
     P a = lane e a ≡ lane e table
 
-lane_seated : (e f : ℕ) (table : Table) (sessions : List Session) → lane e (seated f sessions table) ≡ lane e table
-lane_seated e f table sessions = unseen-change_at (lane_of (map turn_of (filter (waits_in e) table.rows))) (λ side. record (with_sessions sessions side) { count = side.count + 1 }) (λ x. refl) f e table.sides no_side
+lane_side : (e f : ℕ) (table : Table) (change : Side → Side) → IsUnseen f table change → lane e (changed f table table.rows change) ≡ lane e table
+lane_side e f table change unseen = unseen_there (lane_of turns) (λ side. record (change side) { count = side.count + 1 }) f e table.sides no_side same
+  where
+    turns : List Turn
+    turns = map turn_of (filter (waits_in e) table.rows)
+
+    same : lane_of turns (record (change (side table f)) { count = (side table f).count + 1 }) ≡ lane_of turns (side table f)
+    same = λ i. record { waiting = turns; next = unseen.next i; last = unseen.p i }
 
 lane_done : (e f : ℕ) (table : Table) (row : Row) → lane e (done_in f row table) ≡ lane e table
 lane_done e f table row = same_lane e table (done_in f row table) (waits_kept e f row.number table.rows) (λ turns. unseen-change_at (lane_of turns) (λ side. record (done_side row side) { count = side.count + 1 }) (λ x. refl) f e table.sides no_side)
@@ -275,43 +283,46 @@ module _ {A : Type 0} where
   is_arrival_of e (Arrive f s t q) = f == e
   is_arrival_of e event = false
 
-  pub record Goes (terms : Terms) (e : ℕ) (table : Table) (event : Event A) (new : Outcome A) : Type 0 where
-    pub moves : lane e new.table ≡ lane_after e terms.p_interval event new.answer (fall table event new.answer) (lane e table)
+  pub record Goes (e : ℕ) (table : Table) (event : Event A) (new : Outcome A) : Type 0 where
+    pub moves : lane e new.table ≡ lane_after e (side table e).rates.p_interval event new.answer (fall table event new.answer) (lane e table)
     pub quiet : IsQuiet event → (f : ℕ) → is_choice_of f new.answer ≡ false
     pub quiet_in : IsQuiet event → (f : ℕ) (phase : Phase) → is_choice_in f phase new.answer ≡ false
     pub numbered : is_arrival_of e event ≡ true → is_accepted new.answer ≡ true → (tag : ℤ) × (new.answer ≡ said.Accepted (side table e).next tag)
 
   -- nothing chosen, nothing accepted
-  still : (terms : Terms) (e : ℕ) (table : Table) (event : Event A) (new : Outcome A) → lane e new.table ≡ lane_after e terms.p_interval event new.answer (fall table event new.answer) (lane e table) →
-      ((f : ℕ) → is_choice_of f new.answer ≡ false) → ((f : ℕ) (phase : Phase) → is_choice_in f phase new.answer ≡ false) → is_accepted new.answer ≡ false → Goes terms e table event new
-  still terms e table event new same none none_in refused = record { moves = same; quiet = λ q. none; quiet_in = λ q. none_in; numbered = λ h k. true_false (sym k ∙ refused) }
+  still : (e : ℕ) (table : Table) (event : Event A) (new : Outcome A) → lane e new.table ≡ lane_after e (side table e).rates.p_interval event new.answer (fall table event new.answer) (lane e table) →
+      ((f : ℕ) → is_choice_of f new.answer ≡ false) → ((f : ℕ) (phase : Phase) → is_choice_in f phase new.answer ≡ false) → is_accepted new.answer ≡ false → Goes e table event new
+  still e table event new same none none_in refused = record { moves = same; quiet = λ q. none; quiet_in = λ q. none_in; numbered = λ h k. true_false (sym k ∙ refused) }
 
-  goes_own : (terms : Terms) (e s t : ℕ) (q : RequestMessage) (table : Table) → e < length table.sides → Goes terms e table (Arrive e s t q) (accepted_in terms e s t q (shifted e t table))
-  goes_own terms e s t q table lt = record {
-    moves = rw (here e) (lane_entered terms e s t q (shifted e t table) (rw (length-shifted e t table) lt) ∙ ap (lane_pushed terms.p_interval t) (lane_shifted e e t table lt));
+  goes_own : (e s t : ℕ) (q : RequestMessage) (table : Table) → e < length table.sides → Goes e table (Arrive e s t q) (accepted_in e s t q (shifted e t table))
+  goes_own e s t q table lt = record {
+    moves = rw (here e) (lane_entered e s t q (shifted e t table) (rw (length-shifted e t table) lt)
+        ∙ ap (λ (rates : Intervals). lane_pushed rates.p_interval t (lane e (shifted e t table))) rates
+        ∙ ap (lane_pushed (side table e).rates.p_interval t) (lane_shifted e e t table lt));
     quiet = λ w f. refl;
     quiet_in = λ w f phase. refl;
-    numbered = λ h k. (later (side (shifted e t table) e).last_l terms.l_interval t, ap (λ (n : ℕ). accepted n (later (side (shifted e t table) e).last_l terms.l_interval t)) (ap (λ (l : Lane). l.next) (lane_shifted e e t table lt)));
+    numbered = λ h k. (tag, ap (λ (n : ℕ). accepted n tag) (ap (λ (l : Lane). l.next) (lane_shifted e e t table lt)));
   }
     where
       here : (e : ℕ) → eqb e e ≡ true
       here e = grind (arith, nat_tests)
 
+      rates : (side (shifted e t table) e).rates ≡ (side table e).rates
+      rates = ap (λ (a : Alone). a.rates) (part_shifted e e t table)
+
+      tag : ℤ
+      tag = later (side (shifted e t table) e).last_l (side (shifted e t table) e).rates.l_interval t
+
       accepted : ℕ → ℤ → Answer A
       accepted n tag = said.Accepted n tag
 
-  goes_arrival : (setup : Setup) (terms there : Terms) (e f s t : ℕ) (q : RequestMessage) (table : Table) → slice_get setup.exports e ≡ Some terms → slice_get setup.exports f ≡ Some there → e < length table.sides → (b : Bool) → eqb f e ≡ b → Goes terms e table (Arrive f s t q) (accepted_in there f s t q (shifted f t table))
-  goes_arrival setup terms there e f s t q table h k lt true is =
-      subst (λ (x : ℕ). Goes terms e table (Arrive x s t q) (accepted_in there x s t q (shifted x t table))) same
-      (subst (λ (x : Terms). Goes terms e table (Arrive e s t q) (accepted_in x e s t q (shifted e t table))) one (goes_own terms e s t q table lt))
+  goes_arrival : (e f s t : ℕ) (q : RequestMessage) (table : Table) → e < length table.sides → (b : Bool) → eqb f e ≡ b → Goes e table (Arrive f s t q) (accepted_in f s t q (shifted f t table))
+  goes_arrival e f s t q table lt true is = subst (λ (x : ℕ). Goes e table (Arrive x s t q) (accepted_in x s t q (shifted x t table))) same (goes_own e s t q table lt)
     where
       same : e ≡ f
       same = grind (arith, nat_tests, is)
-
-      one : terms ≡ there
-      one = same_record terms there (slice_get setup.exports f) (subst (λ (x : ℕ). slice_get setup.exports x ≡ Some terms) same h) k
-  goes_arrival setup terms there e f s t q table h k lt false is = record {
-    moves = rw is (lane_entered_other there e f s t q (shifted f t table) (λ x. differ x) ∙ lane_shifted e f t table lt);
+  goes_arrival e f s t q table lt false is = record {
+    moves = rw is (lane_entered_other e f s t q (shifted f t table) (λ x. differ x) ∙ lane_shifted e f t table lt);
     quiet = λ w f. refl;
     quiet_in = λ w f phase. refl;
     numbered = λ own k. true_false (sym own ∙ is);
@@ -320,9 +331,9 @@ module _ {A : Type 0} where
       differ : e ≡ f → ⊥
       differ x = grind (arith, nat_tests, is, x)
 
-  goes_sent : (setup : Setup) (terms : Terms) (e t : ℕ) (table : Table) (chosen : Choice) → Tidy terms e table → choice setup.inflight (record table { now = max table.now t }) ≡ Some chosen → (b : Bool) → eqb chosen.row.export e ≡ b →
-      Goes terms e table (Dispatch t) (outcome (with_credit setup chosen (sent chosen.row (record table { now = max table.now t }))) (said.Picked chosen.row.export chosen.row.number chosen.phase))
-  goes_sent setup terms e t table chosen tidy is b h = record {
+  goes_sent : (setup : Setup) (e t : ℕ) (table : Table) (chosen : Choice) → Tidy e table → choice setup.inflight (record table { now = max table.now t }) ≡ Some chosen → (b : Bool) → eqb chosen.row.export e ≡ b →
+      Goes e table (Dispatch t) (outcome (with_credit chosen (sent chosen.row (record table { now = max table.now t }))) (said.Picked chosen.row.export chosen.row.number chosen.phase))
+  goes_sent setup e t table chosen tidy is b h = record {
     moves = go b h;
     quiet = λ q. absurd q;
     quiet_in = λ q. absurd q;
@@ -332,62 +343,70 @@ module _ {A : Type 0} where
       now : Table
       now = record table { now = max table.now t }
 
-      go : (b : Bool) → eqb chosen.row.export e ≡ b → lane e (with_credit setup chosen (sent chosen.row now)) ≡ (if eqb chosen.row.export e then lane_popped (lane e table) else lane e table)
-      go true h = rw h (lane_credit setup chosen e (sent chosen.row now) ∙ lane_sent e now chosen.row tidy.sorted (choice_first setup.inflight now chosen is e same tidy.sorted))
+      go : (b : Bool) → eqb chosen.row.export e ≡ b → lane e (with_credit chosen (sent chosen.row now)) ≡ (if eqb chosen.row.export e then lane_popped (lane e table) else lane e table)
+      go true h = rw h (lane_credit chosen e (sent chosen.row now) ∙ lane_sent e now chosen.row tidy.sorted (choice_first setup.inflight now chosen is e same tidy.sorted))
         where
           same : e ≡ chosen.row.export
           same = grind (arith, nat_tests, h)
-      go false h = rw h (lane_credit setup chosen e (sent chosen.row now) ∙ lane_sent_other e now chosen.row differ)
+      go false h = rw h (lane_credit chosen e (sent chosen.row now) ∙ lane_sent_other e now chosen.row differ)
         where
           differ : e ≡ chosen.row.export → ⊥
           differ k = grind (arith, nat_tests, h, k)
 
-  pub goes : (setup : Setup) (terms : Terms) (table : Table) (e : ℕ) (event : Event A) (memory : Bool) → slice_get setup.exports e ≡ Some terms → Tidy terms e table → Goes terms e table event (step setup table event memory)
-  goes setup terms table e (Attach named) memory there tidy =
+  pub goes : (setup : Setup) (table : Table) (e : ℕ) (event : Event A) (memory : Bool) → Tidy e table → Goes e table event (step setup table event memory)
+  goes setup table e (Attach named) memory tidy =
       let event : Event A = Attach named in
-      let P = Goes terms e table event in
+      let P = Goes e table event in
       some_one P (slice_get setup.exports named) (λ other h.
-      if_one P (nat_le (2 ^ 56) (side table named).count) (still terms e table event _ refl (λ f. refl) (λ f phase. refl) refl)
-      (if_one P (length (filter is_here (side table named).sessions) == 64) (still terms e table event _ refl (λ f. refl) (λ f phase. refl) refl)
-      (if_one P (not memory) (still terms e table event _ refl (λ f. refl) (λ f phase. refl) refl)
-      (still terms e table event _ (lane_seated e named table _) (λ f. refl) (λ f phase. refl) refl)))) (still terms e table event _ refl (λ f. refl) (λ f phase. refl) refl)
-  goes setup terms table e (Arrive named s t q) memory there tidy =
+      if_one P (nat_le (2 ^ 56) (side table named).count) (still e table event _ refl (λ f. refl) (λ f phase. refl) refl)
+      (if_one P (length (filter is_here (side table named).sessions) == 64) (still e table event _ refl (λ f. refl) (λ f phase. refl) refl)
+      (if_one P (not memory) (still e table event _ refl (λ f. refl) (λ f phase. refl) refl)
+      (still e table event _ (lane_side e named table (with_sessions _) (sessions_unseen named table _)) (λ f. refl) (λ f phase. refl) refl)))) (still e table event _ refl (λ f. refl) (λ f phase. refl) refl)
+  goes setup table e (Arrive named s t q) memory tidy =
       let event : Event A = Arrive named s t q in
-      let P = Goes terms e table event in
+      let P = Goes e table event in
       some_one P (slice_get setup.exports named) (λ other h.
-      if_one P (not (is_open_at (side table named).sessions s)) (still terms e table event _ refl (λ f. refl) (λ f phase. refl) refl)
-      (if_one P (nat_le (2 ^ 56) (side table named).count) (still terms e table event _ refl (λ f. refl) (λ f phase. refl) refl)
-      (if_one P (outstanding_in named s table == other.window) (still terms e table event _ refl (λ f. refl) (λ f phase. refl) refl)
-      (if_one P (not memory) (still terms e table event _ refl (λ f. refl) (λ f phase. refl) refl)
-      (if_one P (not (verdict_of other q == 0)) (still terms e table event _ (lane_seated e named table _) (λ f. refl) (λ f phase. refl) refl)
-      (if_one P (length (filter (waits_in named) table.rows) == other.depth) (still terms e table event _ (lane_seated e named table _) (λ f. refl) (λ f phase. refl) refl)
-      (goes_arrival setup terms other e named s t q table there h tidy.there (eqb named e) refl))))))) (still terms e table event _ refl (λ f. refl) (λ f phase. refl) refl)
-  goes setup terms table e (Dispatch t) memory there tidy =
+      if_one P (not (is_open_at (side table named).sessions s)) (still e table event _ refl (λ f. refl) (λ f phase. refl) refl)
+      (if_one P (nat_le (2 ^ 56) (side table named).count) (still e table event _ refl (λ f. refl) (λ f phase. refl) refl)
+      (if_one P (outstanding_in named s table == other.window) (still e table event _ refl (λ f. refl) (λ f phase. refl) refl)
+      (if_one P (not memory) (still e table event _ refl (λ f. refl) (λ f phase. refl) refl)
+      (if_one P (not (verdict_of other q == 0)) (still e table event _ (lane_side e named table (with_sessions _) (sessions_unseen named table _)) (λ f. refl) (λ f phase. refl) refl)
+      (if_one P (length (filter (waits_in named) table.rows) == other.depth) (still e table event _ (lane_side e named table (with_sessions _) (sessions_unseen named table _)) (λ f. refl) (λ f phase. refl) refl)
+      (goes_arrival e named s t q table tidy.there (eqb named e) refl))))))) (still e table event _ refl (λ f. refl) (λ f phase. refl) refl)
+  goes setup table e (Dispatch t) memory tidy =
       let now : Table = record table { now = max table.now t } in
-      some_told (Goes terms e table (Dispatch t)) (choice setup.inflight now)
-      (λ chosen is. goes_sent setup terms e t table chosen tidy is (eqb chosen.row.export e) refl)
+      some_told (Goes e table (Dispatch t)) (choice setup.inflight now)
+      (λ chosen is. goes_sent setup e t table chosen tidy is (eqb chosen.row.export e) refl)
       (λ none. record { moves = refl; quiet = λ q. absurd q; quiet_in = λ q. absurd q; numbered = λ own k. true_false (sym own) })
-  goes setup terms table e (Perform named n) memory there tidy =
+  goes setup table e (Perform named n) memory tidy =
       let event : Event A = Perform named n in
-      let P = Goes terms e table event in
+      let P = Goes e table event in
       some_one P (find (is_out_row named n) table.rows) (λ row h.
       if_one P (not memory && may_want_memory row.request)
-      (still terms e table event _ (lane_undone e named table row) (λ f. refl) (λ f phase. refl) refl)
-      (still terms e table event _ (lane_done e named table row) (λ f. refl) (λ f phase. refl) refl)) (still terms e table event _ refl (λ f. refl) (λ f phase. refl) refl)
-  goes setup terms table e (Take named s) memory there tidy =
+      (still e table event _ (lane_undone e named table row) (λ f. refl) (λ f phase. refl) refl)
+      (still e table event _ (lane_done e named table row) (λ f. refl) (λ f phase. refl) refl)) (still e table event _ refl (λ f. refl) (λ f phase. refl) refl)
+  goes setup table e (Take named s) memory tidy =
       let event : Event A = Take named s in
-      let P = Goes terms e table event in
+      let P = Goes e table event in
       some_one P (slice_get setup.exports named) (λ other h.
-      if_one P (not (is_here_at (side table named).sessions s)) (still terms e table event _ refl (λ f. refl) (λ f phase. refl) refl)
-      (some_one P (slice_get (outbox_at (side table named).sessions s) 0) (λ reply k. still terms e table event _ (lane_seated e named table _) (λ f. refl) (λ f phase. refl) refl)
-      (if_one P (is_left_at (side table named).sessions s && outstanding_in named s table == 0) (still terms e table event _ refl (λ f. refl) (λ f phase. refl) refl) (still terms e table event _ refl (λ f. refl) (λ f phase. refl) refl)))) (still terms e table event _ refl (λ f. refl) (λ f phase. refl) refl)
-  goes setup terms table e (Leave named s) memory there tidy =
+      if_one P (not (is_here_at (side table named).sessions s)) (still e table event _ refl (λ f. refl) (λ f phase. refl) refl)
+      (some_one P (slice_get (outbox_at (side table named).sessions s) 0) (λ reply k. still e table event _ (lane_side e named table (with_sessions _) (sessions_unseen named table _)) (λ f. refl) (λ f phase. refl) refl)
+      (if_one P (is_left_at (side table named).sessions s && outstanding_in named s table == 0) (still e table event _ refl (λ f. refl) (λ f phase. refl) refl) (still e table event _ refl (λ f. refl) (λ f phase. refl) refl)))) (still e table event _ refl (λ f. refl) (λ f phase. refl) refl)
+  goes setup table e (Leave named s) memory tidy =
       let event : Event A = Leave named s in
-      let P = Goes terms e table event in
+      let P = Goes e table event in
       some_one P (slice_get setup.exports named) (λ other h.
-      if_one P (not (is_open_at (side table named).sessions s)) (still terms e table event _ refl (λ f. refl) (λ f phase. refl) refl) (still terms e table event _ (lane_seated e named table _) (λ f. refl) (λ f phase. refl) refl)) (still terms e table event _ refl (λ f. refl) (λ f phase. refl) refl)
-  goes setup terms table e (Gone named s) memory there tidy =
+      if_one P (not (is_open_at (side table named).sessions s)) (still e table event _ refl (λ f. refl) (λ f phase. refl) refl) (still e table event _ (lane_side e named table (with_sessions _) (sessions_unseen named table _)) (λ f. refl) (λ f phase. refl) refl)) (still e table event _ refl (λ f. refl) (λ f phase. refl) refl)
+  goes setup table e (Gone named s) memory tidy =
       let event : Event A = Gone named s in
-      let P = Goes terms e table event in
+      let P = Goes e table event in
       some_one P (slice_get setup.exports named) (λ other h.
-      if_one P (not (is_here_at (side table named).sessions s)) (still terms e table event _ refl (λ f. refl) (λ f phase. refl) refl) (still terms e table event _ (lane_seated e named table _) (λ f. refl) (λ f phase. refl) refl)) (still terms e table event _ refl (λ f. refl) (λ f phase. refl) refl)
+      if_one P (not (is_here_at (side table named).sessions s)) (still e table event _ refl (λ f. refl) (λ f phase. refl) refl) (still e table event _ (lane_side e named table (with_sessions _) (sessions_unseen named table _)) (λ f. refl) (λ f phase. refl) refl)) (still e table event _ refl (λ f. refl) (λ f phase. refl) refl)
+  goes setup table e (Retune named rates) memory tidy =
+      let event : Event A = Retune named rates in
+      let P = Goes e table event in
+      some_one P (slice_get setup.exports named) (λ other h.
+      if_one P (nat_le (2 ^ 56) (side table named).count) (still e table event _ refl (λ f. refl) (λ f phase. refl) refl)
+      (if_told P (not (length (filter (waits_in named) table.rows) == 0)) (λ h. still e table event _ refl (λ f. refl) (λ f phase. refl) refl)
+      (λ idle. if_one P (not memory) (still e table event _ refl (λ f. refl) (λ f phase. refl) refl)
+      (still e table event _ (lane_side e named table (with_rates rates) (rates_unseen named table rates idle)) (λ f. refl) (λ f phase. refl) refl)))) (still e table event _ refl (λ f. refl) (λ f phase. refl) refl)

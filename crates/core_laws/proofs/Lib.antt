@@ -20,3 +20,4 @@ pub mod Onward
 pub mod Beside
 pub mod Timely
 pub mod Between
+pub mod Bounded

@@ -6,7 +6,7 @@ use Rattle.tag_clock.specs.declared.Phase.TheVariants.{Reservation, Weight}
 use Rattle.server_table.specs.declared.event.Event.TheVariants.{Dispatch}
 use Rattle.server_table.specs.declared.event.Answer.{Answer}
 use Rattle.server_table.specs.declared.event.Answer.TheVariants as said
-use Rattle.server_table.specs.Table.{Row, Table, Setup, Choice, is_due_by_limit, due_by_limit, p_key, choice}
+use Rattle.server_table.specs.Table.{Row, Table, Setup, Choice, side, is_due_by_limit, due_by_limit, p_key, choice}
 use Rattle.server_table.specs.Steps.{Outcome, step, is_by_weight, with_credit}
 use Rattle.core_laws.specs.Statements.{WaitsInItsLimit}
 use Rattle.lone_export.proofs.Cases.{if_one, some_one, some_told}
@@ -20,9 +20,9 @@ mem_at x [] m = absurd m
 mem_at x (y ∷ ys) (inl is) = (0, ap Some is)
 mem_at x (y ∷ ys) (inr m) = let at : (k : ℕ) × (slice_get ys k ≡ Some x) = mem_at x ys m in (suc at.0, at.1)
 
-pub credit_now : (setup : Setup) (chosen : Choice) (table : Table) → (with_credit setup chosen table).now ≡ table.now
-credit_now setup chosen table =
-    if_one P (is_by_weight chosen.phase) (some_one P (slice_get setup.exports chosen.row.export) (λ terms h. some_one P terms.r_interval (λ by k. refl) refl) refl) refl
+pub credit_now : (chosen : Choice) (table : Table) → (with_credit chosen table).now ≡ table.now
+credit_now chosen table =
+    if_one P (is_by_weight chosen.phase) (some_one P (side table chosen.row.export).rates.r_interval (λ by k. refl) refl) refl
   where
     P : Table → Type 0
     P a = a.now ≡ table.now

@@ -36,6 +36,14 @@ unseen-change_at h f same zero (suc i) (x ∷ xs) d = refl
 unseen-change_at h f same (suc k) zero (x ∷ xs) d = refl
 unseen-change_at h f same (suc k) (suc i) (x ∷ xs) d = unseen-change_at h f same k i xs d
 
+-- the same, where it isn't seen at the element that is changed
+pub unseen_there : {A B : Type 0} (h : A → B) (f : A → A) (k i : ℕ) (xs : List A) (d : A) → h (f (get_or xs k d)) ≡ h (get_or xs k d) → h (get_or (change_at f k xs) i d) ≡ h (get_or xs i d)
+unseen_there h f k i [] d same = refl
+unseen_there h f zero zero (x ∷ xs) d same = same
+unseen_there h f zero (suc i) (x ∷ xs) d same = refl
+unseen_there h f (suc k) zero (x ∷ xs) d same = refl
+unseen_there h f (suc k) (suc i) (x ∷ xs) d same = unseen_there h f k i xs d same
+
 pub unseen-change_each : {A B : Type 0} (h : A → B) (f : ℕ → A → A) → ((k : ℕ) (x : A) → h (f k x) ≡ h x) → (k i : ℕ) (xs : List A) (d : A) → h (get_or (change_each f k xs) i d) ≡ h (get_or xs i d)
 unseen-change_each h f same k i [] d = refl
 unseen-change_each h f same k zero (x ∷ xs) d = same k x

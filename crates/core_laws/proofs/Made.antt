@@ -1,7 +1,7 @@
 -- An event that found no memory leaves the table, so it can be left out.
 use Rattle.std.proofs.Common.{◌≡◌, ◌^◌, max, Bool, true, false, not, ◌&&◌, nat_le, ◌==◌, List, [], ◌∷◌, length, filter, find, get_or, drop, slice_get, refl, subst, ap, arith}
 use Rattle.server_table.specs.declared.event.Event.{Event}
-use Rattle.server_table.specs.declared.event.Event.TheVariants.{Attach, Arrive, Dispatch, Perform, Take, Leave, Gone}
+use Rattle.server_table.specs.declared.event.Event.TheVariants.{Attach, Arrive, Dispatch, Perform, Take, Leave, Gone, Retune}
 use Rattle.server_table.specs.declared.event.Answer.{Answer}
 use Rattle.nbd_commands.specs.Verdict.{verdict_of}
 use Rattle.nbd_commands.specs.Meaning.{may_want_memory}
@@ -55,6 +55,12 @@ module _ {A : Type 0} where
   left setup table (Gone named s) memory =
       let P = Left table in
       some_one P (slice_get setup.exports named) (λ other h. if_one P (not (is_here_at (side table named).sessions s)) (as_it_was table _) (record { same = λ h. true_false h })) (as_it_was table _)
+  left setup table (Retune named rates) memory =
+      let P = Left table in
+      some_one P (slice_get setup.exports named) (λ other h.
+      if_one P (nat_le (2 ^ 56) (side table named).count) (as_it_was table _)
+      (if_one P (not (length (filter (waits_in named) table.rows) == 0)) (as_it_was table _)
+      (if_one P (not memory) (as_it_was table _) (record { same = λ h. true_false h })))) (as_it_was table _)
 
   pub record LeftOut (setup : Setup) (old : Table) (events : List (Event A)) (marks : List Bool) : Type 0 where
     pub answers : answers_of setup old (made_events events (answers_of setup old events marks)) (made_marks (answers_of setup old events marks) marks) ≡ filter is_made (answers_of setup old events marks)

@@ -10,7 +10,7 @@ use Rattle.core_laws.proofs.Lists.{get_or-change_at, get_or-change_at_other, len
 
 -- a part from its rows and its side
 abbrev pub made : List Job → List Job → Side → Alone
-made waiting out side = record { image = side.image; waiting = waiting; out = out; next = side.next; last = side.last_l; sessions = side.sessions; count = side.count }
+made waiting out side = record { image = side.image; waiting = waiting; out = out; next = side.next; last = side.last_l; rates = side.rates; sessions = side.sessions; count = side.count }
 
 pub same_made : (ws ws' os os' : List Job) (s s' : Side) → ws ≡ ws' → os ≡ os' → s ≡ s' → made ws os s ≡ made ws' os' s'
 same_made ws ws' os os' s s' e f g = rw (e, f, g)

@@ -44,7 +44,7 @@ module _ {A : Type 0} where
       if_told P (not (verdict_of other q == 0)) (λ c. absurd (refused (verdict_of other q) (ap (λ (x : Terms). verdict_of x q) same ∙ h.fine) c)) (λ c5.
       if_told P (length (filter (waits_in e) table.rows) == other.depth)
       (λ c. λ had. (λ said. is_full (length (filter (waits_in e) table.rows)) other.depth terms.depth (ap (λ (x : Terms). x.depth) same) c, λ full. refl))
-      (λ c. λ had. (λ said. absurd (differ (side (shifted e t table) e).next (later (side (shifted e t table) e).last_l other.l_interval t) said), λ full. absurd (not_full (length (filter (waits_in e) table.rows)) other.depth terms.depth (ap (λ (x : Terms). x.depth) same) full c)))
+      (λ c. λ had. (λ said. absurd (differ (side (shifted e t table) e).next (later (side (shifted e t table) e).last_l (side (shifted e t table) e).rates.l_interval t) said), λ full. absurd (not_full (length (filter (waits_in e) table.rows)) other.depth terms.depth (ap (λ (x : Terms). x.depth) same) full c)))
       )))))) (λ none. absurd (none-some terms (sym none ∙ h.there)))
     where
       P : Outcome A → Type 0

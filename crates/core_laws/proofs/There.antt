@@ -3,7 +3,7 @@ use Rattle.std.proofs.Common.{ℕ, ◌<◌, ◌^◌, max, Bool, not, ◌&&◌, n
 use Rattle.std.specs.List.{AllByRecursion}
 use Rattle.std.proofs.lemmas.Option.{slice_get_within}
 use Rattle.server_table.specs.declared.event.Event.{Event}
-use Rattle.server_table.specs.declared.event.Event.TheVariants.{Attach, Arrive, Dispatch, Perform, Take, Leave, Gone}
+use Rattle.server_table.specs.declared.event.Event.TheVariants.{Attach, Arrive, Dispatch, Perform, Take, Leave, Gone, Retune}
 use Rattle.nbd_commands.specs.Verdict.{verdict_of}
 use Rattle.nbd_commands.specs.Meaning.{may_want_memory}
 use Rattle.reply_box.specs.Sessions.{is_here, is_open_at, is_left_at, is_here_at, outbox_at}
@@ -30,10 +30,10 @@ there_shifted setup f t table a =
     (some_one (AllThere setup) (foremost p_key (filter (λ row. not row.out) table.rows)) (λ first is. record { rows = all-map (IsThere setup) (IsThere setup) (lower_p (first.p -ℤ pos t)) (λ x h. h) table.rows a.rows }) a)
     a
 
-there_credit : (setup : Setup) (chosen : Choice) (table : Table) → AllThere setup table → AllThere setup (with_credit setup chosen table)
+there_credit : (setup : Setup) (chosen : Choice) (table : Table) → AllThere setup table → AllThere setup (with_credit chosen table)
 there_credit setup chosen table a =
     if_one (AllThere setup) (is_by_weight chosen.phase)
-    (some_one (AllThere setup) (slice_get setup.exports chosen.row.export) (λ there h. some_one (AllThere setup) there.r_interval (λ by k. record { rows = all-map (IsThere setup) (IsThere setup) (lower_r by chosen.row.export) (λ x h. h) table.rows a.rows }) a) a)
+    (some_one (AllThere setup) (side table chosen.row.export).rates.r_interval (λ by k. record { rows = all-map (IsThere setup) (IsThere setup) (lower_r by chosen.row.export) (λ x h. h) table.rows a.rows }) a)
     a
 
 module _ {A : Type 0} where
@@ -56,7 +56,7 @@ module _ {A : Type 0} where
       (if_one P (not memory) (record { is = a })
       (if_one P (not (verdict_of other q == 0)) (record { is = record { rows = a.rows } })
       (if_one P (length (filter (waits_in named) table.rows) == other.depth) (record { is = record { rows = a.rows } })
-      (record { is = record { rows = there_put setup (new_row other named s t q (side (shifted named t table) named)) (shifted named t table).rows (slice_get_within setup.exports named other h) (there_shifted setup named t table a).rows } }))))))) (record { is = a })
+      (record { is = record { rows = there_put setup (new_row named s t q (side (shifted named t table) named)) (shifted named t table).rows (slice_get_within setup.exports named other h) (there_shifted setup named t table a).rows } }))))))) (record { is = a })
   there_after setup table (Dispatch t) memory a =
       let now : Table = record table { now = max table.now t } in
       some_one (StaysThere setup) (choice setup.inflight now)
@@ -82,6 +82,12 @@ module _ {A : Type 0} where
       let P = StaysThere setup in
       some_one P (slice_get setup.exports named) (λ other h.
       if_one P (not (is_here_at (side table named).sessions s)) (record { is = a }) (record { is = record { rows = a.rows } })) (record { is = a })
+  there_after setup table (Retune named rates) memory a =
+      let P = StaysThere setup in
+      some_one P (slice_get setup.exports named) (λ other h.
+      if_one P (nat_le (2 ^ 56) (side table named).count) (record { is = a })
+      (if_one P (not (length (filter (waits_in named) table.rows) == 0)) (record { is = a })
+      (if_one P (not memory) (record { is = a }) (record { is = record { rows = a.rows } })))) (record { is = a })
 
   pub there_step : (setup : Setup) (table : Table) (event : Event A) (memory : Bool) → AllThere setup table → AllThere setup (step setup table event memory).table
   there_step setup table event memory a = (there_after setup table event memory a).is

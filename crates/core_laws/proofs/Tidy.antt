@@ -3,7 +3,6 @@ use Rattle.std.proofs.Common.{◌≡◌, ℕ, ◌<◌, Bool, true, false, not, �
 use Rattle.std.specs.List.{AllByRecursion}
 use Rattle.std.proofs.lemmas.Bool.Decides.{nat_tests}
 use Rattle.std.proofs.lemmas.Option.{same_Some, none-some}
-use Rattle.nbd_commands.specs.Terms.{Terms}
 use Rattle.server_table.specs.Table.{Row, Side, Table, side, job_of, waits_in, precedes, foremost}
 use Rattle.server_table.specs.Steps.{send}
 use Rattle.server_table.specs.Order.{TagBefore}
@@ -19,20 +18,21 @@ pub record IsBefore (a b : Row) : Type 0 where
   pub l : a.out ≡ false → a.l ≤ℤ b.l
   pub p : a.out ≡ false → a.p ≤ℤ b.p
 
--- what a side knows of the latest arrival
+-- what a side knows of the latest arrival, with the interval of the reservation in force
 pub record Latest : Type 0 where
   pub next : ℕ
+  pub interval : Option ℕ
   pub r : Option ℤ
   pub l : Option ℤ
   pub p : Option ℤ
 
 abbrev pub latest : Side → Latest
-latest side = record { next = side.next; r = side.last_r; l = side.last_l; p = side.last_p }
+latest side = record { next = side.next; interval = side.rates.r_interval; r = side.last_r; l = side.last_l; p = side.last_p }
 
 -- a row's tags aren't above the latest ones
-pub record IsKept (terms : Terms) (latest : Latest) (row : Row) : Type 0 where
+pub record IsKept (latest : Latest) (row : Row) : Type 0 where
   pub number : row.number < latest.next
-  pub shape : row.out ≡ false → is_some row.r ≡ is_some terms.r_interval
+  pub shape : row.out ≡ false → is_some row.r ≡ is_some latest.interval
   pub r : row.out ≡ false → TagBefore row.r latest.r
   pub l : row.out ≡ false → TagBefore (Some row.l) latest.l
   pub p : row.out ≡ false → TagBefore (Some row.p) latest.p
@@ -173,30 +173,30 @@ sent_out c (x ∷ xs) sorted first = go x.out refl (sent_out c xs sorted.1)
 
 -- ---- what each change keeps
 
-pub record Tidy (terms : Terms) (e : ℕ) (table : Table) : Type 0 where
+pub record Tidy (e : ℕ) (table : Table) : Type 0 where
   pub there : e < length table.sides
   pub sorted : Sorted (rows_of e table.rows)
-  pub kept : AllByRecursion (IsKept terms (latest (side table e))) (rows_of e table.rows)
+  pub kept : AllByRecursion (IsKept (latest (side table e))) (rows_of e table.rows)
 
 -- the rows of e and its latest arrival are the same
-pub tidy_same : (terms : Terms) (e : ℕ) (old new : Table) → Tidy terms e old → length new.sides ≡ length old.sides → rows_of e new.rows ≡ rows_of e old.rows → latest (side new e) ≡ latest (side old e) → Tidy terms e new
-tidy_same terms e old new tidy n rows late = record { there = rw n tidy.there; sorted = rw rows tidy.sorted; kept = rw (rows, late) tidy.kept }
+pub tidy_same : (e : ℕ) (old new : Table) → Tidy e old → length new.sides ≡ length old.sides → rows_of e new.rows ≡ rows_of e old.rows → latest (side new e) ≡ latest (side old e) → Tidy e new
+tidy_same e old new tidy n rows late = record { there = rw n tidy.there; sorted = rw rows tidy.sorted; kept = rw (rows, late) tidy.kept }
 
 -- some rows are dropped
-pub tidy_filter : (terms : Terms) (e : ℕ) (p : Row → Bool) (old new : Table) → Tidy terms e old → length new.sides ≡ length old.sides → new.rows ≡ filter p old.rows → latest (side new e) ≡ latest (side old e) → Tidy terms e new
-tidy_filter terms e p old new tidy n rows late =
+pub tidy_filter : (e : ℕ) (p : Row → Bool) (old new : Table) → Tidy e old → length new.sides ≡ length old.sides → new.rows ≡ filter p old.rows → latest (side new e) ≡ latest (side old e) → Tidy e new
+tidy_filter e p old new tidy n rows late =
     let same : rows_of e new.rows ≡ filter p (rows_of e old.rows) = ap (rows_of e) rows ∙ filter_swap (is_of e) p old.rows in
     record {
       there = rw n tidy.there;
       sorted = rw same (Sorted-filter p (rows_of e old.rows) tidy.sorted);
-      kept = rw (same, late) (all-filter (IsKept terms (latest (side old e))) p (rows_of e old.rows) tidy.kept);
+      kept = rw (same, late) (all-filter (IsKept (latest (side old e))) p (rows_of e old.rows) tidy.kept);
     }
 
 -- the rows are mapped, where that keeps their exports, their order and what is known of them
-pub tidy_map : (terms : Terms) (e : ℕ) (f : Row → Row) (Q : Row → Type 0) (old new : Table) → Tidy terms e old → ((x : Row) → (f x).export ≡ x.export) → AllByRecursion Q (rows_of e old.rows) →
-    ((a b : Row) → Q a → Q b → IsBefore a b → IsBefore (f a) (f b)) → ((x : Row) → Q x → IsKept terms (latest (side old e)) x → IsKept terms (latest (side new e)) (f x)) →
-    length new.sides ≡ length old.sides → new.rows ≡ map f old.rows → Tidy terms e new
-tidy_map terms e f Q old new tidy exports q order keeps n rows =
+pub tidy_map : (e : ℕ) (f : Row → Row) (Q : Row → Type 0) (old new : Table) → Tidy e old → ((x : Row) → (f x).export ≡ x.export) → AllByRecursion Q (rows_of e old.rows) →
+    ((a b : Row) → Q a → Q b → IsBefore a b → IsBefore (f a) (f b)) → ((x : Row) → Q x → IsKept (latest (side old e)) x → IsKept (latest (side new e)) (f x)) →
+    length new.sides ≡ length old.sides → new.rows ≡ map f old.rows → Tidy e new
+tidy_map e f Q old new tidy exports q order keeps n rows =
     let same : rows_of e new.rows ≡ map f (rows_of e old.rows) = ap (rows_of e) rows ∙ filter-map (is_of e) f (λ x. ap (λ k. k == e) (exports x)) old.rows in
     record {
       there = rw n tidy.there;
@@ -204,6 +204,6 @@ tidy_map terms e f Q old new tidy exports q order keeps n rows =
       kept = rw same (kept_map (rows_of e old.rows) q tidy.kept);
     }
   where
-    kept_map : (xs : List Row) → AllByRecursion Q xs → AllByRecursion (IsKept terms (latest (side old e))) xs → AllByRecursion (IsKept terms (latest (side new e))) (map f xs)
+    kept_map : (xs : List Row) → AllByRecursion Q xs → AllByRecursion (IsKept (latest (side old e))) xs → AllByRecursion (IsKept (latest (side new e))) (map f xs)
     kept_map [] a b = tt
     kept_map (x ∷ xs) a b = (keeps x a.0 b.0, kept_map xs a.1 b.1)

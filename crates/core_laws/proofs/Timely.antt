@@ -5,10 +5,9 @@ use Rattle.std.proofs.lemmas.Int.{ints, clamps}
 use Rattle.std.proofs.lemmas.Bool.Decides.{nat_tests}
 use Rattle.std.proofs.lemmas.Option.{same_Some, none-some}
 use Rattle.nbd_wire.specs.Grammar.{RequestMessage}
-use Rattle.nbd_commands.specs.Terms.{Terms}
 use Rattle.tag_clock.specs.Tags.{later}
 use Rattle.server_table.specs.declared.event.Event.{Event}
-use Rattle.server_table.specs.declared.event.Event.TheVariants.{Attach, Arrive, Dispatch, Perform, Take, Leave, Gone}
+use Rattle.server_table.specs.declared.event.Event.TheVariants.{Attach, Arrive, Dispatch, Perform, Take, Leave, Gone, Retune}
 use Rattle.server_table.specs.declared.event.Answer.{Answer}
 use Rattle.server_table.specs.declared.event.Answer.TheVariants as said
 use Rattle.server_table.specs.Table.{Row, Table, Setup, side, waits_in, is_idle, opening_table}
@@ -16,10 +15,13 @@ use Rattle.server_table.specs.Steps.{Outcome, step, run_answers}
 use Rattle.server_table.specs.Shares.{is_choice_of}
 use Rattle.core_laws.specs.Counts.{is_accepted}
 use Rattle.core_laws.specs.Statements.{table_before}
-use Rattle.core_laws.specs.Shares.{shift_at, fall, fallen_before, in_terms_of, chosen_before, weight_choices, all_choices, WaitsThrough, GoesFrom, ArriveInTime}
+use Rattle.core_laws.specs.Shares.{shift_at, fall, fallen_before, in_terms_of, chosen_before, weight_choices, all_choices, p_interval_at, WaitsThrough, GoesFrom, ArriveInTime}
 use Rattle.lone_export.proofs.Cases.{if_one}
 use Rattle.core_laws.proofs.Lanes.{Turn, Lane, lane, turn_of, turn_lowered, lane_lowered, lane_unlowered, lane_pushed, lane_popped, lane_after, IsQuiet, Goes, goes}
-use Rattle.core_laws.proofs.Chains.{IsChain, Chained, IsWaiting, Reached, reached_before}
+use Rattle.core_laws.proofs.Chains.{IsChain, Chained, IsWaiting, Reached, ReachedThrough, moves_at, reached_before, reached_through}
+use Rattle.core_laws.proofs.Runs.{Steady, rates_step}
+use Rattle.tag_clock.specs.Intervals.{Intervals}
+use Rattle.nbd_commands.specs.Terms.{Terms}
 use Rattle.core_laws.proofs.Onward.{along, counted, Ended, OnwardBy, onward}
 use Rattle.core_laws.proofs.Beside.{waiting_is, Alongside, bounded}
 
@@ -73,37 +75,37 @@ none_waits (x ∷ xs) h = absurd (never (length xs) h)
     never : (n : ℕ) → eqb (suc n) 0 ≡ true → ⊥
     never n h = grind (arith, nat_tests, h)
 
-module _ (A : Type 0) (setup : Setup) (terms : Terms) (f a b : ℕ) (there : slice_get setup.exports f ≡ Some terms) where
+module _ (A : Type 0) (setup : Setup) (f interval a b : ℕ) where
   -- the event is no late arrival of f
   abbrev InTime : Table → Event A → Bool → Type 0
   InTime table event memory = (s t n : ℕ) (q : RequestMessage) (tag last : ℤ) → event ≡ Arrive f s t q → (step setup table event memory).answer ≡ said.Accepted n tag →
-      a < n → n ≤ b → (side table f).last_p ≡ Some last → pos t ≤ℤ (last +ℤ pos terms.p_interval)
+      a < n → n ≤ b → (side table f).last_p ≡ Some last → pos t ≤ℤ (last +ℤ pos interval)
 
   abbrev Timely : Lane → Type 0
-  Timely l = IsTimely terms.p_interval a b l.waiting
+  Timely l = IsTimely interval a b l.waiting
 
   -- its own accepted arrival: no shift where a request waits, and where none waits no tag before it
-  timely_own : (table : Table) (t : ℕ) → Reached terms f table → Timely (lane f table) → IsInTime terms.p_interval a b t (side table f).next (side table f).last_p →
-      Timely (lane_pushed terms.p_interval t (lane_lowered (shift_at f t table) (lane f table)))
+  timely_own : (table : Table) (t : ℕ) → Reached f interval table → Timely (lane f table) → IsInTime interval a b t (side table f).next (side table f).last_p →
+      Timely (lane_pushed interval t (lane_lowered (shift_at f t table) (lane f table)))
   timely_own table t at h in_time = go (is_idle f table.rows) refl
     where
       pushed : Turn
-      pushed = record { number = (side table f).next; p = later (lane_lowered (shift_at f t table) (lane f table)).last terms.p_interval t }
+      pushed = record { number = (side table f).next; p = later (lane_lowered (shift_at f t table) (lane f table)).last interval t }
 
-      go : (c : Bool) → is_idle f table.rows ≡ c → Timely (lane_pushed terms.p_interval t (lane_lowered (shift_at f t table) (lane f table)))
-      go true idle = subst (λ (turns : List Turn). IsTimely terms.p_interval a b (map (turn_lowered (shift_at f t table)) turns ++ pushed ∷ [])) (sym (none_waits (filter (waits_in f) table.rows) idle)) (tt, tt)
-      go false active = subst (λ (l : Lane). Timely (lane_pushed terms.p_interval t l)) (sym (ap (λ by. lane_lowered by (lane f table)) unshifted ∙ lane_unlowered (lane f table)))
-          (timely_pushed terms.p_interval a b t (lane f table).waiting (lane f table).next (lane f table).last at.chained.turns in_time h)
+      go : (c : Bool) → is_idle f table.rows ≡ c → Timely (lane_pushed interval t (lane_lowered (shift_at f t table) (lane f table)))
+      go true idle = subst (λ (turns : List Turn). IsTimely interval a b (map (turn_lowered (shift_at f t table)) turns ++ pushed ∷ [])) (sym (none_waits (filter (waits_in f) table.rows) idle)) (tt, tt)
+      go false active = subst (λ (l : Lane). Timely (lane_pushed interval t l)) (sym (ap (λ by. lane_lowered by (lane f table)) unshifted ∙ lane_unlowered (lane f table)))
+          (timely_pushed interval a b t (lane f table).waiting (lane f table).next (lane f table).last at.chained.turns in_time h)
         where
           unshifted : shift_at f t table ≡ pos 0
           unshifted = rw active refl
 
-  timely_arrival : (table : Table) (g s t : ℕ) (q : RequestMessage) (memory : Bool) → Reached terms f table → InTime table (Arrive g s t q) memory → Timely (lane f table) →
+  timely_arrival : (table : Table) (g s t : ℕ) (q : RequestMessage) (memory : Bool) → Reached f interval table → InTime table (Arrive g s t q) memory → Timely (lane f table) →
       (c d : Bool) → is_accepted (step {A = A} setup table (Arrive g s t q) memory).answer ≡ c → eqb g f ≡ d →
-      Timely (lane_after {A = A} f terms.p_interval (Arrive g s t q) (step {A = A} setup table (Arrive g s t q) memory).answer (fall {A = A} table (Arrive g s t q) (step {A = A} setup table (Arrive g s t q) memory).answer) (lane f table))
+      Timely (lane_after {A = A} f interval (Arrive g s t q) (step {A = A} setup table (Arrive g s t q) memory).answer (fall {A = A} table (Arrive g s t q) (step {A = A} setup table (Arrive g s t q) memory).answer) (lane f table))
   timely_arrival table g s t q memory at in_time h false d accepted own = rw accepted h
-  timely_arrival table g s t q memory at in_time h true false accepted own = rw (accepted, own) (timely_lowered terms.p_interval a b (shift_at g t table) (lane f table).waiting h)
-  timely_arrival table g s t q memory at in_time h true true accepted own = rw (accepted, own) (subst (λ (k : ℕ). Timely (lane_pushed terms.p_interval t (lane_lowered (shift_at k t table) (lane f table)))) (sym same) (timely_own table t at h here))
+  timely_arrival table g s t q memory at in_time h true false accepted own = rw (accepted, own) (timely_lowered interval a b (shift_at g t table) (lane f table).waiting h)
+  timely_arrival table g s t q memory at in_time h true true accepted own = rw (accepted, own) (subst (λ (k : ℕ). Timely (lane_pushed interval t (lane_lowered (shift_at k t table) (lane f table)))) (sym same) (timely_own table t at h here))
     where
       same : g ≡ f
       same = grind (arith, nat_tests, own)
@@ -115,22 +117,23 @@ module _ (A : Type 0) (setup : Setup) (terms : Terms) (f a b : ℕ) (there : sli
           arrive e = rw (← e) refl
 
       told : (tag : ℤ) × ((step {A = A} setup table (Arrive g s t q) memory).answer ≡ said.Accepted (side table f).next tag)
-      told = (goes setup terms table f (Arrive g s t q) memory there at.tidy).numbered own accepted
+      told = (goes setup table f (Arrive g s t q) memory at.tidy).numbered own accepted
 
-      here : IsInTime terms.p_interval a b t (side table f).next (side table f).last_p
+      here : IsInTime interval a b t (side table f).next (side table f).last_p
       here p low up last = in_time s t (side table f).next q told.0 p event_is told.1 low up last
 
-  timely_step : (table : Table) (event : Event A) (memory : Bool) → Reached terms f table → InTime table event memory → Timely (lane f table) → Timely (lane f (step setup table event memory).table)
-  timely_step table event memory at in_time h = subst Timely (sym (goes setup terms table f event memory there at.tidy).moves) (go event in_time)
+  timely_step : (table : Table) (event : Event A) (memory : Bool) → Reached f interval table → InTime table event memory → Timely (lane f table) → Timely (lane f (step setup table event memory).table)
+  timely_step table event memory at in_time h = subst Timely (sym (moves_at setup table f interval event memory at)) (go event in_time)
     where
-      go : (event : Event A) → InTime table event memory → Timely (lane_after f terms.p_interval event (step setup table event memory).answer (fall table event (step setup table event memory).answer) (lane f table))
+      go : (event : Event A) → InTime table event memory → Timely (lane_after f interval event (step setup table event memory).answer (fall table event (step setup table event memory).answer) (lane f table))
       go (Attach g) in_time = h
       go (Arrive g s t q) in_time = timely_arrival table g s t q memory at in_time h (is_accepted (step {A = A} setup table (Arrive g s t q) memory).answer) (eqb g f) refl refl
-      go (Dispatch t) in_time = if_one Timely (is_choice_of f (step {A = A} setup table (Dispatch t) memory).answer) (timely_popped terms.p_interval a b (lane f table).waiting h) h
+      go (Dispatch t) in_time = if_one Timely (is_choice_of f (step {A = A} setup table (Dispatch t) memory).answer) (timely_popped interval a b (lane f table).waiting h) h
       go (Perform g n) in_time = h
       go (Take g s) in_time = h
       go (Leave g s) in_time = h
       go (Gone g s) in_time = h
+      go (Retune g rates) in_time = h
 
 -- ---- the first request
 
@@ -215,6 +218,7 @@ module _ (A : Type 0) (f interval a b n : ℕ) (v : ℤ) (lane : Lane) (chained 
   head_after table (Take g s) said quiet waits = rw (quiet tt) stays
   head_after table (Leave g s) said quiet waits = rw (quiet tt) stays
   head_after table (Gone g s) said quiet waits = rw (quiet tt) stays
+  head_after table (Retune g rates) said quiet waits = rw (quiet tt) stays
 
 -- ---- from place to place
 
@@ -236,29 +240,44 @@ of_head b v [] row first e = absurd (none-some row first)
 of_head b v (x ∷ xs) row first e = (ap (λ (r : Row). r.number) (same_Some x row first), λ le. ap (λ (r : Row). r.p) (same_Some x row first) ∙ e)
 
 module _ {A : Type 0} where
-  module _ (setup : Setup) (terms : Terms) (f : ℕ) (events : List (Event A)) (marks : List Bool) (start end : Row) (there : slice_get setup.exports f ≡ Some terms) (in_time : ArriveInTime f terms start end setup events (run_answers setup events marks) marks) where
+  module _ (setup : Setup) (terms : Terms) (f : ℕ) (there : slice_get setup.exports f ≡ Some terms) (events : List (Event A)) (marks : List Bool) (start end : Row) (in_time : ArriveInTime f start end setup events (run_answers setup events marks) marks) where
     abbrev answers : List (Answer A)
     answers = run_answers setup events marks
 
     abbrev at_place : (k : ℕ) → Table
     at_place k = table_before k setup events marks
 
-    timely_before : (k : ℕ) → IsTimely terms.p_interval start.number end.number (lane f (at_place k)).waiting
+    abbrev interval_at : (k : ℕ) → ℕ
+    interval_at k = p_interval_at f k setup events marks
+
+    reached_at : (k : ℕ) → Reached f (p_interval_at f k setup events marks) (table_before k setup events marks)
+    reached_at k = reached_before setup terms f k events marks there
+
+    timely_before : (k : ℕ) → IsTimely (interval_at k) start.number end.number (lane f (at_place k)).waiting
     timely_before zero = tt
     timely_before (suc k) = go (onward setup events (opening_table setup) marks k) (timely_before k)
       where
-        go : Ended setup (opening_table setup) events marks k ⊎ OnwardBy setup (opening_table setup) events marks k → IsTimely terms.p_interval start.number end.number (lane f (at_place k)).waiting → IsTimely terms.p_interval start.number end.number (lane f (at_place (suc k))).waiting
-        go (inl ended) h = rw ended.tables h
-        go (inr next) h = rw next.by.tables (timely_step A setup terms f start.number end.number there (at_place k) next.event next.memory (reached_before setup terms f k events marks there)
-            (λ s t n q tag last is told low up before. in_time k s t n q tag last (next.by.stands ∙ ap Some is, next.by.answered ∙ ap Some told) low up before) h)
+        -- other rates leave no request
+        renewed : (new : Table) → Steady f (at_place k) new → IsTimely (interval_at k) start.number end.number (lane f new).waiting → IsTimely (side new f).rates.p_interval start.number end.number (lane f new).waiting
+        renewed new (inl same) h = subst (λ (rates : Intervals). IsTimely rates.p_interval start.number end.number (lane f new).waiting) (sym same) h
+        renewed new (inr none) h = subst (λ (xs : List Row). IsTimely (side new f).rates.p_interval start.number end.number (map turn_of xs)) (sym none.1) tt
 
-    record HeadAt (i k : ℕ) : Type 0 where
+        At : Table → Type 0
+        At table = IsTimely (side table f).rates.p_interval start.number end.number (lane f table).waiting
+
+        go : Ended setup (opening_table setup) events marks k ⊎ OnwardBy setup (opening_table setup) events marks k → At (at_place k) → At (at_place (suc k))
+        go (inl ended) h = subst At (sym ended.tables) h
+        go (inr next) h = subst At (sym next.by.tables) (renewed (step setup (at_place k) next.event next.memory).table (rates_step setup terms (at_place k) f next.event next.memory there (reached_at k).tidy)
+            (timely_step A setup f (interval_at k) start.number end.number (at_place k) next.event next.memory (reached_at k)
+            (λ s t n q tag last is told low up before. in_time k s t n q tag last (next.by.stands ∙ ap Some is, next.by.answered ∙ ap Some told) low up before) h))
+
+    record HeadAt (interval i k : ℕ) : Type 0 where
       count : ℕ
       chosen : chosen_before (is_choice_of f) k answers ≡ chosen_before (is_choice_of f) i answers + count
-      head : IsHead (start.number + count) end.number (in_terms_of i k setup events marks start.p +ℤ pos (count * terms.p_interval)) (lane f (at_place k)).waiting
+      head : IsHead (start.number + count) end.number (in_terms_of i k setup events marks start.p +ℤ pos (count * interval)) (lane f (at_place k)).waiting
 
-    head_at : (i j : ℕ) → GoesFrom f i j setup events marks start end → WaitsThrough f i j setup events marks → HeadAt i j
-    head_at i j goes_from waits = along (HeadAt i) i j goes_from.order base onward_one
+    head_at : (interval i j : ℕ) → ReachedThrough f interval i j setup events marks → GoesFrom f i j setup events marks start end → WaitsThrough f i j setup events marks → HeadAt interval i j
+    head_at interval i j through goes_from waits = along (HeadAt interval i) i j goes_from.order base onward_one
       where
         zero_plus : (n : ℕ) → n ≡ n + 0
         zero_plus n = omega arith
@@ -266,11 +285,11 @@ module _ {A : Type 0} where
         nothing : (p a : ℤ) (i : ℕ) → p ≡ (p -ℤ (a -ℤ a)) +ℤ pos (0 * i)
         nothing p a i = omega (arith, ints)
 
-        base : HeadAt i i
+        base : HeadAt interval i i
         base = record {
           count = 0;
           chosen = zero_plus (chosen_before (is_choice_of f) i answers);
-          head = is_head_as start.number (start.number + 0) end.number start.p (in_terms_of i i setup events marks start.p +ℤ pos (0 * terms.p_interval)) (lane f (at_place i)).waiting (zero_plus start.number) (nothing start.p (fallen_before i setup events marks) terms.p_interval)
+          head = is_head_as start.number (start.number + 0) end.number start.p (in_terms_of i i setup events marks start.p +ℤ pos (0 * interval)) (lane f (at_place i)).waiting (zero_plus start.number) (nothing start.p (fallen_before i setup events marks) interval)
               (of_head end.number start.p (filter (waits_in f) (at_place i).rows) start goes_from.first refl);
         }
 
@@ -280,13 +299,16 @@ module _ {A : Type 0} where
         upto : (k : ℕ) → k < j → suc k ≤ j
         upto k lt = omega (arith, lt)
 
+        before : (k : ℕ) → k < j → k ≤ j
+        before k lt = omega (arith, lt)
+
         at_least : (n c : ℕ) → n ≤ n + c
         at_least n c = omega arith
 
-        onward_one : (k : ℕ) → i ≤ k → k < j → HeadAt i k → HeadAt i (suc k)
+        onward_one : (k : ℕ) → i ≤ k → k < j → HeadAt interval i k → HeadAt interval i (suc k)
         onward_one k low lt h = go (onward setup events (opening_table setup) marks k)
           where
-            go : Ended setup (opening_table setup) events marks k ⊎ OnwardBy setup (opening_table setup) events marks k → HeadAt i (suc k)
+            go : Ended setup (opening_table setup) events marks k ⊎ OnwardBy setup (opening_table setup) events marks k → HeadAt interval i (suc k)
             go (inl ended) = record {
               count = h.count;
               chosen = ap (λ (xs : List (Answer A)). length (filter (is_choice_of f) xs)) ended.answers ∙ h.chosen;
@@ -298,9 +320,9 @@ module _ {A : Type 0} where
                   ∙ regroup (chosen_before (is_choice_of f) k answers) (chosen_before (is_choice_of f) i answers) h.count (one_if (is_choice_of f new.answer)) h.chosen;
               head = rw (next.by.falls, next.by.tables) (subst (λ (l : Lane). IsHead (start.number + (h.count + one_if (is_choice_of f new.answer))) end.number after l.waiting) (sym moves)
                   (is_head_as (start.number + h.count + one_if (is_choice_of f new.answer)) (start.number + (h.count + one_if (is_choice_of f new.answer))) end.number _ after
-                  (lane_after f terms.p_interval next.event new.answer by (lane f (at_place k))).waiting (sum start.number h.count (one_if (is_choice_of f new.answer)))
-                  (terms_at start.p (fallen_before k setup events marks) (fallen_before i setup events marks) by h.count (one_if (is_choice_of f new.answer)) terms.p_interval)
-                  (head_after A f terms.p_interval start.number end.number (start.number + h.count) (in_terms_of i k setup events marks start.p +ℤ pos (h.count * terms.p_interval)) (lane f (at_place k)) reached.chained (timely_before k) (at_least start.number h.count) h.head
+                  (lane_after f interval next.event new.answer by (lane f (at_place k))).waiting (sum start.number h.count (one_if (is_choice_of f new.answer)))
+                  (terms_at start.p (fallen_before k setup events marks) (fallen_before i setup events marks) by h.count (one_if (is_choice_of f new.answer)) interval)
+                  (head_after A f interval start.number end.number (start.number + h.count) (in_terms_of i k setup events marks start.p +ℤ pos (h.count * interval)) (lane f (at_place k)) reached.chained timely (at_least start.number h.count) h.head
                   (at_place k) next.event new.answer (λ q. is.quiet q f)
                   (subst (λ (l : Lane). IsWaiting l.waiting) moves (subst (λ (t : Table). IsWaiting (lane f t).waiting) next.by.tables (waiting_is f (at_place (suc k)) (waits (suc k) (above k low) (upto k lt))))))));
             }
@@ -312,16 +334,19 @@ module _ {A : Type 0} where
                 by = fall (at_place k) next.event new.answer
 
                 after : ℤ
-                after = (start.p -ℤ ((fallen_before k setup events marks +ℤ by) -ℤ fallen_before i setup events marks)) +ℤ pos ((h.count + one_if (is_choice_of f new.answer)) * terms.p_interval)
+                after = (start.p -ℤ ((fallen_before k setup events marks +ℤ by) -ℤ fallen_before i setup events marks)) +ℤ pos ((h.count + one_if (is_choice_of f new.answer)) * interval)
 
-                reached : Reached terms f (at_place k)
-                reached = reached_before setup terms f k events marks there
+                reached : Reached f interval (at_place k)
+                reached = through k low (before k lt)
 
-                is : Goes terms f (at_place k) next.event new
-                is = goes setup terms (at_place k) f next.event next.memory there reached.tidy
+                timely : IsTimely interval start.number end.number (lane f (at_place k)).waiting
+                timely = subst (λ (n : ℕ). IsTimely n start.number end.number (lane f (at_place k)).waiting) reached.rate (timely_before k)
 
-                moves : lane f new.table ≡ lane_after f terms.p_interval next.event new.answer by (lane f (at_place k))
-                moves = is.moves
+                is : Goes f (at_place k) next.event new
+                is = goes setup (at_place k) f next.event next.memory reached.tidy
+
+                moves : lane f new.table ≡ lane_after f interval next.event new.answer by (lane f (at_place k))
+                moves = moves_at setup (at_place k) f interval next.event next.memory reached
 
                 regroup : (x a c d : ℕ) → x ≡ a + c → x + d ≡ a + (c + d)
                 regroup x a c d h = omega (arith, h)
@@ -329,24 +354,27 @@ module _ {A : Type 0} where
                 sum : (a c d : ℕ) → a + c + d ≡ a + (c + d)
                 sum a c d = omega arith
 
-    pub rises : (i j : ℕ) → GoesFrom f i j setup events marks start end → WaitsThrough f i j setup events marks → end.p ≡ in_terms_of i j setup events marks start.p +ℤ pos (all_choices f i j answers * terms.p_interval)
+    pub rises : (i j : ℕ) → GoesFrom f i j setup events marks start end → WaitsThrough f i j setup events marks → end.p ≡ in_terms_of i j setup events marks start.p +ℤ pos (all_choices f i j answers * p_interval_at f i setup events marks)
     rises i j goes_from waits =
-        let at : HeadAt i j = head_at i j goes_from waits in
-        let last : (end.number ≡ start.number + at.count) × (start.number + at.count ≤ end.number → end.p ≡ in_terms_of i j setup events marks start.p +ℤ pos (at.count * terms.p_interval)) =
-        head_of (start.number + at.count) end.number (in_terms_of i j setup events marks start.p +ℤ pos (at.count * terms.p_interval)) (filter (waits_in f) (at_place j).rows) end goes_from.last at.head in
+        let at : HeadAt interval i j = head_at interval i j (reached_through setup terms f i j events marks there waits) goes_from waits in
+        let last : (end.number ≡ start.number + at.count) × (start.number + at.count ≤ end.number → end.p ≡ in_terms_of i j setup events marks start.p +ℤ pos (at.count * interval)) =
+        head_of (start.number + at.count) end.number (in_terms_of i j setup events marks start.p +ℤ pos (at.count * interval)) (filter (waits_in f) (at_place j).rows) end goes_from.last at.head in
         last.1 (no_less end.number (start.number + at.count) last.0)
-        ∙ ap (λ (c : ℕ). in_terms_of i j setup events marks start.p +ℤ pos (c * terms.p_interval)) (difference (chosen_before (is_choice_of f) j answers) (chosen_before (is_choice_of f) i answers) at.count at.chosen)
+        ∙ ap (λ (c : ℕ). in_terms_of i j setup events marks start.p +ℤ pos (c * interval)) (difference (chosen_before (is_choice_of f) j answers) (chosen_before (is_choice_of f) i answers) at.count at.chosen)
       where
+        interval : ℕ
+        interval = p_interval_at f i setup events marks
+
         no_less : (m n : ℕ) → m ≡ n → n ≤ m
         no_less m n e = omega (arith, e)
 
         difference : (x a c : ℕ) → x ≡ a + c → c ≡ x - a
         difference x a c e = omega (arith, e)
 
-  pub bounded_by_ratio : (setup : Setup) (one other : Terms) (e f i j : ℕ) (events : List (Event A)) (marks : List Bool) (start end : Row) → slice_get setup.exports e ≡ Some one → slice_get setup.exports f ≡ Some other → 0 < one.p_interval →
-      GoesFrom f i j setup events marks start end → Alongside e f i j setup events marks start → ArriveInTime f other start end setup events (run_answers setup events marks) marks →
-      weight_choices e i j (run_answers setup events marks) ≤ 1 + (all_choices f i j (run_answers setup events marks) * other.p_interval) / one.p_interval
-  bounded_by_ratio setup one other e f i j events marks start end one_there other_there some goes_from waits in_time =
-      subst (λ (gap : ℕ). weight_choices e i j (run_answers setup events marks) ≤ 1 + gap / one.p_interval)
-      (gap_is (in_terms_of i j setup events marks start.p) end.p (all_choices f i j (run_answers setup events marks) * other.p_interval) (rises setup other f events marks start end other_there in_time i j goes_from waits.f_waits))
-      (bounded setup one other e f i j events marks start end one_there other_there some goes_from waits)
+  pub bounded_by_ratio : (setup : Setup) (e f i j : ℕ) (one other : Terms) (events : List (Event A)) (marks : List Bool) (start end : Row) → slice_get setup.exports e ≡ Some one → slice_get setup.exports f ≡ Some other →
+      0 < p_interval_at e i setup events marks → GoesFrom f i j setup events marks start end → Alongside e f i j setup events marks start → ArriveInTime f start end setup events (run_answers setup events marks) marks →
+      weight_choices e i j (run_answers setup events marks) ≤ 1 + (all_choices f i j (run_answers setup events marks) * p_interval_at f i setup events marks) / p_interval_at e i setup events marks
+  bounded_by_ratio setup e f i j one other events marks start end one_there other_there some goes_from waits in_time =
+      subst (λ (gap : ℕ). weight_choices e i j (run_answers setup events marks) ≤ 1 + gap / p_interval_at e i setup events marks)
+      (gap_is (in_terms_of i j setup events marks start.p) end.p (all_choices f i j (run_answers setup events marks) * p_interval_at f i setup events marks) (rises setup other f other_there events marks start end in_time i j goes_from waits.f_waits))
+      (bounded setup e f i j (p_interval_at e i setup events marks) (p_interval_at f i setup events marks) events marks start end (reached_through setup one e i j events marks one_there waits.e_waits) (reached_through setup other f i j events marks other_there waits.f_waits) some goes_from waits)

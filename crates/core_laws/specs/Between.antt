@@ -9,7 +9,7 @@ use Rattle.server_table.specs.declared.event.Answer.{Answer}
 use Rattle.server_table.specs.declared.event.Answer.TheVariants.{Picked}
 use Rattle.server_table.specs.Table.{Row, Setup, waits_in}
 use Rattle.core_laws.specs.Statements.{StandsAt, table_before}
-use Rattle.core_laws.specs.Shares.{first_of, in_terms_of, weight_choices, all_choices, WaitsThrough, IsDueThrough, ArriveInTime}
+use Rattle.core_laws.specs.Shares.{p_interval_at, first_of, in_terms_of, weight_choices, all_choices, WaitsThrough, IsDueThrough, ArriveInTime}
 
 module _ {A : Type 0} where
   -- at place k a dispatch chooses export f's request `row`, which waits until then
@@ -40,15 +40,15 @@ module _ {A : Type 0} where
   -- tag of the first to that of the second, both in the terms of the second
   abbrev pub SharesBetween : Setup → List (Event A) → List (Answer A) → List Bool → Type 0
   SharesBetween setup events answers marks = (e f i j : ℕ) (one other : Terms) (start end : Row) →
-      slice_get setup.exports e ≡ Some one → slice_get setup.exports f ≡ Some other → 0 < one.p_interval →
+      slice_get setup.exports e ≡ Some one → slice_get setup.exports f ≡ Some other → 0 < p_interval_at e i setup events marks →
       IsChosenTwice f i j setup events answers marks start end → WaitBetween e f i j setup events marks start →
-      weight_choices e i j answers ≤ 1 + int_gap (in_terms_of i j setup events marks start.p) end.p / one.p_interval
+      weight_choices e i j answers ≤ 1 + int_gap (in_terms_of i j setup events marks start.p) end.p / p_interval_at e i setup events marks
 
   -- where f's requests arrive in time that is for each choice of f, one of the two counted, no more than the ratio of their
   -- weights, and one in all
   abbrev pub RatioBetween : Setup → List (Event A) → List (Answer A) → List Bool → Type 0
   RatioBetween setup events answers marks = (e f i j : ℕ) (one other : Terms) (start end : Row) →
-      slice_get setup.exports e ≡ Some one → slice_get setup.exports f ≡ Some other → 0 < one.p_interval →
+      slice_get setup.exports e ≡ Some one → slice_get setup.exports f ≡ Some other → 0 < p_interval_at e i setup events marks →
       IsChosenTwice f i j setup events answers marks start end → WaitBetween e f i j setup events marks start →
-      ArriveInTime f other start end setup events answers marks →
-      weight_choices e i j answers ≤ 1 + (all_choices f i j answers * other.p_interval) / one.p_interval
+      ArriveInTime f start end setup events answers marks →
+      weight_choices e i j answers ≤ 1 + (all_choices f i j answers * p_interval_at f i setup events marks) / p_interval_at e i setup events marks

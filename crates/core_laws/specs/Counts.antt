@@ -3,7 +3,7 @@ use Rattle.std.specs.Prelude.{ℕ, ◌+◌, max, Bool, true, false, ◌&&◌, �
 use Rattle.tag_clock.specs.declared.Phase.{Phase}
 use Rattle.tag_clock.specs.declared.Phase.TheVariants.{Reservation, Weight}
 use Rattle.server_table.specs.declared.event.Event.{Event}
-use Rattle.server_table.specs.declared.event.Event.TheVariants.{Arrive, Dispatch}
+use Rattle.server_table.specs.declared.event.Event.TheVariants.{Arrive, Dispatch, Retune}
 use Rattle.server_table.specs.declared.event.Answer.{Answer}
 use Rattle.server_table.specs.declared.event.Answer.TheVariants.{Accepted, Picked}
 use Rattle.nbd_base.specs.Words.{when_some}
@@ -30,6 +30,11 @@ module _ {A : Type 0} where
   choices e phase b now [] answers = 0
   choices e phase b now (event ∷ events) [] = 0
   choices e phase b now (event ∷ events) (said ∷ answers) = (if is_choice_in e phase said && nat_le (now_after now event) b then 1 else 0) + choices e phase b (now_after now event) events answers
+
+  -- a retune of export e, whatever it is answered
+  abbrev pub is_retune_of : ℕ → Event A → Bool
+  is_retune_of e (Retune f rates) = f == e
+  is_retune_of e event = false
 
   abbrev pub is_accepted : Answer A → Bool
   is_accepted (Accepted n tag) = true

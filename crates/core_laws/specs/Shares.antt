@@ -27,6 +27,10 @@ shift_at e t table =
     else pos 0
 
 module _ {A : Type 0} where
+  -- the interval of export e's weight in force at place k. While a request of it waits that is the same
+  abbrev pub p_interval_at : ℕ → ℕ → Setup → List (Event A) → List Bool → ℕ
+  p_interval_at e k setup events marks = (side (table_before k setup events marks) e).rates.p_interval
+
   -- what an event takes off them, and what all events of a list do, from a table on
   abbrev pub fall : Table → Event A → Answer A → ℤ
   fall table (Arrive e s t q) said = if is_accepted said then shift_at e t table else pos 0
@@ -81,10 +85,10 @@ module _ {A : Type 0} where
 
   -- each request of export f behind `start`, up to `end`, arrived at a moment that wasn't above f's last P tag and an
   -- interval more
-  abbrev pub ArriveInTime : ℕ → Terms → Row → Row → Setup → List (Event A) → List (Answer A) → List Bool → Type 0
-  ArriveInTime f terms start end setup events answers marks = (k s t n : ℕ) (q : RequestMessage) (tag last : ℤ) →
+  abbrev pub ArriveInTime : ℕ → Row → Row → Setup → List (Event A) → List (Answer A) → List Bool → Type 0
+  ArriveInTime f start end setup events answers marks = (k s t n : ℕ) (q : RequestMessage) (tag last : ℤ) →
       StandsAt k events answers (Arrive f s t q) (Accepted n tag) → start.number < n → n ≤ end.number →
-      (side (table_before k setup events marks) f).last_p ≡ Some last → pos t ≤ℤ (last +ℤ pos terms.p_interval)
+      (side (table_before k setup events marks) f).last_p ≡ Some last → pos t ≤ℤ (last +ℤ pos (p_interval_at f k setup events marks))
 
   -- ---- the law
 
@@ -100,21 +104,21 @@ module _ {A : Type 0} where
   -- tag of f's first request rises
   abbrev pub SharesByWeight : Setup → List (Event A) → List (Answer A) → List Bool → Type 0
   SharesByWeight setup events answers marks = (e f i j : ℕ) (one other : Terms) (start end : Row) →
-      slice_get setup.exports e ≡ Some one → slice_get setup.exports f ≡ Some other → 0 < one.p_interval →
+      slice_get setup.exports e ≡ Some one → slice_get setup.exports f ≡ Some other → 0 < p_interval_at e i setup events marks →
       GoesFrom f i j setup events marks start end → WaitBeside e f i j setup events marks start →
-      weight_choices e i j answers ≤ 1 + int_gap (in_terms_of i j setup events marks start.p) end.p / one.p_interval
+      weight_choices e i j answers ≤ 1 + int_gap (in_terms_of i j setup events marks start.p) end.p / p_interval_at e i setup events marks
 
   -- where f's requests arrive in time, its tag rises by an interval for each choice of f
   abbrev pub RisesByItsChoices : Setup → List (Event A) → List (Answer A) → List Bool → Type 0
   RisesByItsChoices setup events answers marks = (f i j : ℕ) (terms : Terms) (start end : Row) →
       slice_get setup.exports f ≡ Some terms → GoesFrom f i j setup events marks start end → WaitsThrough f i j setup events marks →
-      ArriveInTime f terms start end setup events answers marks →
-      end.p ≡ in_terms_of i j setup events marks start.p +ℤ pos (all_choices f i j answers * terms.p_interval)
+      ArriveInTime f start end setup events answers marks →
+      end.p ≡ in_terms_of i j setup events marks start.p +ℤ pos (all_choices f i j answers * p_interval_at f i setup events marks)
 
   -- and so for each choice of f there are no more of e by weight than the ratio of their weights, and one in all
   abbrev pub SharesByRatio : Setup → List (Event A) → List (Answer A) → List Bool → Type 0
   SharesByRatio setup events answers marks = (e f i j : ℕ) (one other : Terms) (start end : Row) →
-      slice_get setup.exports e ≡ Some one → slice_get setup.exports f ≡ Some other → 0 < one.p_interval →
+      slice_get setup.exports e ≡ Some one → slice_get setup.exports f ≡ Some other → 0 < p_interval_at e i setup events marks →
       GoesFrom f i j setup events marks start end → WaitBeside e f i j setup events marks start →
-      ArriveInTime f other start end setup events answers marks →
-      weight_choices e i j answers ≤ 1 + (all_choices f i j answers * other.p_interval) / one.p_interval
+      ArriveInTime f start end setup events answers marks →
+      weight_choices e i j answers ≤ 1 + (all_choices f i j answers * p_interval_at f i setup events marks) / p_interval_at e i setup events marks

@@ -1,14 +1,15 @@
 -- What the laws say, of one run or of one step.
-use Rattle.std.specs.Prelude.{◌≡◌, ◌≢◌, ◌↔◌, ◌<◌, ◌≤◌, ◌+◌, ◌-◌, ◌/◌, ◌^◌, max, ℕ, Bool, true, List, length, filter, take, slice_get, Some, ℤ, pos, ◌≤ℤ◌, false}
+use Rattle.std.specs.Prelude.{◌≡◌, ◌≢◌, ◌↔◌, ◌<◌, ◌≤◌, ◌+◌, ◌-◌, ◌/◌, ◌^◌, max, ℕ, Bool, true, List, [], length, filter, take, drop, slice_get, Some, ℤ, pos, ◌≤ℤ◌, false}
+use Rattle.std.specs.List.{AllByRecursion}
 use Rattle.nbd_wire.specs.Grammar.{RequestMessage}
 use Rattle.nbd_commands.specs.Terms.{Terms}
 use Rattle.nbd_commands.specs.Verdict.{verdict_of}
 use Rattle.tag_clock.specs.declared.Phase.{Phase}
 use Rattle.tag_clock.specs.declared.Phase.TheVariants.{Reservation, Weight}
-use Rattle.tag_clock.specs.LimitTags.{limit_tags}
+use Rattle.tag_clock.specs.LimitTags.{Arrival, limit_tags}
 use Rattle.reply_box.specs.Sessions.{is_open_at}
 use Rattle.lone_export.specs.Alone.{opening, alone, answers_alone}
-use Rattle.lone_export.specs.LimitTags.{given_tags, accepted_moments}
+use Rattle.lone_export.specs.LimitTags.{given_tags, accepted_arrivals}
 use Rattle.server_table.specs.declared.event.Event.{Event}
 use Rattle.server_table.specs.declared.event.Event.TheVariants.{Arrive, Dispatch}
 use Rattle.server_table.specs.declared.event.Answer.{Answer}
@@ -17,7 +18,7 @@ use Rattle.server_table.specs.Table.{Row, Table, Setup, part, side, waits_in, ch
 use Rattle.server_table.specs.Steps.{step, outstanding_in, last_table}
 use Rattle.server_table.specs.Shares.{own, told, named, is_made}
 use Rattle.core_laws.specs.Runs.{Run, answers_in, table_in, own_steps, told_answers, last_part, HasExport}
-use Rattle.core_laws.specs.Counts.{choices, first_accepted}
+use Rattle.core_laws.specs.Counts.{choices, first_accepted, is_retune_of}
 use Rattle.core_laws.specs.Heads.{first_rows}
 use Rattle.core_laws.specs.Made.{made_events, made_marks}
 
@@ -57,24 +58,34 @@ module _ {A : Type 0} where
   EndsAsAlone setup events answers table = (e : ℕ) (terms : Terms) → slice_get setup.exports e ≡ Some terms →
       part e table ≡ alone terms (opening terms) (own e events answers)
 
-  -- an export's limit tags are those of the moments of its accepted arrivals
+  -- an export's accepted arrivals, each with the interval of the limit that was in force then
+  abbrev pub arrivals_of : ℕ → Terms → List (Event A) → List (Answer A) → List Arrival
+  arrivals_of e terms events answers = accepted_arrivals terms.rates.l_interval (own e events answers) (told e events answers)
+
+  -- its limit tags are those of these
   abbrev pub HasUnrolledTags : Setup → List (Event A) → List (Answer A) → Type 0
   HasUnrolledTags setup events answers = (e : ℕ) (terms : Terms) → slice_get setup.exports e ≡ Some terms →
-      given_tags (told e events answers) ≡ limit_tags terms.l_interval (accepted_moments (own e events answers) (told e events answers))
+      given_tags (told e events answers) ≡ limit_tags (arrivals_of e terms events answers)
 
-  -- of an export's requests none is chosen while the greatest moment of a dispatch is below its first accepted arrival
+  -- of an export's requests none is chosen by weight while the greatest moment of a dispatch is below its first accepted
+  -- arrival, and none by reservation where no retune named it
   abbrev pub ChoosesNoneBefore : Setup → List (Event A) → List (Answer A) → Type 0
   ChoosesNoneBefore setup events answers = (e : ℕ) (terms : Terms) (t b : ℕ) (phase : Phase) → slice_get setup.exports e ≡ Some terms →
+      (phase ≡ Reservation → filter (is_retune_of e) events ≡ []) →
       first_accepted e events answers ≡ Some t → b < t → choices e phase b 0 events answers ≡ 0
 
-  -- and later no more by weight than its limit allows, nor by reservation than its reservation gives
+  -- and later no more by weight than its limit allows: m is at most each interval of it that was in force at an accepted
+  -- arrival behind the first
   abbrev pub ChoosesByLimit : Setup → List (Event A) → List (Answer A) → Type 0
-  ChoosesByLimit setup events answers = (e : ℕ) (terms : Terms) (t b : ℕ) → slice_get setup.exports e ≡ Some terms →
-      first_accepted e events answers ≡ Some t → t ≤ b → 0 < terms.l_interval → choices e Weight b 0 events answers ≤ 1 + (b - t) / terms.l_interval
+  ChoosesByLimit setup events answers = (e : ℕ) (terms : Terms) (t b m : ℕ) → slice_get setup.exports e ≡ Some terms →
+      first_accepted e events answers ≡ Some t → t ≤ b → 0 < m → AllByRecursion (λ one. m ≤ one.interval) (drop 1 (arrivals_of e terms events answers)) →
+      choices e Weight b 0 events answers ≤ 1 + (b - t) / m
 
+  -- nor by reservation than its reservation gives, where no retune named it
   abbrev pub ChoosesByReservation : Setup → List (Event A) → List (Answer A) → Type 0
   ChoosesByReservation setup events answers = (e : ℕ) (terms : Terms) (t b interval : ℕ) → slice_get setup.exports e ≡ Some terms →
-      first_accepted e events answers ≡ Some t → t ≤ b → terms.r_interval ≡ Some interval → 0 < interval →
+      filter (is_retune_of e) events ≡ [] →
+      first_accepted e events answers ≡ Some t → t ≤ b → terms.rates.r_interval ≡ Some interval → 0 < interval →
       choices e Reservation b 0 events answers ≤ 1 + (b - t) / interval
 
   -- at place k of the run stand this event and its answer

@@ -2,11 +2,11 @@
 use Rattle.std.specs.Prelude.{◌≡◌, ℕ, zero, suc, true, false, ◌++◌, List, [], ◌∷◌, map, filter, replicate, Option, Some, None, ℤ, pos}
 use Rattle.nbd_wire.specs.Grammar.{RequestMessage}
 use Rattle.nbd_commands.specs.Terms.{Terms}
-use Rattle.tag_clock.specs.Intervals.{r_interval_of, l_interval_of, p_interval_of}
+use Rattle.tag_clock.specs.Intervals.{intervals_of}
 use Rattle.tag_clock.specs.declared.Phase.TheVariants.{Reservation, Weight}
 use Rattle.lone_export.specs.declared.step.StepAnswer.TheVariants as alone
 use Rattle.server_table.specs.declared.event.Event.{Event}
-use Rattle.server_table.specs.declared.event.Event.TheVariants.{Attach, Arrive, Dispatch, Perform, Take, Leave, Gone}
+use Rattle.server_table.specs.declared.event.Event.TheVariants.{Attach, Arrive, Dispatch, Perform, Take, Leave, Gone, Retune}
 use Rattle.server_table.specs.declared.event.Answer.{Answer}
 use Rattle.server_table.specs.declared.event.Answer.TheVariants as said
 use Rattle.server_table.specs.Table.{Setup, side, waits_in}
@@ -15,7 +15,7 @@ use Rattle.server_table.specs.Shares.{told}
 
 -- an export of 4 bytes by its reservation, limit and weight, which are requests a second, its depth and its window
 abbrev pub export_with : ℕ → ℕ → ℕ → ℕ → ℕ → Terms
-export_with r l w depth window = record { size = 4; read_only = false; depth = depth; window = window; r_interval = r_interval_of r; l_interval = l_interval_of l; p_interval = p_interval_of w }
+export_with r l w depth window = record { size = 4; read_only = false; depth = depth; window = window; rates = intervals_of r l w }
 
 -- by its rates alone
 abbrev pub export_of : ℕ → ℕ → ℕ → Terms
@@ -228,3 +228,39 @@ module _ (A : Type 0) where
 
   abbrev pub StepsAreCounted : Type 0
   StepsAreCounted = counted_in 0 (server_of (export_of 0 0 1 ∷ [])) gone_events ≡ 12
+
+  -- the rates change while no request waits. The last limit tag stays, and the next one is an interval of the new limit
+  -- above it
+  abbrev pub retune_events : List (Event A)
+  retune_events =
+      Attach 0 ∷ read_at 0 0 ∷ Retune 0 (intervals_of 0 4 1) ∷ Dispatch 0 ∷ Retune 0 (intervals_of 0 4 1) ∷ read_at 0 0 ∷ read_at 0 0
+      ∷ Dispatch 250000000 ∷ Dispatch 500000000 ∷ Retune 0 (intervals_of 0 0 1) ∷ read_at 0 0 ∷ []
+
+  abbrev pub RatesChangeWhileNoneWaits : Type 0
+  RatesChangeWhileNoneWaits =
+      answers_to (server_of (export_of 0 10 1 ∷ [])) retune_events
+      ≡ said.Session 0 ∷ said.Accepted 0 (pos 0) ∷ said.Waiting ∷ said.Picked 0 0 Weight ∷ said.Retuned ∷ said.Accepted 1 (pos 250000000) ∷ said.Accepted 2 (pos 500000000)
+      ∷ said.Picked 0 1 Weight ∷ said.Picked 0 2 Weight ∷ said.Retuned ∷ said.Accepted 3 (pos 500000000) ∷ []
+
+  abbrev pub RetunesAreCounted : Type 0
+  RetunesAreCounted = counted_in 0 (server_of (export_of 0 10 1 ∷ [])) retune_events ≡ 10
+
+  -- that there is no such export is told before that a request waits, and that before that memory is refused
+  abbrev pub RetuneIsRefusedInOrder : Type 0
+  RetuneIsRefusedInOrder =
+      run_answers {A = A} (server_of (export_of 0 10 1 ∷ []))
+      (Attach 0 ∷ Retune 1 (intervals_of 0 4 1) ∷ read_at 0 0 ∷ Retune 0 (intervals_of 0 4 1) ∷ Dispatch 0 ∷ Retune 0 (intervals_of 0 4 1) ∷ [])
+      (true ∷ false ∷ true ∷ false ∷ true ∷ false ∷ [])
+      ≡ said.Session 0 ∷ said.NoExport ∷ said.Accepted 0 (pos 0) ∷ said.Waiting ∷ said.Picked 0 0 Weight ∷ said.NoMemory ∷ []
+
+  -- the last R and P tags stay too, but for that of a reservation that goes
+  abbrev pub LastTagsStay : Type 0
+  LastTagsStay =
+      tags_in {A = A} 0 (server_of (export_of 4 0 1 ∷ [])) (Attach 0 ∷ read_at 0 0 ∷ Dispatch 0 ∷ Retune 0 (intervals_of 2 0 4) ∷ read_at 0 0 ∷ [])
+      ≡ (1, Some (pos 500000000), pos 0, pos 250000000) ∷ []
+
+  abbrev pub LastRGoesWithItsReservation : Type 0
+  LastRGoesWithItsReservation =
+      tags_in {A = A} 0 (server_of (export_of 4 0 1 ∷ []))
+      (Attach 0 ∷ read_at 0 0 ∷ Dispatch 0 ∷ Retune 0 (intervals_of 0 0 1) ∷ Retune 0 (intervals_of 4 0 1) ∷ read_at 0 0 ∷ [])
+      ≡ (1, Some (pos 0), pos 0, pos 1000000000) ∷ []

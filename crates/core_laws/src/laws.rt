@@ -58,7 +58,8 @@ pub fn reservations_first<A: Allocator>()
 {}
 
 /// An export's limit tags follow from the moments of its own accepted arrivals: that of the k-th is the greatest, over the
-/// arrivals j up to it, of its moment and k - j intervals. So it is alone, and so it is in every run.
+/// arrivals j up to it, of the moment of j and the intervals of the limit in force at the arrivals behind j, up to the k-th.
+/// So it is alone, and so it is in every run.
 pub fn limit_tags_unrolled<A: Allocator>()
     ensures alone { (terms : Terms) (steps : List (Step A)) → GivesUnrolledTags terms steps }
     ensures run { (run : Run A) → HasUnrolledTags run.setup run.events (answers_in run) }

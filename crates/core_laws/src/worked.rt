@@ -1,5 +1,5 @@
 //! Runs that were worked out by hand.
-ghost use Rattle.core_laws.specs.Worked.{GreaterWeightGoesSooner, LimitHoldsBack, TagsComeFromTheArrival, MomentsComeInAnyOrder, WeightIsCredited, CreditMovesTheLastTag, CreditMovesTheWaiting, ShiftMovesTheWaiting, ShiftLeavesTheNewcomer, EqualsGoByExport, IdleExportKeepsItsLastP, ReservationGoesFirst, DepthRefuses, DepthCountsItsOwn, InflightHoldsBack, WindowHolds, SixtyFourAreFull, RefusalsComeInOrder, LeftSessionGetsItsReplies, WantOfMemoryIsTold, GoneIsStillServed, StepsAreCounted};
+ghost use Rattle.core_laws.specs.Worked.{GreaterWeightGoesSooner, LimitHoldsBack, TagsComeFromTheArrival, MomentsComeInAnyOrder, WeightIsCredited, CreditMovesTheLastTag, CreditMovesTheWaiting, ShiftMovesTheWaiting, ShiftLeavesTheNewcomer, EqualsGoByExport, IdleExportKeepsItsLastP, ReservationGoesFirst, DepthRefuses, DepthCountsItsOwn, InflightHoldsBack, WindowHolds, SixtyFourAreFull, RefusalsComeInOrder, LeftSessionGetsItsReplies, WantOfMemoryIsTold, GoneIsStillServed, StepsAreCounted, RatesChangeWhileNoneWaits, RetunesAreCounted, RetuneIsRefusedInOrder, LastTagsStay, LastRGoesWithItsReservation};
 ghost use Rattle.core_laws.specs.WorkedShares.{TwiceTheWeightIsServed, TwiceTheWeightIsReached, BothTagsAreInTheSameTerms, BoundBetweenIsReached, RatioBetweenIsReached, ChoicesAreInTheSameTerms, FMustWait, FMustBeDue, EMustWait, EMustHaveAnInterval, EMustNotBeBehind, FMustArriveInTime};
 
 use std::alloc::Allocator;
@@ -28,6 +28,11 @@ pub fn worked_runs<A: Allocator>()
     ensures sessions { SixtyFourAreFull A }
     ensures gone { GoneIsStillServed A }
     ensures steps { StepsAreCounted A }
+    ensures retune { RatesChangeWhileNoneWaits A }
+    ensures retunes { RetunesAreCounted A }
+    ensures retune_order { RetuneIsRefusedInOrder A }
+    ensures last_tags { LastTagsStay A }
+    ensures last_r { LastRGoesWithItsReservation A }
 {}
 
 /// What the law of shares comes to in runs that were worked out by hand, and what fails without each of its premises.

@@ -10,7 +10,7 @@ use Rattle.lone_export.specs.Alone.{Alone, Moved, own_step, outstanding}
 use Rattle.lone_export.specs.Calls.{is_counted}
 use Rattle.lone_export.specs.Lone.{Whole, Does}
 use Rattle.lone_export.specs.declared.step.Step.{Step}
-use Rattle.lone_export.specs.declared.step.Step.TheVariants.{Attach, Arrive, Pick, Perform, Take, Leave, Gone}
+use Rattle.lone_export.specs.declared.step.Step.TheVariants.{Attach, Arrive, Pick, Perform, Take, Leave, Gone, Retune}
 use Rattle.lone_export.specs.declared.step.StepAnswer.{StepAnswer}
 use Rattle.lone_export.proofs.Cases.{if_both}
 use Rattle.export_cell.specs.Journal.{KeptStep, kept_step, kept_log, noted}
@@ -62,6 +62,9 @@ module _ (A : Type 0) where
       (if_both Alike (is_left_at state.sessions s && outstanding state s == 0) _ refl (record { state = refl; counted = refl }) (record { state = refl; counted = refl })))
   alike terms state (Leave s) = if_both Alike (not (is_open_at state.sessions s)) _ refl (record { state = refl; counted = refl }) (record { state = refl; counted = refl })
   alike terms state (Gone s) = if_both Alike (not (is_here_at state.sessions s)) _ refl (record { state = refl; counted = refl }) (record { state = refl; counted = refl })
+  alike terms state (Retune rates) =
+      if_both Alike (nat_le (2 ^ 56) state.count) _ refl (record { state = refl; counted = refl })
+      (if_both Alike (not (length state.waiting == 0)) _ refl (record { state = refl; counted = refl }) (record { state = refl; counted = refl }))
 
 -- an export makes this step, which is counted or not
 pub record Makes (old new : Whole) (one : KeptStep) (counted : Bool) : Type 0 where

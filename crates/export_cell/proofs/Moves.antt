@@ -1,5 +1,5 @@
 -- What a cell's calls answer, and how its journal moves.
-use Rattle.std.proofs.Common.{◌≡◌, ℕ, ◌^◌, ◌==◌, nat_le, Bool, true, false, not, length, Option, Some, None, Result, Ok, Err, refl, sym, ap, ◌∙◌}
+use Rattle.std.proofs.Common.{◌≡◌, ℕ, ◌^◌, ◌==◌, nat_le, Bool, true, false, not, length, Option, Some, None, Result, Ok, Err, refl, sym, subst, ap, ◌∙◌}
 use Rattle.std.specs.Prelude.{is_ok}
 use Rattle.nbd_commands.specs.Terms.{Terms}
 use Rattle.nbd_commands.specs.Verdict.{verdict_of}
@@ -7,13 +7,16 @@ use Rattle.nbd_wire.specs.Grammar.{RequestMessage}
 use Rattle.reply_box.specs.Sessions.{is_open_at}
 use Rattle.lone_export.specs.Alone.{Moved, own_step, outstanding}
 use Rattle.lone_export.specs.Calls.{is_counted}
-use Rattle.lone_export.specs.Lone.{Whole, Does, MayArrive, arrived_said, refusal_said}
+use Rattle.tag_clock.specs.Intervals.{Intervals}
+use Rattle.lone_export.specs.Lone.{Whole, Does, MayArrive, MayRetune, arrived_said, refusal_said, retune_said}
 use Rattle.lone_export.specs.declared.step.Step.{Step}
-use Rattle.lone_export.specs.declared.step.Step.TheVariants.{Arrive}
+use Rattle.lone_export.specs.declared.step.Step.TheVariants.{Arrive, Retune}
 use Rattle.lone_export.specs.declared.step.StepAnswer.{StepAnswer}
 use Rattle.lone_export.specs.declared.refusal.ArriveRefusal.{ArriveRefusal}
 use Rattle.lone_export.specs.declared.refusal.ArriveRefusal.TheVariants as arriving
 use Rattle.lone_export.specs.declared.refusal.NotArrived.{NotArrived}
+use Rattle.lone_export.specs.declared.refusal.RetuneRefusal.{RetuneRefusal}
+use Rattle.lone_export.specs.declared.refusal.RetuneRefusal.TheVariants as retuning
 use Rattle.lone_export.specs.declared.refusal.Arrived.{Arrived}
 use Rattle.lone_export.specs.declared.refusal.Arrived.TheVariants as arrival
 use Rattle.lone_export.proofs.Cases.{if_told, if_one, true_false}
@@ -55,6 +58,12 @@ arrive-uncounted A w s t q not_so =
     is_so true h = refl
     is_so false h = absurd (cc)
 
+retune-counted : (A : Type 0) (w : Whole) (rates : Intervals) → MayRetune w (Ok tt) → is_counted (own_step {A = A} w.terms w.state (Retune rates)).answer ≡ true
+retune-counted A w rates may =
+    let P = λ (m : Moved A). is_counted m.answer ≡ true in
+    if_told P (nat_le (2 ^ 56) w.state.count) (λ h. true_false (sym h ∙ may.0))
+    (λ _. if_told P (not (length w.state.waiting == 0)) (λ h. true_false (sym h ∙ is_not _ may.1)) (λ _. refl))
+
 module _ {A : Type 0} where
   -- a step that is counted isn't refused
   pub never : (live new : Whole) (one : Step A) (answer : StepAnswer A) → is_counted (own_step live.terms live.state one).answer ≡ true → Does live new one answer → is_counted answer ≡ false → {P : Type 0} → P
@@ -87,3 +96,14 @@ pub arrival-made : (A : Type 0) (terms : Terms) (old mid new : Journal) (kept : 
     → new ≡ noted_as {A = A} (arrived_said (Ok a)) (Arrive s t q) mid → JournalMove {A = A} terms (Arrive s t q) (Some (arrived_said (Ok a))) old new
 arrival-made A terms old mid new kept s t q (arrival.Accepted n tag) same room is = is ∙ ap (noted (Arrive s t q)) (room ∙ ap (λ (k : RequestMessage). reserved terms (Some k) old) same)
 arrival-made A terms old mid new kept s t q (arrival.Answered error) same room is = is ∙ ap (noted (Arrive s t q)) (room ∙ ap (λ (k : RequestMessage). reserved terms (Some k) old) same)
+
+-- a retune that may be made isn't refused
+pub retune_made : (A : Type 0) (live mid new : Whole) (rates : Intervals) (e : RetuneRefusal) → mid ≡ live → MayRetune live (Ok tt) → Does {A = A} mid new (Retune rates) (retune_said (Err e)) → ⊥
+retune_made A live mid new rates e same may does = by e does
+  where
+    counted : is_counted (own_step {A = A} mid.terms mid.state (Retune rates)).answer ≡ true
+    counted = retune-counted A mid rates (subst (λ (w : Whole). MayRetune w (Ok tt)) (sym same) may)
+
+    by : (e : RetuneRefusal) → Does {A = A} mid new (Retune rates) (retune_said (Err e)) → ⊥
+    by retuning.Worn d = never mid new (Retune rates) (retune_said (Err retuning.Worn)) counted d refl
+    by retuning.Waiting d = never mid new (Retune rates) (retune_said (Err retuning.Waiting)) counted d refl

@@ -4,14 +4,16 @@ use Rattle.nbd_wire.specs.Grammar.{RequestMessage}
 use Rattle.nbd_commands.specs.Terms.{Terms}
 use Rattle.lone_export.specs.Alone.{Alone, own_step, alone, opening}
 use Rattle.lone_export.specs.Calls.{is_counted, to_come}
-use Rattle.lone_export.specs.Lone.{Whole, MayArrive, opening_of, refusal_said, arrived_said as arrived_said_alone}
+use Rattle.lone_export.specs.Lone.{Whole, MayArrive, opening_of, refusal_said, retune_said, arrived_said as arrived_said_alone}
 use Rattle.lone_export.specs.declared.refusal.Arrived.{Arrived}
 use Rattle.lone_export.specs.declared.step.Step.{Step}
-use Rattle.lone_export.specs.declared.step.Step.TheVariants.{Attach, Arrive, Pick, Perform, Take, Leave, Gone}
+use Rattle.lone_export.specs.declared.step.Step.TheVariants.{Attach, Arrive, Pick, Perform, Take, Leave, Gone, Retune}
 use Rattle.lone_export.specs.declared.step.StepAnswer.{StepAnswer}
 use Rattle.export_cell.specs.declared.refusal.ArriveFault.{ArriveFault}
 use Rattle.export_cell.specs.declared.refusal.ArriveFault.TheVariants.{Refused, NoMemory}
 use Rattle.export_cell.specs.declared.refusal.NotArrived.{NotArrived}
+use Rattle.export_cell.specs.declared.refusal.NotRetuned.{NotRetuned}
+use Rattle.export_cell.specs.declared.refusal.NotRetuned.TheVariants as retuning
 
 -- a step as it is kept: the allocator of its payload is nothing to it
 abbrev pub KeptStep : Type 0
@@ -25,6 +27,7 @@ kept_step (Perform n memory) = Perform n memory
 kept_step (Take s) = Take s
 kept_step (Leave s) = Leave s
 kept_step (Gone s) = Gone s
+kept_step (Retune rates) = Retune rates
 
 abbrev pub kept_log : {A : Type 0} → List (Step A) → List KeptStep
 kept_log steps = map kept_step steps
@@ -75,6 +78,7 @@ payload_of (Perform n memory) = 0
 payload_of (Take s) = 0
 payload_of (Leave s) = 0
 payload_of (Gone s) = 0
+payload_of (Retune rates) = 0
 
 abbrev pub payload_in : List KeptStep → ℕ
 payload_in [] = 0
@@ -93,7 +97,7 @@ abbrev pub surplus : ℕ → List KeptStep → ℕ
 surplus bytes [] = 0
 surplus bytes (step ∷ log) = if fits bytes (step ∷ log) then 0 else surplus bytes log + 1
 
--- the same before a step: an attach and an arrival want room, other steps have theirs
+-- the same before a step: an attach, an arrival and a retune want room, other steps have theirs
 abbrev pub surplus_before : KeptStep → List KeptStep → ℕ
 surplus_before Attach log = surplus 0 log
 surplus_before (Arrive s t q) log = surplus (length q.payload) log
@@ -102,6 +106,7 @@ surplus_before (Perform n memory) log = 0
 surplus_before (Take s) log = 0
 surplus_before (Leave s) log = 0
 surplus_before (Gone s) log = 0
+surplus_before (Retune rates) log = surplus 0 log
 
 -- ---- how it moves
 
@@ -155,6 +160,12 @@ fault_said NoMemory = None
 abbrev pub arrived_said : {A : Type 0} → Result Arrived (NotArrived A) → Option (StepAnswer A)
 arrived_said (Ok arrived) = Some (arrived_said_alone (Ok arrived))
 arrived_said (Err e) = fault_said e.fault
+
+-- and a retune
+abbrev pub retuned_said : {A : Type 0} → Result (Unit {0}) NotRetuned → Option (StepAnswer A)
+retuned_said (Ok done) = Some (retune_said (Ok done))
+retuned_said (Err (retuning.Refused refusal)) = Some (retune_said (Err refusal))
+retuned_said (Err retuning.NoMemory) = None
 
 -- ---- as it is kept
 abbrev pub cell_of : Whole → Whole → List KeptStep → ℕ → Cell

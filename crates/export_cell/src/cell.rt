@@ -2,22 +2,22 @@
 ghost use Rattle.std.specs.Prelude.{◌≡◌, ◌≢◌, ◌<◌, ◌≤◌, length, Ok, IsErrOf, IfOk, IfErr, IfSome, IfNone, OnSome, OnErr, Some, is_ok, is_some};
 ghost use Rattle.nbd_commands.specs.Terms.{terms_of};
 ghost use Rattle.nbd_commands.specs.Exports.{IsWithin};
-ghost use Rattle.lone_export.specs.Lone.{Does, DoesOr, pick_said, leave_said, gone_said, take_said, attach_said, slots_picked, slots_without, slot_at, arrived_said as arrived_said_alone, MayAttach, MayArrive};
+ghost use Rattle.lone_export.specs.Lone.{Does, DoesOr, pick_said, leave_said, gone_said, take_said, attach_said, slots_picked, slots_without, slot_at, arrived_said as arrived_said_alone, MayAttach, MayArrive, MayRetune};
 ghost use Rattle.lone_export.specs.declared.step.StepAnswer.TheVariants.{Performed};
-ghost use Rattle.export_cell.specs.Journal.{IsJournal, JournalMove, IsAdvanced, IsReserved, IsWithinBytes, reserved, surplus, noted_as, kept_log, opening_cell, arrived_said};
+ghost use Rattle.export_cell.specs.Journal.{IsJournal, JournalMove, IsAdvanced, IsReserved, IsWithinBytes, reserved, surplus, noted_as, kept_log, opening_cell, arrived_said, retuned_said};
 ghost use Rattle.export_cell.specs.declared.refusal.ArriveFault.{ArriveFault};
 
 mod trimming;
 
 use crate::base::Base;
 use crate::outdated::Outdated;
-use crate::refusal::{ArriveFault, NotArrived};
+use crate::refusal::{ArriveFault, NotArrived, NotRetuned};
 use crate::work::{ALLOWANCE, allowance_of};
 use export_queue::Picked;
 use export_store::Image;
 use lone_export::{Arrived, Lone, NotArrived as NotArrivedAlone, NotAttached, Step};
 use nbd_base::NoMemory;
-use nbd_commands::ExportConfig;
+use nbd_commands::{ExportConfig, Rates};
 use nbd_wire::Request;
 use reply_box::{NotOpen, Taken};
 use std::collections::VecDeque;
@@ -144,6 +144,26 @@ impl<I: Image> ExportCell<I> {
             }
             Err(refused) => Err(refused),
         }
+    }
+
+    /// The rates are others from now on. The oldest steps of the log go into the base, as many as have to.
+    pub fn retune(&mut self, rates: Rates) -> Result<(), NotRetuned>
+        ensures step { DoesOr {A = I.Alloc} self.old.live self.new.live (Step.Retune rates) (retuned_said result) }
+        ensures journal { JournalMove {A = I.Alloc} self.old.live.terms (Step.Retune rates) (retuned_said result) self.old.journal self.new.journal }
+        ensures no_memory { IsErrOf result NotRetuned.NoMemory → MayRetune self.old.live (Ok tt) }
+        ensures slots { self.new.live.slots ≡ self.old.live.slots }
+    {
+        if let Err(refusal) = self.live.may_retune() {
+            return Err(NotRetuned::Refused(refusal));
+        }
+        let Ok(()) = self.make_room(0, ALLOWANCE) else {
+            return Err(NotRetuned::NoMemory);
+        };
+        let Ok(()) = self.live.retune(rates) else {
+            unreachable!();
+        };
+        self.log.push_back_reserved(Step::Retune { rates });
+        Ok(())
     }
 
     /// A request of a session arrives at a moment: what `reserve` and `enter` do. One that is refused, or for which no

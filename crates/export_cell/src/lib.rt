@@ -12,5 +12,5 @@ mod work;
 pub use base::Base;
 pub use cell::ExportCell;
 pub use outdated::Outdated;
-pub use refusal::{ArriveFault, NotArrived};
+pub use refusal::{ArriveFault, NotArrived, NotRetuned};
 pub use work::{allowance_of, work_of};

@@ -1,6 +1,6 @@
-//! Why a request doesn't arrive.
+//! Why a request doesn't arrive, and why rates stay.
 
-use lone_export::ArriveRefusal;
+use lone_export::{ArriveRefusal, RetuneRefusal};
 use nbd_wire::Request;
 use std::alloc::Allocator;
 use thiserror::Error;
@@ -12,6 +12,17 @@ pub enum ArriveFault {
     #[error("{0}")]
     Refused(ArriveRefusal),
     /// No memory was there for its place in the log, or for the steps that it can bring.
+    #[error("no memory")]
+    NoMemory,
+}
+
+/// Why an export keeps its rates.
+#[derive(Clone, Copy, Debug, PartialEq, Eq, Error)]
+pub enum NotRetuned {
+    /// The export refuses others.
+    #[error("{0}")]
+    Refused(RetuneRefusal),
+    /// No memory was there for the place in the log.
     #[error("no memory")]
     NoMemory,
 }

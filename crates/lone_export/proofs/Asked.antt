@@ -40,15 +40,15 @@ pub if_no : {B : Type 0} (c : Bool) (x y : B) → c ≡ false → (if c then x e
 if_no true x y e = absurd (cc)
 if_no false x y e = refl
 
-pub bounded-asked : (terms : Terms) (old new : Alone) (asked : ℕ) → IsBounded terms old asked → nat_le (2 ^ 56) old.count ≡ false → new.count ≡ old.count + 1 → to_come new ≤ to_come old + 3
-    → new.next ≤ old.next + 1 → IsTag new.next new.last → length new.sessions ≤ length old.sessions + 1 → IsBounded terms new (asked + 1)
-bounded-asked terms old new asked is fresh more less next tag seats = record {
+pub bounded-asked : (old new : Alone) (asked : ℕ) → IsBounded old asked → nat_le (2 ^ 56) old.count ≡ false → new.count ≡ old.count + 1 → to_come new ≤ to_come old + 3
+    → new.next ≤ old.next + 1 → IsTag new.next new.last → new.rates.l_interval < 2 ^ 30 → length new.sessions ≤ length old.sessions + 1 → IsBounded new (asked + 1)
+bounded-asked old new asked is fresh more less next tag short seats = record {
   budget = let a = is.budget in omega arith;
   asked_counted = let a = is.asked_counted in omega arith;
   asked_few = let a = is.asked_counted in let b = leb-false (2 ^ 56) old.count fresh in omega arith;
   numbered = let a = is.numbered in omega arith;
   seated = let a = is.seated in omega arith;
-  interval = is.interval;
+  interval = short;
   tag = tag;
 }
 
@@ -115,7 +115,8 @@ module _ {A : Type 0} where
         sized = is.sized;
         numbered = is.numbered;
         owed = owed-append _ p.sessions.sessions p.sessions.owed is.owed;
-        bounded = bounded-asked (terms_at p) (state_at p) _ p.asked is.bounded fresh refl (let a = worth-attach p.sessions.sessions in omega arith) (omega arith) is.bounded.tag (let a = length-append p.sessions.sessions (new_session ∷ []) in omega arith);
+        ticks = is.ticks;
+        bounded = bounded-asked (state_at p) _ p.asked is.bounded fresh refl (let a = worth-attach p.sessions.sessions in omega arith) (omega arith) is.bounded.tag is.bounded.interval (let a = length-append p.sessions.sessions (new_session ∷ []) in omega arith);
         depth = is.depth;
         window = is.window;
         inflight = is.inflight;
@@ -155,7 +156,8 @@ module _ {A : Type 0} where
               sized = is.sized;
               numbered = is.numbered;
               owed = owed-session (posted reply) s _ p.sessions.sessions p.sessions.owed is.owed (λ x f k. posted_here reply x k);
-              bounded = bounded-asked (terms_at p) (state_at p) _ p.asked is.bounded fresh refl (let a = worth-post reply s p.sessions.sessions in omega arith) (omega arith) is.bounded.tag (let a = length-change_at (posted reply) s p.sessions.sessions in omega arith);
+              ticks = is.ticks;
+              bounded = bounded-asked (state_at p) _ p.asked is.bounded fresh refl (let a = worth-post reply s p.sessions.sessions in omega arith) (omega arith) is.bounded.tag is.bounded.interval (let a = length-change_at (posted reply) s p.sessions.sessions in omega arith);
               depth = is.depth;
               window = is.window;
               inflight = is.inflight;
@@ -186,7 +188,8 @@ module _ {A : Type 0} where
             (λ x n f o k. let a = o k in let d = jobs_of-append (jobs (state_at p)) (job ∷ []) s in let e = (one_job job s).0 refl in omega arith)
             (λ f z. absurd (not_there f))
             (λ n d. let a = jobs_of-append (jobs (state_at p)) (job ∷ []) n in let e = (one_job job n).1 d in omega arith)));
-        bounded = bounded-asked (terms_at p) (state_at p) _ p.asked is.bounded fresh refl (omega arith) (omega arith) (tag-later p.clock.interval p.queue.next t p.clock.last is.bounded.interval early is.bounded.tag) (omega arith);
+        ticks = is.ticks;
+        bounded = bounded-asked (state_at p) _ p.asked is.bounded fresh refl (omega arith) (omega arith) (tag-later p.clock.interval p.queue.next t p.clock.last (subst (λ (n : ℕ). n < 2 ^ 30) (sym is.ticks) is.bounded.interval) early is.bounded.tag) is.bounded.interval (omega arith);
         depth = is.depth;
         window = is.window;
         inflight = is.inflight;
@@ -245,7 +248,7 @@ module _ {A : Type 0} where
   -- a request that isn't refused before it is looked at
   looked_at : (terms : Terms) (state : Alone) (s t : ℕ) (q : RequestMessage) → (is_open_at state.sessions s ≡ true) × (nat_le (2 ^ 56) state.count ≡ false) × ((outstanding state s == terms.window) ≡ false)
       → own_step {A = A} terms state (step.Arrive s t q)
-      ≡ (if not (verdict_of terms q == 0) then refused state s q (verdict_of terms q) else (if length state.waiting == terms.depth then refused state s q 5 else accepted terms state s t q))
+      ≡ (if not (verdict_of terms q == 0) then refused state s q (verdict_of terms q) else (if length state.waiting == terms.depth then refused state s q 5 else accepted state s t q))
   looked_at terms state s t q may = if_not (is_open_at state.sessions s) _ _ may.0 ∙ if_no (nat_le (2 ^ 56) state.count) _ _ may.1 ∙ if_no (outstanding state s == terms.window) _ _ may.2
 
   -- the verdict is an error
@@ -301,6 +304,7 @@ module _ {A : Type 0} where
       let good : (verdict_of (terms_at p) r == 0) ≡ true = eq-eqb (verdict_of (terms_at p) r) 0 served in
       let long = length-map p.queue.waiting job_of in
       let few : (length (map job_of p.queue.waiting) == p.queue.depth) ≡ false = ne_eqb (length (map job_of p.queue.waiting)) p.queue.depth (λ z. absurd (omega arith)) in
+      let ticked : later p.clock.last p.rates.l_interval t ≡ limit_tag p.clock t = ap (λ (n : ℕ). later p.clock.last n t) (sym is.ticks) in
       subst (λ (v : Whole). Does {A = A} v (whole_of (record p { queue = q; clock = clock; sessions = b; count = p.count + 1; asked = p.asked + 1 })) (step.Arrive s t r) (said.Accepted n tag)) e
       (subst (λ (x : Queue (Row A)). Does {A = A} (whole_of p) (whole_of (record p { queue = x; clock = clock; sessions = b; count = p.count + 1; asked = p.asked + 1 })) (step.Arrive s t r) (said.Accepted n tag)) (sym pushes)
       (subst (λ (x : Limit). Does {A = A} (whole_of p) (whole_of (record p { queue = after_push p.queue (record { session = s; request = r }); clock = x; sessions = b; count = p.count + 1; asked = p.asked + 1 })) (step.Arrive s t r) (said.Accepted n tag)) (sym ticks)
@@ -311,10 +315,10 @@ module _ {A : Type 0} where
               state = record (state_at p) {
                 waiting = sym (map-append job_of p.queue.waiting ((p.queue.next, record { session = s; request = r }) ∷ [])) i;
                 next = p.queue.next + 1;
-                last = Some (limit_tag p.clock t);
+                last = Some (ticked i);
                 count = p.count + 1;
               };
-              answer = said.Accepted (sym number i) (sym tagged i);
+              answer = said.Accepted (sym number i) ((ticked ∙ sym tagged) i);
             });
         terms = refl;
         inflight = refl;

@@ -221,7 +221,8 @@ module _ {A : Type 0} where
             (λ x k f o here. let a = o (posted_here reply x here) in let d = less row.session in let c = one_same row.session in omega arith)
             (λ f z. let d = less row.session in omega arith)
             (λ k d. let a = less k in let c = one_other row.session k (λ e. d (sym e)) in omega arith));
-        bounded = bounded-step (terms_at p) (state_at p) _ p.asked is.bounded refl (omega arith) refl refl (length-change_at (posted reply) row.session p.sessions.sessions);
+        ticks = is.ticks;
+        bounded = bounded-step (state_at p) _ p.asked is.bounded refl (omega arith) refl refl is.bounded.interval (length-change_at (posted reply) row.session p.sessions.sessions);
         depth = is.depth;
         window = is.window;
         inflight = is.inflight;

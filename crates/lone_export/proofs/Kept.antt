@@ -67,15 +67,15 @@ open_here ss s x e is = by x.state (sym (ap (λ o. when_some o (λ (y : Session)
 
 -- ---- numbers in range
 
-pub bounded-step : (terms : Terms) (old new : Alone) (asked : ℕ) → IsBounded terms old asked → new.count ≡ old.count + 1 → to_come new + 1 ≤ to_come old
-    → new.next ≡ old.next → new.last ≡ old.last → length new.sessions ≡ length old.sessions → IsBounded terms new asked
-bounded-step terms old new asked is more less next last seats = record {
+pub bounded-step : (old new : Alone) (asked : ℕ) → IsBounded old asked → new.count ≡ old.count + 1 → to_come new + 1 ≤ to_come old
+    → new.next ≡ old.next → new.last ≡ old.last → new.rates.l_interval < 2 ^ 30 → length new.sessions ≡ length old.sessions → IsBounded new asked
+bounded-step old new asked is more less next last short seats = record {
   budget = let a = is.budget in omega arith;
   asked_counted = let a = is.asked_counted in omega arith;
   asked_few = is.asked_few;
   numbered = let a = is.numbered in omega arith;
   seated = let a = is.seated in omega arith;
-  interval = is.interval;
+  interval = short;
   tag = subst (λ n. IsTag n new.last) (sym next) (subst (IsTag old.next) (sym last) is.tag);
 }
 
@@ -113,7 +113,8 @@ module _ {A : Type 0} where
     sized = is.sized;
     numbered = is.numbered;
     owed = owes;
-    bounded = bounded-step (terms_at p) (state_at p) _ p.asked is.bounded refl (omega arith) refl refl long;
+    ticks = is.ticks;
+    bounded = bounded-step (state_at p) _ p.asked is.bounded refl (omega arith) refl refl is.bounded.interval long;
     depth = is.depth;
     window = is.window;
     inflight = is.inflight;
@@ -169,7 +170,8 @@ module _ {A : Type 0} where
               sized = is.sized;
               numbered = subst (AreJobs (terms_at p) p.queue.next) (sym same) is.numbered;
               owed = subst (λ (js : List Job). AreOwed (jobs_of js) p.sessions.sessions p.sessions.owed) (sym same) is.owed;
-              bounded = bounded-step (terms_at p) (state_at p) _ p.asked is.bounded refl (omega arith) refl refl refl;
+              ticks = is.ticks;
+              bounded = bounded-step (state_at p) _ p.asked is.bounded refl (omega arith) refl refl is.bounded.interval refl;
               depth = is.depth;
               window = is.window;
               inflight = is.inflight;

@@ -4,6 +4,7 @@ pub mod Entries
 pub mod Kept
 pub mod Asked
 pub mod Done
+pub mod Retunes
 pub mod Opening
 pub mod Again
 pub mod Skip

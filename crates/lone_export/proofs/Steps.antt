@@ -11,7 +11,7 @@ use Rattle.reply_box.specs.Sessions.{Session, is_here, is_here_state, is_open_st
 use Rattle.lone_export.specs.Alone.{Alone, Job, own_step, outstanding, stays, moves}
 use Rattle.lone_export.specs.Calls.{is_counted, brought, to_come, IsOneStep}
 use Rattle.lone_export.specs.declared.step.Step.{Step}
-use Rattle.lone_export.specs.declared.step.Step.TheVariants.{Attach, Arrive, Pick, Perform, Take, Leave, Gone}
+use Rattle.lone_export.specs.declared.step.Step.TheVariants.{Attach, Arrive, Pick, Perform, Take, Leave, Gone, Retune}
 use Rattle.lone_export.specs.declared.step.StepAnswer.{StepAnswer}
 use Rattle.lone_export.proofs.Cases.{true_false, if_told, if_one, some_one}
 
@@ -140,3 +140,8 @@ module _ {A : Type 0} where
       is_so : (b : Bool) → not b ≡ false → b ≡ true
       is_so true h = refl
       is_so false h = absurd (cc)
+  steps terms old (Retune rates) =
+      let P = IsOneStep 1 old in
+      if_one P (nat_le (2 ^ 56) old.count) (still 1 old _ refl)
+      (if_one P (not (length old.waiting == 0)) (still 1 old _ refl)
+      (moved 1 old _ _ refl refl (omega arith)))

@@ -4,7 +4,7 @@ use Rattle.nbd_commands.specs.Terms.{Terms}
 use Rattle.reply_box.specs.Sessions.{sessions_worth}
 use Rattle.lone_export.specs.Alone.{Alone, Moved, own_step}
 use Rattle.lone_export.specs.declared.step.Step.{Step}
-use Rattle.lone_export.specs.declared.step.Step.TheVariants.{Attach, Arrive, Pick, Perform, Take, Leave, Gone}
+use Rattle.lone_export.specs.declared.step.Step.TheVariants.{Attach, Arrive, Pick, Perform, Take, Leave, Gone, Retune}
 use Rattle.lone_export.specs.declared.step.StepAnswer.{StepAnswer}
 use Rattle.lone_export.specs.declared.step.StepAnswer.TheVariants as said
 
@@ -31,6 +31,8 @@ module _ {A : Type 0} where
   is_counted said.Full = false
   is_counted said.Hold = false
   is_counted said.NotOut = false
+  is_counted said.Retuned = true
+  is_counted said.Waiting = false
 
   -- the most steps that a step can bring, itself among them
   abbrev pub brought : Step A → ℕ
@@ -41,6 +43,7 @@ module _ {A : Type 0} where
   brought (Take s) = 0
   brought (Leave s) = 0
   brought (Gone s) = 0
+  brought (Retune rates) = 1
 
   -- a step that is counted adds one to the count and uses up one of the steps that were to come, or of the n that it
   -- brings; any other leaves the state

@@ -14,7 +14,7 @@ use Rattle.export_queue.specs.declared.Picked.{Picked}
 use Rattle.lone_export.specs.Alone.{Alone, Job, own_step, alone, answers_alone, outstanding, opening}
 use Rattle.lone_export.specs.Calls.{to_come}
 use Rattle.lone_export.specs.declared.step.Step.{Step}
-use Rattle.lone_export.specs.declared.step.Step.TheVariants.{Attach, Arrive, Pick, Perform, Take, Leave, Gone}
+use Rattle.lone_export.specs.declared.step.Step.TheVariants.{Attach, Arrive, Pick, Perform, Take, Leave, Gone, Retune}
 use Rattle.lone_export.specs.declared.step.StepAnswer.{StepAnswer}
 use Rattle.lone_export.specs.declared.step.StepAnswer.TheVariants as said
 use Rattle.lone_export.specs.declared.refusal.AttachRefusal.{AttachRefusal}
@@ -24,6 +24,8 @@ use Rattle.lone_export.specs.declared.refusal.NotAttached.TheVariants.{Refused, 
 use Rattle.lone_export.specs.declared.refusal.ArriveRefusal.{ArriveRefusal}
 use Rattle.lone_export.specs.declared.refusal.ArriveRefusal.TheVariants as arriving
 use Rattle.lone_export.specs.declared.refusal.NotArrived.{NotArrived}
+use Rattle.lone_export.specs.declared.refusal.RetuneRefusal.{RetuneRefusal}
+use Rattle.lone_export.specs.declared.refusal.RetuneRefusal.TheVariants as retuning
 use Rattle.lone_export.specs.declared.refusal.Arrived.{Arrived}
 use Rattle.lone_export.specs.declared.refusal.Arrived.TheVariants as arrival
 
@@ -82,6 +84,12 @@ MayArrive w s (Ok done) = (is_open_at w.state.sessions s ≡ true) × (nat_le (2
 MayArrive w s (Err arriving.NotOpen) = is_open_at w.state.sessions s ≡ false
 MayArrive w s (Err arriving.Worn) = (is_open_at w.state.sessions s ≡ true) × (nat_le (2 ^ 56) w.state.count ≡ true)
 MayArrive w s (Err arriving.Hold) = (is_open_at w.state.sessions s ≡ true) × (nat_le (2 ^ 56) w.state.count ≡ false) × ((outstanding w.state s == w.terms.window) ≡ true)
+
+-- what is so where the rates may be others, or stay
+abbrev pub MayRetune : Whole → Result (Unit {0}) RetuneRefusal → Type 0
+MayRetune w (Ok done) = (nat_le (2 ^ 56) w.state.count ≡ false) × ((length w.state.waiting == 0) ≡ true)
+MayRetune w (Err retuning.Worn) = nat_le (2 ^ 56) w.state.count ≡ true
+MayRetune w (Err retuning.Waiting) = (nat_le (2 ^ 56) w.state.count ≡ false) × ((length w.state.waiting == 0) ≡ false)
 
 -- whether a request that is performed by this mark has memory: one that wants none has
 abbrev pub mark_again : Bool → RequestMessage → Bool
@@ -146,6 +154,7 @@ module _ {A : Type 0} where
   wants_memory state (Take s) = false
   wants_memory state (Leave s) = false
   wants_memory state (Gone s) = false
+  wants_memory state (Retune rates) = false
 
   -- why a list of steps is made no further: it ends, its next step may not be made, or may have found no memory
   abbrev pub StopsAt : Whole → Option (Step A) → Type 0
@@ -195,3 +204,8 @@ module _ {A : Type 0} where
   abbrev pub gone_said : Result (Unit {0}) NotOpen → StepAnswer A
   gone_said (Ok done) = said.Dropped
   gone_said (Err e) = said.NotOpen
+
+  abbrev pub retune_said : Result (Unit {0}) RetuneRefusal → StepAnswer A
+  retune_said (Ok done) = said.Retuned
+  retune_said (Err retuning.Worn) = said.Worn
+  retune_said (Err retuning.Waiting) = said.Waiting

@@ -15,9 +15,11 @@ use Rattle.lone_export.specs.Calls.{to_come}
 use Rattle.lone_export.specs.Lone.{Whole}
 use Rattle.lone_export.specs.declared.row.Row.{Row}
 
+-- the intervals are those at the start, and those in force
 pub record Parts (A : Type 0) : Type 0 where
   pub info : ExportInfo
   pub tuning : Intervals
+  pub rates : Intervals
   pub image : List ℕ
   pub queue : Queue (Row A)
   pub clock : Limit
@@ -55,14 +57,14 @@ abbrev pub IsTag : ℕ → Option ℤ → Type 0
 IsTag next None = Unit {0}
 IsTag next (Some tag) = (pos 0 ≤ℤ tag) × (tag <ℤ pos (2 ^ 62 + next * 2 ^ 30))
 
--- the numbers and tags are in range. Each attach and arrival brings four steps at most, itself among them
-pub record IsBounded (terms : Terms) (state : Alone) (asked : ℕ) : Type 0 where
+-- the numbers and tags are in range. Each attach, arrival and retune brings four steps at most, itself among them
+pub record IsBounded (state : Alone) (asked : ℕ) : Type 0 where
   pub budget : state.count + to_come state ≤ 4 * asked
   pub asked_counted : asked ≤ state.count
   pub asked_few : asked ≤ 2 ^ 56
   pub numbered : state.next ≤ state.count
   pub seated : length state.sessions ≤ state.count
-  pub interval : terms.l_interval < 2 ^ 30
+  pub interval : state.rates.l_interval < 2 ^ 30
   pub tag : IsTag state.next state.last
 
 -- the reply to a request that was performed: error 12 (ENOMEM) where no memory was there
@@ -85,9 +87,7 @@ module _ {A : Type 0} where
     read_only = p.info.read_only;
     depth = p.queue.depth;
     window = p.sessions.window;
-    r_interval = p.tuning.r_interval;
-    l_interval = p.clock.interval;
-    p_interval = p.tuning.p_interval;
+    rates = p.tuning;
   }
 
   abbrev pub state_at : Parts A → Alone
@@ -97,6 +97,7 @@ module _ {A : Type 0} where
     out = map out_job (fin.entries p.queue.out);
     next = p.queue.next;
     last = p.clock.last;
+    rates = p.rates;
     sessions = p.sessions.sessions;
     count = p.count;
   }
@@ -108,7 +109,8 @@ module _ {A : Type 0} where
     pub sized : length p.image ≡ p.info.size
     pub numbered : AreJobs (terms_at p) p.queue.next (jobs (state_at p))
     pub owed : AreOwed (jobs_of (jobs (state_at p))) p.sessions.sessions p.sessions.owed
-    pub bounded : IsBounded (terms_at p) (state_at p) p.asked
+    pub ticks : p.clock.interval ≡ p.rates.l_interval
+    pub bounded : IsBounded (state_at p) p.asked
     pub depth : p.queue.depth ≤ 4096
     pub window : p.sessions.window ≤ 4096
     pub inflight : p.queue.inflight ≤ 4096

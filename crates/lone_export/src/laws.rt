@@ -13,8 +13,8 @@ pub fn steps_to_come<A: Allocator>()
     ensures { StepsToCome A }
 {}
 
-/// An export's limit tags follow from the moments of its accepted arrivals: that of the k-th is the greatest, over the
-/// arrivals j up to it, of its moment and k - j intervals.
+/// An export's limit tags follow from its accepted arrivals and its retunes: that of the k-th is the greatest, over the
+/// arrivals j up to it, of the moment of j and the intervals in force at the arrivals behind j, up to the k-th.
 pub fn limit_tags_unrolled<A: Allocator>()
     ensures { (terms : Terms) (steps : List (Step A)) → GivesUnrolledTags terms steps }
 {}

@@ -10,20 +10,20 @@ ghost use Rattle.export_queue.specs.Queue.{item_held};
 ghost use Rattle.reply_box.specs.Box.{IsOwed, after_put};
 ghost use Rattle.lone_export.specs.Parts.{Settles, reply_to};
 ghost use Rattle.lone_export.specs.declared.row.Row.{Row};
-ghost use Rattle.lone_export.specs.Lone.{opening_of, Does, DoesOr, pick_said, leave_said, gone_said, take_said, attach_said, arrived_said, slots_picked, slots_without, slot_at, MayAttach};
+ghost use Rattle.lone_export.specs.Lone.{opening_of, Does, DoesOr, pick_said, leave_said, gone_said, take_said, attach_said, arrived_said, retune_said, slots_picked, slots_without, slot_at, MayAttach};
 
 mod reading;
 mod replaying;
 mod rounds;
 mod skipping;
 
-use crate::refusal::{Arrived, NotArrived, NotAttached};
+use crate::refusal::{Arrived, NotArrived, NotAttached, RetuneRefusal};
 use crate::row::Row;
 use crate::step::{Step, StepAnswer};
 use export_queue::{ExportQueue, Picked};
 use export_store::{Image, Swept};
 use nbd_base::NoMemory;
-use nbd_commands::{Done, ExportConfig, ExportInfo, apply_owned, verdict};
+use nbd_commands::{Done, ExportConfig, ExportInfo, Rates, apply_owned, verdict};
 use nbd_wire::protocol::{EIO, ENOMEM};
 use nbd_wire::{Reply, Request};
 use reply_box::{NotOpen, ReplyBox, Taken};
@@ -37,13 +37,15 @@ use tag_clock::{LimitClock, Moment, Tuning};
 #[derive(Drop)]
 pub struct Lone<I: Image> {
     info: ExportInfo,
+    // The rates at the start, and those in force.
     tuning: Tuning,
+    rates: Tuning,
     image: I,
     queue: ExportQueue<Row<I::Alloc>, I::Alloc>,
     clock: LimitClock,
     sessions: ReplyBox<I::Alloc>,
     count: u64,
-    // How many of the counted steps are attaches and arrivals.
+    // How many of the counted steps are attaches, arrivals and retunes.
     asked: u64,
 }
 
@@ -53,9 +55,9 @@ impl<I: Image> Model for Lone<I> {
 
     ghost Value = { Whole };
 
-    ghost view = { λ l. whole_of (record { info = l.info; tuning = l.tuning; image = I.bytes l.image; queue = l.queue; clock = l.clock; sessions = l.sessions; count = l.count; asked = l.asked }) };
+    ghost view = { λ l. whole_of (record { info = l.info; tuning = l.tuning; rates = l.rates; image = I.bytes l.image; queue = l.queue; clock = l.clock; sessions = l.sessions; count = l.count; asked = l.asked }) };
 
-    ghost invariant = { λ l. IsLone (record { info = l.info; tuning = l.tuning; image = I.bytes l.image; queue = l.queue; clock = l.clock; sessions = l.sessions; count = l.count; asked = l.asked }) };
+    ghost invariant = { λ l. IsLone (record { info = l.info; tuning = l.tuning; rates = l.rates; image = I.bytes l.image; queue = l.queue; clock = l.clock; sessions = l.sessions; count = l.count; asked = l.asked }) };
 }
 
 impl<I: Image> Lone<I> {
@@ -182,6 +184,24 @@ impl<I: Image> Lone<I> {
         Some(memory)
     }
 
+    /// The rates are others from now on. The last limit tag stays, and the next one is an interval of the new limit after it.
+    ///
+    /// It takes no memory.
+    pub fn retune(&mut self, rates: Rates) -> Result<(), RetuneRefusal>
+        ensures step { Does {A = I.Alloc} self.old self.new (Step.Retune rates) (retune_said result) }
+        ensures slots { self.new.slots ≡ self.old.slots }
+    {
+        if let Err(refusal) = self.may_retune() {
+            return Err(refusal);
+        }
+        let tuning = rates.tuning();
+        self.rates = tuning;
+        self.clock.retune(tuning.l_interval());
+        self.count += 1;
+        self.asked += 1;
+        Ok(())
+    }
+
     /// Exchanges what writes and zeros have put others in place of, since the last call, for nothing, with room for the next.
     pub fn sweep(&mut self, swept: &mut Swept<I::Alloc>)
         ensures { self.new ≡ self.old }
@@ -206,6 +226,7 @@ impl<I: Image> Lone<I> {
         Ok(Lone {
             info: config.info(),
             tuning,
+            rates: tuning,
             image,
             queue,
             clock: LimitClock::new(tuning.l_interval()),

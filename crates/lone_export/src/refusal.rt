@@ -24,6 +24,17 @@ pub enum NotAttached {
     NoMemory,
 }
 
+/// Why an export keeps its rates.
+#[derive(Clone, Copy, Debug, PartialEq, Eq, Error)]
+pub enum RetuneRefusal {
+    /// The export has made as many steps as it ever may.
+    #[error("worn")]
+    Worn,
+    /// A request of the export waits.
+    #[error("waiting")]
+    Waiting,
+}
+
 /// Why an arrival is refused.
 #[derive(Clone, Copy, Debug, PartialEq, Eq, Error)]
 pub enum ArriveRefusal {

@@ -1,8 +1,10 @@
 //! What the calls answer, as answers of steps.
 ghost use Rattle.std.specs.Prelude.{◌≡◌};
-ghost use Rattle.lone_export.specs.Lone.{attach_said, arrived_said, pick_said, take_said, leave_said, gone_said};
+ghost use Rattle.lone_export.specs.Lone.{attach_said, arrived_said, pick_said, take_said, leave_said, gone_said, retune_said};
 
-use crate::refusal::{ArriveRefusal, Arrived, AttachRefusal, NotArrived, NotAttached};
+use crate::refusal::{
+    ArriveRefusal, Arrived, AttachRefusal, NotArrived, NotAttached, RetuneRefusal,
+};
 use crate::step::StepAnswer;
 use export_queue::Picked;
 use reply_box::{NotOpen, Taken};
@@ -69,5 +71,15 @@ pub(crate) fn gone_said<A: Allocator>(answer: Result<(), NotOpen>) -> StepAnswer
     match answer {
         Ok(()) => StepAnswer::Dropped,
         Err(NotOpen) => StepAnswer::NotOpen,
+    }
+}
+
+pub(crate) fn retune_said<A: Allocator>(answer: Result<(), RetuneRefusal>) -> StepAnswer<A>
+    ensures { result ≡ retune_said answer }
+{
+    match answer {
+        Ok(()) => StepAnswer::Retuned,
+        Err(RetuneRefusal::Worn) => StepAnswer::Worn,
+        Err(RetuneRefusal::Waiting) => StepAnswer::Waiting,
     }
 }

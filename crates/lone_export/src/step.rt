@@ -1,5 +1,6 @@
 //! The steps of one export, and their answers.
 
+use nbd_commands::Rates;
 use nbd_wire::{Reply, Request};
 use std::alloc::Allocator;
 use tag_clock::Moment;
@@ -35,6 +36,10 @@ pub enum Step<A: Allocator> {
     /// A session is dropped with its replies; its requests are still served.
     Gone {
         session: u64,
+    },
+    /// The rates are others from now on.
+    Retune {
+        rates: Rates,
     },
 }
 
@@ -73,4 +78,8 @@ pub enum StepAnswer<A: Allocator> {
     Hold,
     /// The request isn't in service.
     NotOut,
+    /// The rates are others.
+    Retuned,
+    /// A request of the export waits.
+    Waiting,
 }

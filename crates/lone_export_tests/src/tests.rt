@@ -12,6 +12,7 @@ use std::alloc::{Allocator, Global};
 use tag_clock::Moment;
 
 mod memory;
+mod retunes;
 mod rounds;
 mod runs;
 mod said;

@@ -26,24 +26,3 @@ impl<T: Drop> From<AllocFailed<T>> for NoMemory {
         NoMemory
     }
 }
-
-#[cfg(test)]
-mod tests {
-    use super::*;
-    use std::test::Fail;
-
-    #[test]
-    fn laws_of_numbers(_rt: HostRuntime) -> Result<(), Fail> {
-        least_of_two::<u64>();
-        sums_fit();
-        Ok(())
-    }
-
-    #[test]
-    fn refused_growths_are_no_memory(rt: HostRuntime) -> Result<(), Fail> {
-        assert_eq!(rt; NoMemory::from(AllocError), NoMemory);
-        assert_eq!(rt; NoMemory::from(AllocFailed { value: 7u8 }), NoMemory);
-        assert_eq!(rt; format!(in rt.alloc(); "{NoMemory}")?.as_str(), "no memory");
-        Ok(())
-    }
-}

@@ -3,7 +3,8 @@ use Rattle.std.proofs.Common.{◌≡◌, ℕ, List, length, arith}
 use Rattle.std.specs.Prelude.{Bool, true, false, Option, Some, None, ◌<◌, ◌≤◌, ◌&&◌, nat_lt, if◌then◌else◌, refl}
 use Rattle.std.specs.Option.{option_map_or}
 use Rattle.nbd_commands.specs.Exports.{Export, IsExport, IsWithin}
-use Rattle.nbd_commands.specs.Refusals.{is_outside, is_name_taken, first_refusal}
+use Rattle.tag_clock.specs.Intervals.{AreRates}
+use Rattle.nbd_commands.specs.Refusals.{is_outside, is_name_taken, rates_refusal, first_refusal}
 use Rattle.nbd_commands.specs.declared.settings.Refusal.{Refusal}
 use Rattle.nbd_commands.specs.declared.settings.Refusal.TheVariants.{BadName, RepeatedName, BadDescription, BadSize, BadReservation, BadLimit, BadWeight, BadDepth, BadWindow, ReservationAboveLimit}
 
@@ -47,4 +48,17 @@ not_refused exports e h =
       depth = within 4096 e.depth q.0;
       window = within 4096 e.window v.0;
       reserved = not_above_limit e.limit e.reservation z.0;
+    }
+
+pub rates_not_refused : (reservation limit weight : ℕ) → rates_refusal reservation limit weight ≡ None → AreRates reservation limit weight
+rates_not_refused reservation limit weight h =
+    let r = passed (nat_lt 1000000 reservation) BadReservation _ h in
+    let l = passed (nat_lt 1000000 limit) BadLimit _ r.1 in
+    let w = passed (is_outside 1000000 weight) BadWeight _ l.1 in
+    let few = within 1000000 weight w.0 in
+    record {
+      reservation = not_above 1000000 reservation r.0;
+      limit = not_above 1000000 limit l.0;
+      weight = few.least;
+      weight_few = few.greatest;
     }

@@ -3,6 +3,8 @@ use Rattle.std.specs.Prelude.{ℕ, Bool, ◌||◌, ◌&&◌, nat_lt, if◌then�
 use Rattle.std.specs.List.{list_any}
 use Rattle.std.specs.Option.{option_copied, option_map_or}
 use Rattle.std.specs.Str.{bytes_eq}
+use Rattle.nbd_base.specs.Words.{when_some}
+use Rattle.tag_clock.specs.Intervals.{Intervals, intervals_of}
 use Rattle.nbd_commands.specs.Exports.{Export}
 use Rattle.nbd_commands.specs.declared.settings.ExportSettings.{ExportSettings}
 use Rattle.nbd_commands.specs.declared.settings.Refusal.{Refusal}
@@ -31,6 +33,20 @@ number_refusal e =
     else (if is_outside 4096 e.window then Some BadWindow
     else (if nat_lt 0 e.limit && nat_lt e.limit e.reservation then Some ReservationAboveLimit
     else None))))))
+
+-- of rates that an export is given while it runs
+abbrev pub rates_refusal : ℕ → ℕ → ℕ → Option Refusal
+rates_refusal reservation limit weight =
+    if nat_lt 1000000 reservation then Some BadReservation
+    else (if nat_lt 1000000 limit then Some BadLimit
+    else (if is_outside 1000000 weight then Some BadWeight
+    else (if nat_lt 0 limit && nat_lt limit reservation then Some ReservationAboveLimit
+    else None)))
+
+-- the intervals of such rates, or why they are refused
+abbrev pub rates_told : ℕ → ℕ → ℕ → Result Intervals ConfigError
+rates_told reservation limit weight =
+    when_some (rates_refusal reservation limit weight) (λ refusal. Err (Refused refusal)) (Ok (intervals_of reservation limit weight))
 
 -- of an export that comes after those that there are
 abbrev pub first_refusal : List Export → Export → Option Refusal

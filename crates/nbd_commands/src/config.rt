@@ -1,9 +1,10 @@
-ghost use Rattle.std.specs.Prelude.{◌≡◌, ◌&&◌, nat_lt, ◌++◌, ◌∷◌, [], length, IfOk, IfErr, OnOk, OnErr};
+ghost use Rattle.std.specs.Prelude.{◌≡◌, nat_lt, ◌++◌, ◌∷◌, [], length, IfOk, IfErr, OnOk, OnErr};
 ghost use Rattle.std.specs.Option.{option_copied, option_map_or};
 ghost use Rattle.nbd_commands.specs.Exports.{IsExport, IsOffer, flags_of};
 ghost use Rattle.nbd_commands.specs.Refusals.{asked, number_refusal, first_refusal, whole_refusal, refusal_told, is_outside, is_name_taken};
 
 use crate::judging::ExportInfo;
+use crate::rates::is_above_limit;
 use crate::settings::{ConfigError, ExportSettings, MAX_EXPORTS, Refusal, is_inflight};
 use nbd_base::NoMemory;
 use std::alloc::Allocator;
@@ -32,7 +33,7 @@ const MAX_DESCRIPTION: usize = 4096;
 
 const MAX_SIZE: u64 = 1_099_511_627_776;
 
-const MAX_RATE: u64 = 1_000_000;
+pub(crate) const MAX_RATE: u64 = 1_000_000;
 
 const MAX_QUEUE: u64 = 4096;
 
@@ -205,22 +206,16 @@ impl<A: Allocator + Copy> ExportConfig<A> {
     }
 }
 
-fn is_above(most: u64, n: u64) -> bool
+pub(crate) fn is_above(most: u64, n: u64) -> bool
     ensures { result ≡ nat_lt most n }
 {
     n > most
 }
 
-fn is_outside(most: u64, n: u64) -> bool
+pub(crate) fn is_outside(most: u64, n: u64) -> bool
     ensures { result ≡ is_outside most n }
 {
     n < 1 || n > most
-}
-
-fn is_above_limit(settings: &ExportSettings<'_>) -> bool
-    ensures { result ≡ (nat_lt 0 settings.now.limit && nat_lt settings.now.limit settings.now.reservation) }
-{
-    settings.limit > 0 && settings.reservation > settings.limit
 }
 
 fn is_name_taken<A: Allocator + Copy>(exports: &[ExportConfig<A>], name: &[u8]) -> bool
@@ -244,7 +239,7 @@ fn number_refusal(settings: &ExportSettings<'_>) -> Option<Refusal>
         Some(Refusal::BadDepth)
     } else if is_outside(MAX_QUEUE, settings.window) {
         Some(Refusal::BadWindow)
-    } else if is_above_limit(settings) {
+    } else if is_above_limit(settings.reservation, settings.limit) {
         Some(Refusal::ReservationAboveLimit)
     } else {
         None

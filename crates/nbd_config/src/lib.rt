@@ -7,6 +7,3 @@ mod refusals;
 
 pub use reading::read_config;
 pub use refusals::{FileError, FileRefusal, Place, Reason};
-
-#[cfg(test)]
-mod tests;

@@ -10,7 +10,7 @@ use crate::under_way::BytesUnderWay;
 use crate::writer::write_replies;
 use nbd_base::NoMemory;
 use nbd_service::policy::FLUSH_WAIT_MS;
-use nbd_service::{Connection, Service, Wakeups};
+use nbd_service::{Connection, RetuneGate, Service, Wakeups};
 use nbd_session::{Counted, Entry, haggle};
 use server_core::SessionId;
 use server_lock::Pass;
@@ -88,8 +88,11 @@ fn serve_session<L: Ledger + Send + Sync, R: Wait + Threads + Sync + time::Clock
     let Some(all_waiting) = service.waiting_writes.get(session.export as usize) else {
         return;
     };
+    let Some(gate) = service.retunes.gate(session.export) else {
+        return;
+    };
     let bytes = BytesUnderWay::new(all_waiting, &connection.traffic);
-    let link = link_of(service, peer, &patient, &bytes, session);
+    let link = link_of(service, peer, &patient, &bytes, gate, session);
     if let (Ok(link), Ok(wakeups)) = (link, wakeups) {
         let feed = Counted::new(Feed::new(rt, &link));
         if let Ok(source) = RequestSource::new(service.alloc, feed, wakeups) {
@@ -107,6 +110,7 @@ fn link_of<'a, L: Ledger>(
     peer: &'a TcpStream,
     patient: &'a AtomicBool,
     bytes: &'a BytesUnderWay<'a>,
+    gate: &'a RetuneGate,
     session: SessionId,
 ) -> Result<SessionLink<'a>, NoMemory> {
     let replies = service.bells.replies(session);
@@ -121,6 +125,7 @@ fn link_of<'a, L: Ledger>(
         interactive,
         seat,
         bytes,
+        gate,
         &service.bells.work,
     )
 }

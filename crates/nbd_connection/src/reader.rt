@@ -55,18 +55,39 @@ pub fn read_requests<'s, E, L: Ledger, R: Wait + Sync + time::Clock>(
     link.replies.ring();
 }
 
-/// Waits while too many bytes of the session's requests are under way, or too many of its export's WRITEs wait.
+/// Waits while other rates are asked for the session's export, too many bytes of its requests are under way, or too many of its
+/// export's WRITEs wait.
 fn wait_for_room<R: Wait + time::Clock>(rt: &R, link: &SessionLink<'_>) {
     for _ in rt.forever() {
+        if link.gate.is_shut() {
+            wait_for_retune(rt, link);
+        }
         let heard = link.room.heard();
         if !link.bytes.holds_back(link.under_way()) {
             return;
         }
-        link.seat.leave(rt, false);
-        link.replies.ring();
+        rest(rt, link);
         link.room
             .wait(rt, heard, Some(Duration::from_secs(PATIENCE_S)));
     }
+}
+
+/// Waits until no other rates are asked for the session's export any more, or the session is over.
+fn wait_for_retune<R: Wait + time::Clock>(rt: &R, link: &SessionLink<'_>) {
+    for _ in rt.forever() {
+        let heard = link.gate.heard();
+        if !link.waits_for_retune() {
+            return;
+        }
+        rest(rt, link);
+        link.gate.wait(rt, heard);
+    }
+}
+
+/// The reader is about to wait for something else than its client: no export waits for this one, and what it wrote is sent.
+fn rest<R: Wait + time::Clock>(rt: &R, link: &SessionLink<'_>) {
+    link.seat.leave(rt, false);
+    link.replies.ring();
 }
 
 /// Has the client's bytes read ahead from now on, or no longer.

@@ -15,6 +15,13 @@ pub fn joined_size(before: RequestSize, next: RequestSize) -> RequestSize
     }
 }
 
+/// Whether a reader hands nothing in for now, since other rates are asked for its export. Where its session is over it waits for nothing.
+pub fn waits_for_retune(is_asked: bool, is_over: bool) -> bool
+    ensures { result ≡ (is_asked && not is_over) }
+{
+    is_asked && !is_over
+}
+
 /// Whether a reader wakes its writer behind a hold: long data is to be read, or not all replies are taken and written.
 pub fn wakes_writer(reads_long: bool, is_written: bool) -> bool
     ensures { result ≡ (reads_long || not is_written) }

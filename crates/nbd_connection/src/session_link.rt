@@ -3,11 +3,12 @@
 use crate::outlet::{FlushOutcome, Outlet};
 use crate::read_ahead::ReadAhead;
 use crate::ready_replies::ReadyReplies;
+use crate::rules::waits_for_retune;
 use crate::turn_seat::TurnSeat;
 use crate::under_way::BytesUnderWay;
 use nbd_base::NoMemory;
 use nbd_service::policy::patience;
-use nbd_service::{InteractiveLoad, Load};
+use nbd_service::{InteractiveLoad, Load, RetuneGate};
 use nbd_workers::Bell;
 use server_core::SessionId;
 use std::alloc::Global;
@@ -33,6 +34,8 @@ pub struct SessionLink<'a> {
     pub(crate) interactive: &'a InteractiveLoad,
     pub(crate) seat: TurnSeat<'a>,
     pub(crate) bytes: &'a BytesUnderWay<'a>,
+    /// Where its reader waits while other rates are asked for its export.
+    pub(crate) gate: &'a RetuneGate,
     /// Rung where a reply was taken.
     pub(crate) room: Bell,
     /// Whether its holds of the server are long.
@@ -53,6 +56,7 @@ impl<'a> SessionLink<'a> {
         interactive: &'a InteractiveLoad,
         seat: TurnSeat<'a>,
         bytes: &'a BytesUnderWay<'a>,
+        gate: &'a RetuneGate,
         work: &'a Bell,
     ) -> Result<SessionLink<'a>, NoMemory> {
         let outlet = Outlet::new(alloc, peer, patient, interactive, bytes, work)?;
@@ -68,6 +72,7 @@ impl<'a> SessionLink<'a> {
             interactive,
             seat,
             bytes,
+            gate,
             room: Bell::new(),
             bulk: AtomicBool::new(false),
             kept: AtomicBool::new(false),
@@ -144,6 +149,11 @@ impl<'a> SessionLink<'a> {
         if self.under_way() == 0 && outlet.unwritten() == 0 && self.ready.is_empty(rt) {
             self.bytes.settle();
         }
+    }
+
+    /// Whether the reader hands nothing in for now, since other rates are asked for its export.
+    pub(crate) fn waits_for_retune(&self) -> bool {
+        waits_for_retune(self.gate.is_shut(), self.bytes.is_over())
     }
 
     /// How long the writer sleeps without a ring: without end where nothing is under way.

@@ -95,7 +95,7 @@ impl<'a> BytesUnderWay<'a> {
     pub fn holds_back(&self, requests: u64) -> bool {
         let bytes = self.traffic.bytes.load(Ordering::SeqCst);
         let waiting = self.all_waiting.load(Ordering::SeqCst);
-        holds_back(requests, bytes, waiting) && !self.over.load(Ordering::SeqCst)
+        holds_back(requests, bytes, waiting) && !self.is_over()
     }
 
     /// Whether a hold that handed this in hands in no more.
@@ -114,6 +114,11 @@ impl<'a> BytesUnderWay<'a> {
     /// Whether the client hasn't read for a while: the session's writer is kept from all else.
     pub fn is_unread(&self) -> bool {
         self.unread.load(Ordering::SeqCst)
+    }
+
+    /// Whether the session is over.
+    pub fn is_over(&self) -> bool {
+        self.over.load(Ordering::SeqCst)
     }
 
     /// The session is over: nobody waits for its client any more.

@@ -1,5 +1,5 @@
 use nbd_connection::{BytesUnderWay, Feed, SessionLink, TurnSeat};
-use nbd_service::{InteractiveLoad, Traffic, Turns};
+use nbd_service::{InteractiveLoad, RetuneGate, Traffic, Turns};
 use nbd_workers::Bell;
 use server_core::SessionId;
 use std::alloc::Global;
@@ -32,6 +32,7 @@ struct Shared {
     bell: Bell,
     interactive: InteractiveLoad,
     turns: Turns,
+    gate: RetuneGate,
     waiting: AtomicU64,
     traffic: Traffic,
 }
@@ -49,6 +50,7 @@ fn shared_of(alloc: Global) -> Option<Shared> {
         bell: Bell::new(),
         interactive: InteractiveLoad::new(),
         turns,
+        gate: RetuneGate::new(),
         waiting: AtomicU64::new(0),
         traffic: Traffic::new(),
     })
@@ -75,6 +77,7 @@ fn link_of<'a>(
         &shared.interactive,
         seat,
         bytes,
+        &shared.gate,
         &shared.bell,
     )
     .ok()

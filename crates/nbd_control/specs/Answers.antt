@@ -22,7 +22,9 @@ answer_line said.Gone = codes "gone"
 answer_line said.Stopping = codes "stopping"
 answer_line said.NoExport = codes "refused no export"
 answer_line said.NoSession = codes "refused no session"
-answer_line said.RatesFixed = codes "refused rates are fixed"
+answer_line said.Retuned = codes "retuned"
+answer_line said.Busy = codes "busy"
+answer_line said.Worn = codes "refused worn"
 answer_line said.NoMemory = codes "refused no memory"
 answer_line (said.Refused cause) = codes "refused " ++ cause_text cause
 

@@ -20,8 +20,12 @@ pub enum Answer {
     NoExport,
     /// The export has no such session.
     NoSession,
-    /// The rates of an export are those of the configuration for as long as the server runs.
-    RatesFixed,
+    /// The export has other rates from now on.
+    Retuned,
+    /// Requests of the export waited all the time, and it keeps its rates.
+    Busy,
+    /// The export has made as many steps as it ever may, and keeps its rates.
+    Worn,
     /// Memory was refused, and nothing was changed.
     NoMemory,
     /// The line spells no command.
@@ -60,7 +64,9 @@ fn put_line<A: Allocator>(answer: Answer, text: &mut Vec<u8, A>) -> Result<(), N
         Answer::Stopping => or_no_memory(text.write_all(b"stopping")),
         Answer::NoExport => or_no_memory(text.write_all(b"refused no export")),
         Answer::NoSession => or_no_memory(text.write_all(b"refused no session")),
-        Answer::RatesFixed => or_no_memory(text.write_all(b"refused rates are fixed")),
+        Answer::Retuned => or_no_memory(text.write_all(b"retuned")),
+        Answer::Busy => or_no_memory(text.write_all(b"busy")),
+        Answer::Worn => or_no_memory(text.write_all(b"refused worn")),
         Answer::NoMemory => or_no_memory(text.write_all(b"refused no memory")),
         Answer::Refused(cause) => put_refusal(cause, text),
     }

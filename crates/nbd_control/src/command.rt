@@ -18,7 +18,7 @@ pub enum Command<A: Allocator> {
     Stats,
     /// The same figures in the text format that Prometheus reads.
     Metrics,
-    /// Other rates for an export, which no server sets yet.
+    /// Other rates for an export, from then on.
     Retune { export: Name<A>, rates: Rates },
     /// A line for each session.
     Sessions,

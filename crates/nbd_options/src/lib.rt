@@ -10,8 +10,6 @@ mod protocol;
 mod saying;
 mod shape;
 mod table;
-#[cfg(test)]
-mod tests;
 
 pub use answers::{Next, OptionReply};
 pub use attach::{Always, Attach, Attached};

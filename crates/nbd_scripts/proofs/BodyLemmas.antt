@@ -1,11 +1,11 @@
 -- A body goes on by one line.
-use Rattle.std.proofs.Common.{◌≡◌, ℕ, ◌+◌, List, [], ◌∷◌, ◌++◌, length, ap, sym, ◌∙◌, subst, None, arith}
+use Rattle.std.proofs.Common.{◌≡◌, ℕ, ◌+◌, List, [], ◌∷◌, ◌++◌, length, ap, sym, ◌∙◌, subst, Err, arith}
 use Rattle.std.proofs.lemmas.List.{append-nil, length_push}
 use Rattle.nbd_scripts.specs.declared.fault.LineFault.{LineFault}
 use Rattle.nbd_scripts.specs.declared.fault.LineFault.TheVariants as fault
 use Rattle.nbd_scripts.specs.declared.events.Lines.TheVariants as bodies
 use Rattle.nbd_scripts.specs.declared.replay_line.ReplayLine.{ReplayLine}
-use Rattle.nbd_scripts.specs.Faults.{IsMissed}
+use Rattle.nbd_scripts.specs.Faults.{IsRefused}
 use Rattle.nbd_scripts.specs.Lines.{lines_in, Begins}
 use Rattle.nbd_scripts.specs.Events.{line_asks, Asks, MissesLine, Takes}
 use Rattle.nbd_scripts.specs.Events.Asks.{nothing, behind_line}
@@ -40,9 +40,9 @@ module _ (A : Type 0) where
     counted = one_more start above so.front line so.counted;
   }
 
-  misses_line : (start : ℕ) (text : List ℕ) (asked : List (ReplayLine A)) (above : ℕ) (rest line after : List ℕ) → Goes start text asked above rest → Cuts rest line after
-      → line_asks {A = A} line ≡ None → MissesLine A start text (above + 1)
-  misses_line start text asked above rest line after so cuts missed = record {
+  misses_line : (start : ℕ) (text : List ℕ) (asked : List (ReplayLine A)) (fault : LineFault) (above : ℕ) (rest line after : List ℕ) → Goes start text asked above rest → Cuts rest line after
+      → line_asks {A = A} line ≡ Err fault → MissesLine A start text (above + 1) fault
+  misses_line start text asked fault above rest line after so cuts missed = record {
     lines = so.front;
     line = line;
     more = lines_in after;
@@ -55,9 +55,9 @@ module _ (A : Type 0) where
 
   -- the same of what the code tells
   pub line_missed : (start : ℕ) (text : List ℕ) (asked : List (ReplayLine A)) (fault : LineFault) (above : ℕ) (rest line after : List ℕ) → Goes start text asked above rest → Cuts rest line after
-      → IsMissed (line_asks {A = A} line) fault → IsBody {A = A} start text (bodies.Refused (above + 1) fault)
-  line_missed start text asked fault.Form above rest line after so cuts missed = misses_line start text asked above rest line after so cuts missed
-  line_missed start text asked (fault.Value refusal) above rest line after so cuts missed = missed
+      → IsRefused (line_asks {A = A} line) fault → IsBody {A = A} start text (bodies.Refused (above + 1) fault)
+  line_missed start text asked fault.Form above rest line after so cuts missed = misses_line start text asked fault.Form above rest line after so cuts missed
+  line_missed start text asked (fault.Value refusal) above rest line after so cuts missed = misses_line start text asked (fault.Value refusal) above rest line after so cuts missed
   line_missed start text asked fault.NoMemory above rest line after so cuts missed = tt
 
   pub body_read : (start : ℕ) (text : List ℕ) (asked : List (ReplayLine A)) (above : ℕ) (rest : List ℕ) → Goes start text asked above rest → length rest ≡ 0 → Asks (lines_in text) asked

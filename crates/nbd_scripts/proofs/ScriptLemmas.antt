@@ -107,6 +107,8 @@ module _ (streams : Streams) (offer : Offer) (above : ℕ) (body : List ℕ) (re
         → TellsRefusal number refused streams.old streams.new went → TellsReplay A streams went
     replay_body_refused went number fault.Form is told =
         replay_written streams went A (refusal_line number fault.Form) told
-        (λ all written. inr (record { offer = offer; above = above; body = body; read = body_for streams all offer above body read; number = number; missed = is; written = written }))
-    replay_body_refused went number (fault.Value refusal) is told = absurd is
+        (λ all written. inr (record { offer = offer; above = above; body = body; read = body_for streams all offer above body read; number = number; fault = fault.Form; missed = is; written = written }))
+    replay_body_refused went number (fault.Value refusal) is told =
+        replay_written streams went A (refusal_line number (fault.Value refusal)) told
+        (λ all written. inr (record { offer = offer; above = above; body = body; read = body_for streams all offer above body read; number = number; fault = fault.Value refusal; missed = is; written = written }))
     replay_body_refused went number fault.NoMemory is told = subst (TellsReplay A streams) (sym told.0) (inl told.1)

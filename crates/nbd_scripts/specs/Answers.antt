@@ -44,4 +44,6 @@ module _ {A : Type 0} where
   line_of said.Full = codes "full\n"
   line_of said.Hold = codes "hold\n"
   line_of said.NotOut = codes "not out\n"
+  line_of said.Retuned = codes "retuned\n"
+  line_of said.Waiting = codes "waiting\n"
   line_of said.NoMemory = codes "no memory\n"

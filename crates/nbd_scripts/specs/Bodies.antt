@@ -10,6 +10,5 @@ module _ {A : Type 0} where
   -- a body with so many lines above was read, or a line of it is refused. Want of memory may be told of any body
   abbrev pub IsBody : ℕ → List ℕ → Lines A → Type 0
   IsBody above text (bodies.Read asked) = Asks (lines_in text) asked.items
-  IsBody above text (bodies.Refused number fault.Form) = MissesLine A above text number
-  IsBody above text (bodies.Refused number (fault.Value refusal)) = ⊥
   IsBody above text (bodies.Refused number fault.NoMemory) = Unit {0}
+  IsBody above text (bodies.Refused number refused) = MissesLine A above text number refused

@@ -6,7 +6,6 @@ use Rattle.nbd_commands.specs.Exports.{Offer}
 use Rattle.server_core.specs.Served.{setup_for}
 use Rattle.nbd_scripts.specs.declared.replay_line.ReplayLine.{ReplayLine}
 use Rattle.nbd_scripts.specs.declared.fault.LineFault.{LineFault}
-use Rattle.nbd_scripts.specs.declared.fault.LineFault.TheVariants.{Form}
 use Rattle.nbd_scripts.specs.declared.outcome.Outcome.{Outcome}
 use Rattle.nbd_scripts.specs.declared.outcome.Outcome.TheVariants as outcome
 use Rattle.nbd_scripts.specs.Lines.{lines_in}
@@ -106,8 +105,9 @@ pub record RefusesBody (A : Type 0) (streams : Streams) : Type 0 where
   pub body : List ℕ
   pub read : HasBody streams offer above body
   pub number : ℕ
-  pub missed : MissesLine A above body number
-  pub written : Appends streams.old streams.new (refusal_line number Form)
+  pub fault : LineFault
+  pub missed : MissesLine A above body number fault
+  pub written : Appends streams.old streams.new (refusal_line number fault)
 
 -- the text of all lines is written, or of the first of them, or of a refusal
 abbrev pub WritesReplay : (A : Type 0) → Streams → Type 0

@@ -13,5 +13,6 @@ verb_of name =
     else (if bytes_eq name (codes "take") then Some verbs.Take
     else (if bytes_eq name (codes "leave") then Some verbs.Leave
     else (if bytes_eq name (codes "gone") then Some verbs.Gone
+    else (if bytes_eq name (codes "retune") then Some verbs.Retune
     else (if bytes_eq name (codes "tags") then Some verbs.Tags
-    else None)))))))
+    else None))))))))

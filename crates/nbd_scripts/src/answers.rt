@@ -47,6 +47,8 @@ pub fn write_answer<A: Allocator + Copy, B: Allocator>(
         Answer::Full => or_no_memory(text.write_all(b"full\n")),
         Answer::Hold => or_no_memory(text.write_all(b"hold\n")),
         Answer::NotOut => or_no_memory(text.write_all(b"not out\n")),
+        Answer::Retuned => or_no_memory(text.write_all(b"retuned\n")),
+        Answer::Waiting => or_no_memory(text.write_all(b"waiting\n")),
         Answer::NoMemory => or_no_memory(text.write_all(b"no memory\n")),
     }
 }

@@ -1,11 +1,11 @@
 //! The body of a script of `replay`: an event of the server a line, or a question for its tags.
 
-ghost use Rattle.std.specs.Prelude.{◌≡◌, true, false, [], ◌∷◌, IfOk, IfErr, OnOk};
+ghost use Rattle.std.specs.Prelude.{◌≡◌, true, false, Ok, [], ◌∷◌, IfOk, IfErr, OnOk};
 ghost use Rattle.std.specs.Option.{ok_or};
 ghost use Rattle.nbd_scripts.specs.Bodies.{IsBody};
-ghost use Rattle.nbd_scripts.specs.Faults.{IsMissed};
+ghost use Rattle.nbd_scripts.specs.Faults.{IsMissed, IsRefused};
 ghost use Rattle.nbd_text.specs.Fields.{texts_of};
-ghost use Rattle.nbd_scripts.specs.Events.{arrival_of, asked_by, brings_payload, event_of, export_of, head_read, line_asks, moment_of, pair_of, payload_of, request_of, Takes};
+ghost use Rattle.nbd_scripts.specs.Events.{arrival_of, asked_by, brings_payload, event_of, export_of, head_read, line_asks, moment_of, pair_of, payload_of, rates_in, request_of, retune_of, Takes};
 
 use crate::body::Body;
 use crate::fault::LineFault;
@@ -14,6 +14,7 @@ use crate::numbers::{half_word, moment, number, word};
 use crate::replay_line::ReplayLine;
 use crate::verbs::{Verb, verb_of};
 use hex::FromHexError;
+use nbd_commands::Rates;
 use nbd_text::fields_of;
 use nbd_wire::protocol::WRITE;
 use nbd_wire::{MAX_PAYLOAD, Request, RequestHead};
@@ -56,7 +57,7 @@ fn take_line<A: Allocator + Copy>(
     lines: &mut Vec<ReplayLine<A>, A>,
 ) -> Result<(), LineFault>
     ensures taken { OnOk result (Takes {A = A} line.now lines.old.items lines.new.items) }
-    ensures missed { IfErr result (IsMissed (line_asks {A = A} line.now)) }
+    ensures refused { IfErr result (IsRefused (line_asks {A = A} line.now)) }
 {
     if is_comment(line) {
         return Ok(());
@@ -80,8 +81,8 @@ fn asked_by<A: Allocator + Copy>(
     verb: Verb,
     fields: &[&[u8]],
 ) -> Result<ReplayLine<A>, LineFault>
-    ensures read { IfOk result (λ line. asked_by verb (texts_of fields.now) ≡ Some line) }
-    ensures missed { IfErr result (IsMissed (asked_by {A = A} verb (texts_of fields.now))) }
+    ensures read { IfOk result (λ line. asked_by verb (texts_of fields.now) ≡ Ok line) }
+    ensures refused { IfErr result (IsRefused (asked_by {A = A} verb (texts_of fields.now))) }
 {
     if verb == Verb::Tags {
         let export = export_in(fields)?;
@@ -98,8 +99,8 @@ fn event_of<A: Allocator + Copy>(
     verb: Verb,
     fields: &[&[u8]],
 ) -> Result<Event<A>, LineFault>
-    ensures read { IfOk result (λ event. event_of verb (texts_of fields.now) ≡ Some event) }
-    ensures missed { IfErr result (IsMissed (event_of {A = A} verb (texts_of fields.now))) }
+    ensures read { IfOk result (λ event. event_of verb (texts_of fields.now) ≡ Ok event) }
+    ensures refused { IfErr result (IsRefused (event_of {A = A} verb (texts_of fields.now))) }
 {
     match verb {
         Verb::Attach => Ok(Event::Attach {
@@ -125,7 +126,32 @@ fn event_of<A: Allocator + Copy>(
             let (export, session) = pair(fields)?;
             Ok(Event::Gone { export, session })
         }
+        Verb::Retune => retune(fields),
         Verb::Tags => Err(LineFault::Form),
+    }
+}
+
+/// Other rates of an export.
+fn retune<A: Allocator>(fields: &[&[u8]]) -> Result<Event<A>, LineFault>
+    ensures { result ≡ retune_of (texts_of fields.now) }
+{
+    let (export, reservation, limit, weight) = rates_in(fields)?;
+    let rates = Rates::new(reservation, limit, weight)?;
+    Ok(Event::Retune { export, rates })
+}
+
+/// An export, a reservation, a limit and a weight.
+fn rates_in(fields: &[&[u8]]) -> Result<(u32, u64, u64, u64), LineFault>
+    ensures { result ≡ ok_or (rates_in (texts_of fields.now)) LineFault.Form }
+{
+    match fields {
+        [export, reservation, limit, weight] => Ok((
+            word(export)?,
+            number(reservation)?,
+            number(limit)?,
+            number(weight)?,
+        )),
+        _ => Err(LineFault::Form),
     }
 }
 

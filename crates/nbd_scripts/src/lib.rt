@@ -24,6 +24,3 @@ pub use outcome::Outcome;
 pub use reading::read_whole;
 pub use replaying::replay_script;
 pub use writing::tell_text;
-
-#[cfg(test)]
-mod tests;

@@ -13,6 +13,7 @@ pub enum Verb {
     Take,
     Leave,
     Gone,
+    Retune,
     Tags,
 }
 
@@ -40,6 +41,9 @@ pub fn verb_of(name: &[u8]) -> Option<Verb>
     }
     if name == b"gone".as_slice() {
         return Some(Verb::Gone);
+    }
+    if name == b"retune".as_slice() {
+        return Some(Verb::Retune);
     }
     if name == b"tags".as_slice() {
         return Some(Verb::Tags);

@@ -56,6 +56,14 @@ is_forgotten_by latest moment = nat_lt 1000000000 (moment - latest)
 abbrev pub still_defers_by : ℕ → Bool
 still_defers_by passed = nat_lt passed 200000
 
+-- 5 seconds
+abbrev pub still_retunes_by : ℕ → Bool
+still_retunes_by passed = nat_lt passed 5000000000
+
+-- 10 seconds
+abbrev pub still_waits_for_line_by : ℕ → Bool
+still_waits_for_line_by passed = nat_le passed 10000000000
+
 -- ---- turns
 
 -- 64 units, or a millisecond

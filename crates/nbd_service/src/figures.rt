@@ -9,6 +9,7 @@ use server_lock::{ExportCounts, ExportTally, Tally};
 use std::alloc::Global;
 use std::sync::Wait;
 use std::sync::ledger::Ledger;
+use turn_order::Rates;
 
 /// What is told of an export's requests.
 #[derive(Clone, Copy, Debug, PartialEq, Eq, Drop)]
@@ -17,6 +18,8 @@ pub struct ExportFigures {
     pub steps: u64,
     pub counts: ExportCounts,
     pub waits: WaitQuantiles,
+    /// Those in force.
+    pub rates: Rates,
 }
 
 impl ExportFigures {
@@ -52,8 +55,11 @@ impl<L: Ledger> Service<L> {
         rt: &R,
         export: u32,
     ) -> Result<Option<ExportFigures>, NoMemory> {
+        let Some(rates) = self.retunes.rates_of(rt, export) else {
+            return Ok(None);
+        };
         let disks = self.shared.hold(rt);
-        figures_of(self.alloc, &*disks, export)
+        figures_of(self.alloc, &*disks, export, rates)
     }
 }
 
@@ -61,6 +67,7 @@ fn figures_of<L: Ledger>(
     alloc: Global,
     disks: &Disks<L>,
     export: u32,
+    rates: Rates,
 ) -> Result<Option<ExportFigures>, NoMemory> {
     let Some(cell) = disks.server().journal(export) else {
         return Ok(None);
@@ -73,5 +80,6 @@ fn figures_of<L: Ledger>(
         steps: cell.steps(),
         counts: tally.counts(),
         waits: tally.waits().quantiles(alloc)?,
+        rates,
     }))
 }

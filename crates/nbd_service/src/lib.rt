@@ -1,8 +1,8 @@
 //! What the threads of a server share, and what they decide by values: `policy` has every number of the serving code and each
-//! rule over values. The rules, the clock and the faults have contracts. The rest has none and is tested instead, since it
+//! rule over values. The rules, the clock, the faults, the rates in force and what a retune comes to have contracts. The rest has none and is tested instead, since it
 //! takes locks, wakes threads, looks at sockets and reads flags that others write: `Service` (the lock of the server and who
-//! goes first), the bells, the passes, the wake-ups, the connections that are open with what is told of them, and the spin ladder with the poll of a socket by it; and prefetching, which
-//! changes nothing.
+//! goes first), the bells, the passes, the wake-ups, the connections that are open with what is told of them, the retunes, and the spin ladder with the poll of a socket by it; and prefetching,
+//! which changes nothing.
 #![tactic(auto)]
 
 mod bells;
@@ -17,6 +17,8 @@ mod passes;
 pub mod policy;
 mod prefetching;
 mod request_size;
+mod retunes;
+mod retuning;
 mod running_clock;
 mod service;
 mod spin;
@@ -36,6 +38,8 @@ pub use keepalive::keep_alive;
 pub use passes::PassPool;
 pub use prefetching::prefetch;
 pub use request_size::{Load, RequestSize};
+pub use retunes::{RatesInForce, RetuneGate, Retunes};
+pub use retuning::RetuneOutcome;
 pub use running_clock::RunningClock;
 pub use service::{Disks, LongWrite, Service};
 pub use spin::SpinLadder;

@@ -1,7 +1,7 @@
 //! Every number of the serving code, and the rules over values that its threads follow. `specs/Policy.antt` says each rule.
 ghost use Rattle.std.specs.Prelude.{◌≡◌, ◌+◌, ◌-◌, ◌*◌, ◌<◌, ◌≤◌, ◌^◌, min, option_map};
 ghost use Rattle.std.specs.Duration.{as_nanos};
-ghost use Rattle.nbd_service.specs.Policy.{accept_may_pass_by, asks_for_turn_by, backlog_by, batch_by, bell_by, cost_by, data_by, handshake_wait_by, holds_back_by, is_alone_by, is_forgotten_by, is_network_fault_by, is_shortage_by, is_stalled_by, keeps_by, load_by, next_skip_by, patience_by, performs_by, reads_ahead_by, short_pieces_by, size_by, still_defers_by, suits_reader_by, yields_by, yields_behind_look_by};
+ghost use Rattle.nbd_service.specs.Policy.{accept_may_pass_by, asks_for_turn_by, backlog_by, batch_by, bell_by, cost_by, data_by, handshake_wait_by, holds_back_by, is_alone_by, is_forgotten_by, is_network_fault_by, is_shortage_by, is_stalled_by, keeps_by, load_by, next_skip_by, patience_by, performs_by, reads_ahead_by, short_pieces_by, size_by, still_defers_by, still_retunes_by, still_waits_for_line_by, suits_reader_by, yields_by, yields_behind_look_by};
 
 use crate::request_size::{Load, RequestSize};
 use nbd_wire::RequestHead;
@@ -60,11 +60,25 @@ pub const KEEPALIVE_PROBES: u8 = 6;
 /// How many clients of the control socket are served at a time. One more is dropped.
 pub const CONTROL_CLIENTS: u64 = 8;
 
-/// How many nanoseconds such a client has for each line.
+/// How many nanoseconds such a client has for each line, and for taking each answer.
 pub const CONTROL_LINE_NS: u64 = 10_000_000_000;
 
-/// Behind how many milliseconds without a byte its thread looks whether the server is at its end.
+/// Behind how many milliseconds in which no byte comes or goes its thread looks whether the server is at its end.
 pub const CONTROL_LOOK_MS: u64 = 100;
+
+// ---- Retunes
+
+/// For how many nanoseconds a retune is tried, while requests of its export wait or all passes are out.
+pub const RETUNE_NS: u64 = 5_000_000_000;
+
+/// Behind how many milliseconds it is tried again.
+pub const RETUNE_LOOK_MS: u64 = 1;
+
+/// How often it is tried at most, whatever the clock tells.
+pub const RETUNE_LOOKS: usize = 5_000;
+
+/// Behind how many milliseconds a reader that waits for a retune looks whether its session is over.
+pub const GATE_LOOK_MS: u64 = 100;
 
 // ---- Requests
 
@@ -257,6 +271,20 @@ pub fn still_defers(passed: u64) -> bool
     ensures { result ≡ still_defers_by passed }
 {
     passed < DEFERENCE_NS
+}
+
+/// Whether a retune that couldn't be made for so many nanoseconds is tried once more.
+pub fn still_retunes(passed: u64) -> bool
+    ensures { result ≡ still_retunes_by passed }
+{
+    passed < RETUNE_NS
+}
+
+/// Whether a client of the control socket is still waited for that has had so many nanoseconds for its line, or for its answer.
+pub fn still_waits_for_line(passed: u64) -> bool
+    ensures { result ≡ still_waits_for_line_by passed }
+{
+    passed <= CONTROL_LINE_NS
 }
 
 /// How many milliseconds a client has for its next bytes, so many after its handshake and after its option began. 0: none.

@@ -6,6 +6,7 @@ use crate::figures::tally_of;
 use crate::interactive::InteractiveLoad;
 use crate::passes::PassPool;
 use crate::policy::{KEPT_BLOCK_BYTES, is_alone, may_read_ahead, still_defers};
+use crate::retunes::Retunes;
 use crate::running_clock::RunningClock;
 use crate::spin::SpinLadder;
 use crate::turns::Turns;
@@ -71,6 +72,8 @@ pub struct Service<L: Ledger> {
     pub interactive: InteractiveLoad,
     /// Whose turn it is.
     pub turns: Turns,
+    /// The rates in force, and whether others are asked for.
+    pub retunes: Retunes,
     /// How many bytes of each export's WRITEs wait.
     pub waiting_writes: Vec<AtomicU64>,
     pub latest_long: Mutex<Option<LongWrite>>,
@@ -109,6 +112,7 @@ impl<L: Ledger> Service<L> {
             taken: AtomicBool::new(false),
             interactive: InteractiveLoad::new(),
             turns: Turns::new(alloc, config)?,
+            retunes: Retunes::new(alloc, config)?,
             waiting_writes,
             latest_long: Mutex::new(None),
             is_wide: available_parallelism(rt).map_or(false, |count| may_read_ahead(count.get())),

@@ -1,6 +1,7 @@
 //! Whose turn it is among exports whose clients ask for much: the order of turns behind a lock, and the bells of those that wait.
 
 use crate::policy::{BUSY_NS, LINGER_NS, MOST_EXPORTS};
+use crate::retunes::configured_rates;
 use nbd_base::NoMemory;
 use nbd_commands::Config;
 use nbd_workers::Bell;
@@ -31,15 +32,7 @@ fn bit_of(export: usize) -> u64 {
 impl Turns {
     /// Of the exports of a configuration.
     pub fn new(alloc: Global, config: &Config<Global>) -> Result<Turns, NoMemory> {
-        let mut rates = Vec::new(alloc);
-        for export in config.exports() {
-            rates.push(Rates {
-                reservation: export.reservation(),
-                limit: export.limit(),
-                weight: export.weight(),
-            })?;
-        }
-        Turns::of(alloc, rates.as_slice())
+        Turns::of(alloc, configured_rates(alloc, config)?.as_slice())
     }
 
     /// Of exports with these rates, 64 at most.
@@ -141,6 +134,15 @@ impl Turns {
             let until = now.nanoseconds().saturating_add(LINGER_NS);
             order.linger(export, Moment::new(until).unwrap_or(now));
         }
+        let wakes = self.to_wake(&*order, now);
+        drop(order);
+        self.ring(wakes);
+    }
+
+    /// The export has other rates from now on. Wakes those whose turn has come by that.
+    pub fn retune<R: Wait>(&self, rt: &R, export: u32, rates: Rates, now: Moment) {
+        let mut order = self.order.lock(rt);
+        order.retune(export, rates);
         let wakes = self.to_wake(&*order, now);
         drop(order);
         self.ring(wakes);

@@ -1,4 +1,4 @@
-//! Tests of nbd_service: the rules over values, interactive sessions, and the looks at a socket.
+//! Tests of nbd_service: the rules over values, interactive sessions, the rates in force, and the looks at a socket.
 #![tactic(auto)]
 
 #[cfg(test)]

@@ -4,6 +4,7 @@ use Rattle.std.specs.Prelude.{ℤ, slice_get, IsSome}
 use Rattle.std.proofs.lemmas.Bool.{cases_Bool, eq-eqb, leb-true, leb-false}
 use Rattle.nbd_wire.specs.Grammar.{RequestMessage, ReplyMessage}
 use Rattle.nbd_commands.specs.Terms.{terms_of}
+use Rattle.tag_clock.specs.Intervals.{Intervals}
 use Rattle.nbd_commands.specs.Exports.{Export, IsExport}
 use Rattle.nbd_commands.specs.Verdict.{verdict_of}
 use Rattle.nbd_commands.specs.Meaning.{image_after, data_of}
@@ -28,9 +29,10 @@ pub record IsReplied (old w : Whole) (m : RequestMessage) : Type 0 where
   pub image : List ℕ
   pub next : ℕ
   pub last : Option ℤ
+  pub rates : Intervals
   pub count : ℕ
-  pub holds : w.state ≡ holding image next last count (reply_of old.terms old.state.image m)
-  pub left : rest image next last (count + 1) ≡ behind old.terms old.state m
+  pub holds : w.state ≡ holding image next last rates count (reply_of old.terms old.state.image m)
+  pub left : rest image next last rates (count + 1) ≡ behind old.terms old.state m
   pub fresh : old.state.count < 2 ^ 56
   pub same_terms : w.terms ≡ old.terms
   pub same_inflight : w.inflight ≡ old.inflight
@@ -38,7 +40,7 @@ pub record IsReplied (old w : Whole) (m : RequestMessage) : Type 0 where
 
 -- it was accepted, and waits
 pub record IsWaiting (old w : Whole) (m : RequestMessage) : Type 0 where
-  pub waits : w.state ≡ waiting old.state.image old.state.next (Some (limit_tag old.terms (rest old.state.image old.state.next old.state.last old.state.count) 0)) (old.state.count + 1) m
+  pub waits : w.state ≡ waiting old.state.image old.state.next (Some (limit_tag (rest old.state.image old.state.next old.state.last old.state.rates old.state.count) 0)) old.state.rates (old.state.count + 1) m
   pub good : (verdict_of old.terms m == 0) ≡ true
   pub fresh : old.state.count < 2 ^ 56
   pub same_terms : w.terms ≡ old.terms
@@ -47,7 +49,7 @@ pub record IsWaiting (old w : Whole) (m : RequestMessage) : Type 0 where
 
 -- it is out, in this slot
 pub record IsOut (old w : Whole) (m : RequestMessage) (slot : ℕ) : Type 0 where
-  pub is_out : w.state ≡ being_out old.state.image old.state.next (Some (limit_tag old.terms (rest old.state.image old.state.next old.state.last old.state.count) 0)) ((old.state.count + 1) + 1) m
+  pub is_out : w.state ≡ being_out old.state.image old.state.next (Some (limit_tag (rest old.state.image old.state.next old.state.last old.state.rates old.state.count) 0)) old.state.rates ((old.state.count + 1) + 1) m
   pub good : (verdict_of old.terms m == 0) ≡ true
   pub fresh : old.state.count < 2 ^ 56
   pub same_terms : w.terms ≡ old.terms
@@ -67,7 +69,7 @@ module _ (A : Type 0) where
 
   -- an arrival at an export at rest, as a step of that state
   moved : (old new : Whole) (m : RequestMessage) (answer : StepAnswer A) → IsIdle old → Does old new (Arrive 0 0 m) answer
-      → own_step {A = A} old.terms (rest old.state.image old.state.next old.state.last old.state.count) (Arrive 0 0 m) ≡ record { state = new.state; answer = answer }
+      → own_step {A = A} old.terms (rest old.state.image old.state.next old.state.last old.state.rates old.state.count) (Arrive 0 0 m) ≡ record { state = new.state; answer = answer }
   moved old new m answer idle d = subst (λ (s : Alone). own_step {A = A} old.terms s (Arrive 0 0 m) ≡ record { state = new.state; answer = answer }) (at_rest old.state idle.rests) d.did
 
   never_answered : (error : ℕ) (refusal : ArriveRefusal) → (let a : StepAnswer A = said.Answered error in a ≡ refusal_said refusal) → ⊥
@@ -104,9 +106,9 @@ module _ (A : Type 0) where
 
     refused_here : (refusal : ArriveRefusal) → Does {A = A} old new (Arrive 0 0 m) (refusal_said refusal) → nat_le (2 ^ 56) old.state.count ≡ false → (good : Bool) → (verdict_of old.terms m == 0) ≡ good → ⊥
     refused_here refusal d fresh false bad =
-        never_answered (verdict_of old.terms m) refusal (answer_of _ _ (sym (arrives_refused old.terms old.state.image old.state.next old.state.last old.state.count m fresh room bad) ∙ moved old new m (refusal_said refusal) idle d))
+        never_answered (verdict_of old.terms m) refusal (answer_of _ _ (sym (arrives_refused old.terms old.state.image old.state.next old.state.last old.state.rates old.state.count m fresh room bad) ∙ moved old new m (refusal_said refusal) idle d))
     refused_here refusal d fresh true good =
-        never_accepted _ _ refusal (answer_of _ _ (sym (arrives_accepted old.terms old.state.image old.state.next old.state.last old.state.count m fresh room good deep) ∙ moved old new m (refusal_said refusal) idle d))
+        never_accepted _ _ refusal (answer_of _ _ (sym (arrives_accepted old.terms old.state.image old.state.next old.state.last old.state.rates old.state.count m fresh room good deep) ∙ moved old new m (refusal_said refusal) idle d))
 
     pub arrived_worn : (refusal : ArriveRefusal) → Does {A = A} old new (Arrive 0 0 m) (refusal_said refusal) → 2 ^ 56 ≤ old.state.count
     arrived_worn refusal d =
@@ -117,17 +119,18 @@ module _ (A : Type 0) where
 
     answered_by : (error : ℕ) → Does {A = A} old new (Arrive 0 0 m) (said.Answered error) → new.slots ≡ old.slots → nat_le (2 ^ 56) old.state.count ≡ false → (good : Bool) → (verdict_of old.terms m == 0) ≡ good → IsReplied old new m
     answered_by error d slots fresh true good =
-        absurd (not_answered _ error _ (sym (answer_of _ _ (sym (arrives_accepted old.terms old.state.image old.state.next old.state.last old.state.count m fresh room good deep) ∙ moved old new m (said.Answered error) idle d))))
+        absurd (not_answered _ error _ (sym (answer_of _ _ (sym (arrives_accepted old.terms old.state.image old.state.next old.state.last old.state.rates old.state.count m fresh room good deep) ∙ moved old new m (said.Answered error) idle d))))
     answered_by error d slots fresh false bad = record {
       image = old.state.image;
       next = old.state.next;
       last = old.state.last;
+      rates = old.state.rates;
       count = old.state.count + 1;
       holds =
-          sym (state_of _ _ (sym (arrives_refused old.terms old.state.image old.state.next old.state.last old.state.count m fresh room bad) ∙ moved old new m (said.Answered error) idle d))
-          ∙ ap (λ (r : ReplyMessage). holding old.state.image old.state.next old.state.last (old.state.count + 1) r) (refused_reply (verdict_of old.terms m) m.head.cookie (data_of old.state.image m) bad);
-      left = subst (λ (s : Alone). rest old.state.image old.state.next old.state.last ((old.state.count + 1) + 1) ≡ behind old.terms s m) (sym (at_rest old.state idle.rests))
-          (behind_refused old.terms old.state.image old.state.next old.state.last old.state.count m bad);
+          sym (state_of _ _ (sym (arrives_refused old.terms old.state.image old.state.next old.state.last old.state.rates old.state.count m fresh room bad) ∙ moved old new m (said.Answered error) idle d))
+          ∙ ap (λ (r : ReplyMessage). holding old.state.image old.state.next old.state.last old.state.rates (old.state.count + 1) r) (refused_reply (verdict_of old.terms m) m.head.cookie (data_of old.state.image m) bad);
+      left = subst (λ (s : Alone). rest old.state.image old.state.next old.state.last old.state.rates ((old.state.count + 1) + 1) ≡ behind old.terms s m) (sym (at_rest old.state idle.rests))
+          (behind_refused old.terms old.state.image old.state.next old.state.last old.state.rates old.state.count m bad);
       fresh = leb-false (2 ^ 56) old.state.count fresh;
       same_terms = d.terms;
       same_inflight = d.inflight;
@@ -137,15 +140,15 @@ module _ (A : Type 0) where
     pub arrived_answered : (error : ℕ) → Does {A = A} old new (Arrive 0 0 m) (said.Answered error) → new.slots ≡ old.slots → IsReplied old new m
     arrived_answered error d slots =
         elim (cases_Bool (nat_le (2 ^ 56) old.state.count)) [
-          | inl worn ↦ absurd (not_worn error (answer_of _ _ (sym (arrives_worn old.terms old.state.image old.state.next old.state.last old.state.count m worn) ∙ moved old new m (said.Answered error) idle d)))
+          | inl worn ↦ absurd (not_worn error (answer_of _ _ (sym (arrives_worn old.terms old.state.image old.state.next old.state.last old.state.rates old.state.count m worn) ∙ moved old new m (said.Answered error) idle d)))
           | inr fresh ↦ answered_by error d slots fresh (verdict_of old.terms m == 0) refl
         ]
 
     accepted_by : (n : ℕ) (tag : ℤ) → Does {A = A} old new (Arrive 0 0 m) (said.Accepted n tag) → new.slots ≡ old.slots → nat_le (2 ^ 56) old.state.count ≡ false → (good : Bool) → (verdict_of old.terms m == 0) ≡ good → IsWaiting old new m
     accepted_by n tag d slots fresh false bad =
-        absurd (not_answered n _ tag (answer_of _ _ (sym (arrives_refused old.terms old.state.image old.state.next old.state.last old.state.count m fresh room bad) ∙ moved old new m (said.Accepted n tag) idle d)))
+        absurd (not_answered n _ tag (answer_of _ _ (sym (arrives_refused old.terms old.state.image old.state.next old.state.last old.state.rates old.state.count m fresh room bad) ∙ moved old new m (said.Accepted n tag) idle d)))
     accepted_by n tag d slots fresh true good = record {
-      waits = sym (state_of _ _ (sym (arrives_accepted old.terms old.state.image old.state.next old.state.last old.state.count m fresh room good deep) ∙ moved old new m (said.Accepted n tag) idle d));
+      waits = sym (state_of _ _ (sym (arrives_accepted old.terms old.state.image old.state.next old.state.last old.state.rates old.state.count m fresh room good deep) ∙ moved old new m (said.Accepted n tag) idle d));
       good = good;
       fresh = leb-false (2 ^ 56) old.state.count fresh;
       same_terms = d.terms;
@@ -156,7 +159,7 @@ module _ (A : Type 0) where
     pub arrived_accepted : (n : ℕ) (tag : ℤ) → Does {A = A} old new (Arrive 0 0 m) (said.Accepted n tag) → new.slots ≡ old.slots → IsWaiting old new m
     arrived_accepted n tag d slots =
         elim (cases_Bool (nat_le (2 ^ 56) old.state.count)) [
-          | inl worn ↦ absurd (not_worn_accepted n tag (answer_of _ _ (sym (arrives_worn old.terms old.state.image old.state.next old.state.last old.state.count m worn) ∙ moved old new m (said.Accepted n tag) idle d)))
+          | inl worn ↦ absurd (not_worn_accepted n tag (answer_of _ _ (sym (arrives_worn old.terms old.state.image old.state.next old.state.last old.state.rates old.state.count m worn) ∙ moved old new m (said.Accepted n tag) idle d)))
           | inr fresh ↦ accepted_by n tag d slots fresh (verdict_of old.terms m == 0) refl
         ]
 
@@ -176,7 +179,7 @@ module _ (A : Type 0) where
       subst (λ (s : Alone). length s.out < w.inflight) (sym h.waits) (subst (λ (n : ℕ). 0 < n) (sym h.same_inflight) idle.inflight)
 
   picked_did : (old w new : Whole) (m : RequestMessage) (answer : StepAnswer A) → IsWaiting old w m → Does {A = A} w new Pick answer
-      → (let v : Moved A = record { state = being_out old.state.image old.state.next (Some (limit_tag old.terms (rest old.state.image old.state.next old.state.last old.state.count) 0)) ((old.state.count + 1) + 1) m; answer = said.Picked old.state.next } in v ≡ record { state = new.state; answer = answer })
+      → (let v : Moved A = record { state = being_out old.state.image old.state.next (Some (limit_tag (rest old.state.image old.state.next old.state.last old.state.rates old.state.count) 0)) old.state.rates ((old.state.count + 1) + 1) m; answer = said.Picked old.state.next } in v ≡ record { state = new.state; answer = answer })
   picked_did old w new m answer h d = subst (λ (s : Alone). own_step {A = A} w.terms s Pick ≡ record { state = new.state; answer = answer }) h.waits d.did
 
   pub picked_some : (old w new : Whole) (m : RequestMessage) → IsWaiting old w m → Does {A = A} w new Pick (pick_said None) → ⊥
@@ -213,7 +216,7 @@ module _ (A : Type 0) where
 
   pub performed : (old w new : Whole) (m : RequestMessage) (n slot : ℕ) → IsIdle old → IsOut old w m slot → n ≡ old.state.next → Does {A = A} w new (Perform n true) (said.Performed true) → new.slots ≡ slots_without w.state.out w.slots n → IsReplied old new m
   performed old w new m n slot idle h is d slots =
-      let tag = Some (limit_tag old.terms (rest old.state.image old.state.next old.state.last old.state.count) 0) in
+      let tag = Some (limit_tag (rest old.state.image old.state.next old.state.last old.state.rates old.state.count) 0) in
       let at = subst (λ (k : ℕ). own_step {A = A} w.terms w.state (Perform k true) ≡ record { state = new.state; answer = said.Performed true }) is d.did in
       let did = subst (λ (s : Alone). own_step {A = A} w.terms s (Perform old.state.next true) ≡ record { state = new.state; answer = said.Performed true }) h.is_out at in
       let none : slots_without w.state.out w.slots n ≡ [] =
@@ -224,12 +227,13 @@ module _ (A : Type 0) where
         image = image_after old.state.image m;
         next = old.state.next + 1;
         last = tag;
+        rates = old.state.rates;
         count = ((old.state.count + 1) + 1) + 1;
         holds =
-            sym (ap (λ (x : Moved A). x.state) (sym (performs {A = A} w.terms old.state.image old.state.next tag ((old.state.count + 1) + 1) m) ∙ did))
-            ∙ ap (λ (r : ReplyMessage). holding (image_after old.state.image m) (old.state.next + 1) tag (((old.state.count + 1) + 1) + 1) r) (done_reply (verdict_of old.terms m) m.head.cookie (data_of old.state.image m) h.good);
-        left = subst (λ (s : Alone). rest (image_after old.state.image m) (old.state.next + 1) tag ((((old.state.count + 1) + 1) + 1) + 1) ≡ behind old.terms s m) (sym (at_rest old.state idle.rests))
-            (behind_accepted old.terms old.state.image old.state.next old.state.last old.state.count m h.good);
+            sym (ap (λ (x : Moved A). x.state) (sym (performs {A = A} w.terms old.state.image old.state.next tag old.state.rates ((old.state.count + 1) + 1) m) ∙ did))
+            ∙ ap (λ (r : ReplyMessage). holding (image_after old.state.image m) (old.state.next + 1) tag old.state.rates (((old.state.count + 1) + 1) + 1) r) (done_reply (verdict_of old.terms m) m.head.cookie (data_of old.state.image m) h.good);
+        left = subst (λ (s : Alone). rest (image_after old.state.image m) (old.state.next + 1) tag old.state.rates ((((old.state.count + 1) + 1) + 1) + 1) ≡ behind old.terms s m) (sym (at_rest old.state idle.rests))
+            (behind_accepted old.terms old.state.image old.state.next old.state.last old.state.rates old.state.count m h.good);
         fresh = h.fresh;
         same_terms = d.terms ∙ h.same_terms;
         same_inflight = d.inflight ∙ h.same_inflight;
@@ -248,7 +252,7 @@ module _ (A : Type 0) where
       → (reply ≡ reply_of old.terms old.state.image m) × (new ≡ record old { state = behind old.terms old.state m })
   replied_taken old w new m reply h d slots =
       let did = subst (λ (s : Alone). own_step {A = A} w.terms s (Take 0) ≡ record { state = new.state; answer = said.Reply reply }) h.holds d.did in
-      let all = sym did ∙ takes {A = A} w.terms h.image h.next h.last h.count (reply_of old.terms old.state.image m) in
+      let all = sym did ∙ takes {A = A} w.terms h.image h.next h.last h.rates h.count (reply_of old.terms old.state.image m) in
       let state : new.state ≡ behind old.terms old.state m = ap (λ (x : Moved A). x.state) all ∙ h.left in
       (same_reply reply (reply_of old.terms old.state.image m) (ap (λ (x : Moved A). x.answer) all), λ i. record { terms = (d.terms ∙ h.same_terms) i; inflight = (d.inflight ∙ h.same_inflight) i; state = state i; slots = (slots ∙ h.same_slots) i })
 

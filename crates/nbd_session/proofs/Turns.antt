@@ -6,6 +6,7 @@ use Rattle.std.proofs.lemmas.List.{append-nil}
 use Rattle.std.specs.List.{flat_map}
 use Rattle.nbd_wire.specs.Grammar.{RequestMessage, ReplyMessage, reply_text}
 use Rattle.nbd_commands.specs.Terms.{Terms}
+use Rattle.tag_clock.specs.Intervals.{Intervals}
 use Rattle.nbd_commands.specs.Verdict.{verdict_of}
 use Rattle.nbd_commands.specs.Meaning.{image_after, data_of}
 use Rattle.reply_box.specs.Sessions.{new_session}
@@ -20,51 +21,51 @@ use Rattle.nbd_session.specs.Plainly.{reply_of, image_behind, image_behind_all, 
 
 -- ---- the states on the way
 
-abbrev pub rest : List ℕ → ℕ → Option ℤ → ℕ → Alone
-rest image next last count = record { image = image; waiting = []; out = []; next = next; last = last; sessions = new_session ∷ []; count = count }
+abbrev pub rest : List ℕ → ℕ → Option ℤ → Intervals → ℕ → Alone
+rest image next last rates count = record { image = image; waiting = []; out = []; next = next; last = last; rates = rates; sessions = new_session ∷ []; count = count }
 
 -- one reply isn't taken
-abbrev pub holding : List ℕ → ℕ → Option ℤ → ℕ → ReplyMessage → Alone
-holding image next last count reply = record { image = image; waiting = []; out = []; next = next; last = last; sessions = record { state = place.Open; outbox = reply ∷ [] } ∷ []; count = count }
+abbrev pub holding : List ℕ → ℕ → Option ℤ → Intervals → ℕ → ReplyMessage → Alone
+holding image next last rates count reply = record { image = image; waiting = []; out = []; next = next; last = last; rates = rates; sessions = record { state = place.Open; outbox = reply ∷ [] } ∷ []; count = count }
 
 -- a request waits, or is out
 abbrev pub job_of : ℕ → RequestMessage → Job
 job_of n m = record { number = n; session = 0; request = m }
 
-abbrev pub waiting : List ℕ → ℕ → Option ℤ → ℕ → RequestMessage → Alone
-waiting image next last count m = record { image = image; waiting = job_of next m ∷ []; out = []; next = next + 1; last = last; sessions = new_session ∷ []; count = count }
+abbrev pub waiting : List ℕ → ℕ → Option ℤ → Intervals → ℕ → RequestMessage → Alone
+waiting image next last rates count m = record { image = image; waiting = job_of next m ∷ []; out = []; next = next + 1; last = last; rates = rates; sessions = new_session ∷ []; count = count }
 
-abbrev pub being_out : List ℕ → ℕ → Option ℤ → ℕ → RequestMessage → Alone
-being_out image next last count m = record { image = image; waiting = []; out = job_of next m ∷ []; next = next + 1; last = last; sessions = new_session ∷ []; count = count }
+abbrev pub being_out : List ℕ → ℕ → Option ℤ → Intervals → ℕ → RequestMessage → Alone
+being_out image next last rates count m = record { image = image; waiting = []; out = job_of next m ∷ []; next = next + 1; last = last; rates = rates; sessions = new_session ∷ []; count = count }
 
-pub at_rest : (state : Alone) → IsAtRest state → state ≡ rest state.image state.next state.last state.count
-at_rest state h = λ i. record { image = state.image; waiting = h.none_waits i; out = h.none_out i; next = state.next; last = state.last; sessions = h.session i; count = state.count }
+pub at_rest : (state : Alone) → IsAtRest state → state ≡ rest state.image state.next state.last state.rates state.count
+at_rest state h = λ i. record { image = state.image; waiting = h.none_waits i; out = h.none_out i; next = state.next; last = state.last; rates = state.rates; sessions = h.session i; count = state.count }
 
 -- ---- the steps
 
-module _ {A : Type 0} (terms : Terms) (image : List ℕ) (next : ℕ) (last : Option ℤ) (count : ℕ) (m : RequestMessage) where
-  pub arrives_worn : nat_le (2 ^ 56) count ≡ true → own_step {A = A} terms (rest image next last count) (Arrive 0 0 m) ≡ record { state = rest image next last count; answer = said.Worn }
+module _ {A : Type 0} (terms : Terms) (image : List ℕ) (next : ℕ) (last : Option ℤ) (rates : Intervals) (count : ℕ) (m : RequestMessage) where
+  pub arrives_worn : nat_le (2 ^ 56) count ≡ true → own_step {A = A} terms (rest image next last rates count) (Arrive 0 0 m) ≡ record { state = rest image next last rates count; answer = said.Worn }
   arrives_worn worn = rw worn refl
 
   pub arrives_refused : nat_le (2 ^ 56) count ≡ false → (0 == terms.window) ≡ false → (verdict_of terms m == 0) ≡ false
-      → own_step {A = A} terms (rest image next last count) (Arrive 0 0 m)
-      ≡ record { state = holding image next last (count + 1) (record { error = verdict_of terms m; cookie = m.head.cookie; content = [] }); answer = said.Answered (verdict_of terms m) }
+      → own_step {A = A} terms (rest image next last rates count) (Arrive 0 0 m)
+      ≡ record { state = holding image next last rates (count + 1) (record { error = verdict_of terms m; cookie = m.head.cookie; content = [] }); answer = said.Answered (verdict_of terms m) }
   arrives_refused fresh room error = rw (fresh, room, error) refl
 
   pub arrives_accepted : nat_le (2 ^ 56) count ≡ false → (0 == terms.window) ≡ false → (verdict_of terms m == 0) ≡ true → (0 == terms.depth) ≡ false
-      → own_step {A = A} terms (rest image next last count) (Arrive 0 0 m)
-      ≡ record { state = waiting image next (Some (limit_tag terms (rest image next last count) 0)) (count + 1) m; answer = said.Accepted next (limit_tag terms (rest image next last count) 0) }
+      → own_step {A = A} terms (rest image next last rates count) (Arrive 0 0 m)
+      ≡ record { state = waiting image next (Some (limit_tag (rest image next last rates count) 0)) rates (count + 1) m; answer = said.Accepted next (limit_tag (rest image next last rates count) 0) }
   arrives_accepted fresh room good deep = rw (fresh, room, good, deep) refl
 
-  pub picks : own_step {A = A} terms (waiting image next last count m) Pick ≡ record { state = being_out image next last (count + 1) m; answer = said.Picked next }
+  pub picks : own_step {A = A} terms (waiting image next last rates count m) Pick ≡ record { state = being_out image next last rates (count + 1) m; answer = said.Picked next }
   picks = refl
 
-  pub performs : own_step {A = A} terms (being_out image next last count m) (Perform next true)
-      ≡ record { state = holding (image_after image m) (next + 1) last (count + 1) (record { error = 0; cookie = m.head.cookie; content = data_of image m }); answer = said.Performed true }
+  pub performs : own_step {A = A} terms (being_out image next last rates count m) (Perform next true)
+      ≡ record { state = holding (image_after image m) (next + 1) last rates (count + 1) (record { error = 0; cookie = m.head.cookie; content = data_of image m }); answer = said.Performed true }
   performs = let same : (next == next) ≡ true = eq-eqb next next refl in rw (same, same) refl
 
-module _ {A : Type 0} (terms : Terms) (image : List ℕ) (next : ℕ) (last : Option ℤ) (count : ℕ) (reply : ReplyMessage) where
-  pub takes : own_step {A = A} terms (holding image next last count reply) (Take 0) ≡ record { state = rest image next last (count + 1); answer = said.Reply reply }
+module _ {A : Type 0} (terms : Terms) (image : List ℕ) (next : ℕ) (last : Option ℤ) (rates : Intervals) (count : ℕ) (reply : ReplyMessage) where
+  pub takes : own_step {A = A} terms (holding image next last rates count reply) (Take 0) ≡ record { state = rest image next last rates (count + 1); answer = said.Reply reply }
   takes = refl
 
 -- ---- whether the export is worn
@@ -78,8 +79,8 @@ worn_or_not terms state m = by (arriving terms state m).answer
 
 -- ---- all steps for one request
 
-same_count : (image : List ℕ) (next : ℕ) (last : Option ℤ) (a b : ℕ) → a ≡ b → rest image next last a ≡ rest image next last b
-same_count image next last a b e = ap (λ (n : ℕ). rest image next last n) e
+same_count : (image : List ℕ) (next : ℕ) (last : Option ℤ) (rates : Intervals) (a b : ℕ) → a ≡ b → rest image next last rates a ≡ rest image next last rates b
+same_count image next last rates a b e = ap (λ (n : ℕ). rest image next last rates n) e
 
 -- the reply where the verdict is this
 abbrev pub reply_at : ℕ → ℕ → List ℕ → ReplyMessage
@@ -91,37 +92,37 @@ done_reply v cookie content good = let e : v ≡ 0 = eqb-true v 0 good in rw e r
 pub refused_reply : (v cookie : ℕ) (content : List ℕ) → (v == 0) ≡ false → record { error = v; cookie = cookie; content = [] } ≡ reply_at v cookie content
 refused_reply v cookie content bad = rw bad refl
 
-module _ (terms : Terms) (image : List ℕ) (next : ℕ) (last : Option ℤ) (count : ℕ) (m : RequestMessage) where
+module _ (terms : Terms) (image : List ℕ) (next : ℕ) (last : Option ℤ) (rates : Intervals) (count : ℕ) (m : RequestMessage) where
   abbrev here : Alone
-  here = rest image next last count
+  here = rest image next last rates count
 
   abbrev tagged : Option ℤ
-  tagged = Some (limit_tag terms here 0)
+  tagged = Some (limit_tag here 0)
 
-  pub behind_refused : (verdict_of terms m == 0) ≡ false → rest image next last ((count + 1) + 1) ≡ behind terms here m
+  pub behind_refused : (verdict_of terms m == 0) ≡ false → rest image next last rates ((count + 1) + 1) ≡ behind terms here m
   unfolding behind
-  behind_refused bad = rw bad (same_count image next last ((count + 1) + 1) (count + 2) (omega arith))
+  behind_refused bad = rw bad (same_count image next last rates ((count + 1) + 1) (count + 2) (omega arith))
 
-  pub behind_accepted : (verdict_of terms m == 0) ≡ true → rest (image_after image m) (next + 1) tagged ((((count + 1) + 1) + 1) + 1) ≡ behind terms here m
+  pub behind_accepted : (verdict_of terms m == 0) ≡ true → rest (image_after image m) (next + 1) tagged rates ((((count + 1) + 1) + 1) + 1) ≡ behind terms here m
   unfolding behind
-  behind_accepted good = rw good (same_count (image_after image m) (next + 1) tagged ((((count + 1) + 1) + 1) + 1) (count + 4) (omega arith))
+  behind_accepted good = rw good (same_count (image_after image m) (next + 1) tagged rates ((((count + 1) + 1) + 1) + 1) (count + 4) (omega arith))
 
   after_by : nat_le (2 ^ 56) count ≡ false → (0 == terms.window) ≡ false → (0 == terms.depth) ≡ false → (good : Bool) → (verdict_of terms m == 0) ≡ good → after terms here m ≡ behind terms here m
   unfolding after arriving
   after_by fresh room deep false bad =
-      ap (λ (v : Moved (Unit {0})). alone terms v.state (steps_behind v.answer)) (arrives_refused terms image next last count m fresh room bad) ∙ behind_refused bad
+      ap (λ (v : Moved (Unit {0})). alone terms v.state (steps_behind v.answer)) (arrives_refused terms image next last rates count m fresh room bad) ∙ behind_refused bad
   after_by fresh room deep true good =
-      ap (λ (v : Moved (Unit {0})). alone terms v.state (steps_behind v.answer)) (arrives_accepted terms image next last count m fresh room good deep)
-      ∙ (ap (λ (v : Moved (Unit {0})). (own_step {A = Unit {0}} terms v.state (Take 0)).state) (performs terms image next tagged ((count + 1) + 1) m) ∙ behind_accepted good)
+      ap (λ (v : Moved (Unit {0})). alone terms v.state (steps_behind v.answer)) (arrives_accepted terms image next last rates count m fresh room good deep)
+      ∙ (ap (λ (v : Moved (Unit {0})). (own_step {A = Unit {0}} terms v.state (Take 0)).state) (performs terms image next tagged rates ((count + 1) + 1) m) ∙ behind_accepted good)
 
   said_by : nat_le (2 ^ 56) count ≡ false → (0 == terms.window) ≡ false → (0 == terms.depth) ≡ false → (good : Bool) → (verdict_of terms m == 0) ≡ good → reply_to terms here m ≡ reply_text (reply_of terms image m)
   unfolding reply_to arriving
   said_by fresh room deep false bad =
-      ap (λ (v : Moved (Unit {0})). flat_map sent (answers_alone terms v.state (steps_behind v.answer))) (arrives_refused terms image next last count m fresh room bad)
+      ap (λ (v : Moved (Unit {0})). flat_map sent (answers_alone terms v.state (steps_behind v.answer))) (arrives_refused terms image next last rates count m fresh room bad)
       ∙ (append-nil (reply_text (record { error = verdict_of terms m; cookie = m.head.cookie; content = [] })) ∙ ap reply_text (refused_reply (verdict_of terms m) m.head.cookie (data_of image m) bad))
   said_by fresh room deep true good =
-      ap (λ (v : Moved (Unit {0})). flat_map sent (answers_alone terms v.state (steps_behind v.answer))) (arrives_accepted terms image next last count m fresh room good deep)
-      ∙ (ap (λ (v : Moved (Unit {0})). flat_map sent (said.Picked next ∷ v.answer ∷ (own_step {A = Unit {0}} terms v.state (Take 0)).answer ∷ [])) (performs terms image next tagged ((count + 1) + 1) m)
+      ap (λ (v : Moved (Unit {0})). flat_map sent (answers_alone terms v.state (steps_behind v.answer))) (arrives_accepted terms image next last rates count m fresh room good deep)
+      ∙ (ap (λ (v : Moved (Unit {0})). flat_map sent (said.Picked next ∷ v.answer ∷ (own_step {A = Unit {0}} terms v.state (Take 0)).answer ∷ [])) (performs terms image next tagged rates ((count + 1) + 1) m)
       ∙ (append-nil (reply_text (record { error = 0; cookie = m.head.cookie; content = data_of image m })) ∙ ap reply_text (done_reply (verdict_of terms m) m.head.cookie (data_of image m) good)))
 
 -- what a request comes to at an export at rest
@@ -138,9 +139,9 @@ turn terms state m depth window rests few =
     let room = not_zero terms.window window in
     let deep = not_zero terms.depth depth in
     let is = at_rest state rests in
-    let t : IsTurn terms (rest state.image state.next state.last state.count) m = record {
-      said = said_by terms state.image state.next state.last state.count m fresh room deep (verdict_of terms m == 0) refl;
-      state = after_by terms state.image state.next state.last state.count m fresh room deep (verdict_of terms m == 0) refl;
+    let t : IsTurn terms (rest state.image state.next state.last state.rates state.count) m = record {
+      said = said_by terms state.image state.next state.last state.rates state.count m fresh room deep (verdict_of terms m == 0) refl;
+      state = after_by terms state.image state.next state.last state.rates state.count m fresh room deep (verdict_of terms m == 0) refl;
     } in
     subst (λ (s : Alone). IsTurn terms s m) (sym is) t
 
@@ -179,9 +180,9 @@ few_steps terms m =
 
 -- ---- worn
 
-worn_at : (terms : Terms) (image : List ℕ) (next : ℕ) (last : Option ℤ) (count : ℕ) (m : RequestMessage) → 2 ^ 56 ≤ count → FindsWorn terms (rest image next last count) m
+worn_at : (terms : Terms) (image : List ℕ) (next : ℕ) (last : Option ℤ) (rates : Intervals) (count : ℕ) (m : RequestMessage) → 2 ^ 56 ≤ count → FindsWorn terms (rest image next last rates count) m
 unfolding arriving
-worn_at terms image next last count m h = ap (λ (v : Moved (Unit {0})). v.answer) (arrives_worn terms image next last count m (le-leb (2 ^ 56) count h))
+worn_at terms image next last rates count m h = ap (λ (v : Moved (Unit {0})). v.answer) (arrives_worn terms image next last rates count m (le-leb (2 ^ 56) count h))
 
 abbrev Answer : Type 0
 Answer = StepAnswer (Unit {0})
@@ -192,22 +193,22 @@ answered_fresh error e = cc
 accepted_fresh : (n : ℕ) (tag : ℤ) → (let a : Answer = said.Accepted n tag in a ≡ said.Worn) → ⊥
 accepted_fresh n tag e = cc
 
-fresh_at : (terms : Terms) (image : List ℕ) (next : ℕ) (last : Option ℤ) (count : ℕ) (m : RequestMessage) → 0 < terms.depth → 0 < terms.window → count < 2 ^ 56 → (good : Bool) → (verdict_of terms m == 0) ≡ good
-    → FindsWorn terms (rest image next last count) m → ⊥
+fresh_at : (terms : Terms) (image : List ℕ) (next : ℕ) (last : Option ℤ) (rates : Intervals) (count : ℕ) (m : RequestMessage) → 0 < terms.depth → 0 < terms.window → count < 2 ^ 56 → (good : Bool) → (verdict_of terms m == 0) ≡ good
+    → FindsWorn terms (rest image next last rates count) m → ⊥
 unfolding arriving
-fresh_at terms image next last count m depth window few false bad worn =
-    let e = ap (λ (v : Moved (Unit {0})). v.answer) (arrives_refused {A = Unit {0}} terms image next last count m (lt-leb (2 ^ 56) count few) (not_zero terms.window window) bad) in
+fresh_at terms image next last rates count m depth window few false bad worn =
+    let e = ap (λ (v : Moved (Unit {0})). v.answer) (arrives_refused {A = Unit {0}} terms image next last rates count m (lt-leb (2 ^ 56) count few) (not_zero terms.window window) bad) in
     absurd (answered_fresh (verdict_of terms m) (sym e ∙ worn))
-fresh_at terms image next last count m depth window few true good worn =
-    let e = ap (λ (v : Moved (Unit {0})). v.answer) (arrives_accepted {A = Unit {0}} terms image next last count m (lt-leb (2 ^ 56) count few) (not_zero terms.window window) good (not_zero terms.depth depth)) in
-    absurd (accepted_fresh next (limit_tag terms (rest image next last count) 0) (sym e ∙ worn))
+fresh_at terms image next last rates count m depth window few true good worn =
+    let e = ap (λ (v : Moved (Unit {0})). v.answer) (arrives_accepted {A = Unit {0}} terms image next last rates count m (lt-leb (2 ^ 56) count few) (not_zero terms.window window) good (not_zero terms.depth depth)) in
+    absurd (accepted_fresh next (limit_tag (rest image next last rates count) 0) (sym e ∙ worn))
 
 pub finds_worn : (terms : Terms) (state : Alone) (m : RequestMessage) → IsAtRest state → 2 ^ 56 ≤ state.count → FindsWorn terms state m
-finds_worn terms state m rests h = subst (λ (s : Alone). FindsWorn terms s m) (sym (at_rest state rests)) (worn_at terms state.image state.next state.last state.count m h)
+finds_worn terms state m rests h = subst (λ (s : Alone). FindsWorn terms s m) (sym (at_rest state rests)) (worn_at terms state.image state.next state.last state.rates state.count m h)
 
 pub finds_fresh : (terms : Terms) (state : Alone) (m : RequestMessage) → 0 < terms.depth → 0 < terms.window → IsAtRest state → state.count < 2 ^ 56 → FindsWorn terms state m → ⊥
 finds_fresh terms state m depth window rests few worn =
-    fresh_at terms state.image state.next state.last state.count m depth window few (verdict_of terms m == 0) refl (subst (λ (s : Alone). FindsWorn terms s m) (at_rest state rests) worn)
+    fresh_at terms state.image state.next state.last state.rates state.count m depth window few (verdict_of terms m == 0) refl (subst (λ (s : Alone). FindsWorn terms s m) (at_rest state rests) worn)
 
 -- ---- the session is attached
 

@@ -103,5 +103,5 @@ pub record IsIdle (w : Whole) : Type 0 where
 unfoldable pub behind : Terms → Alone → RequestMessage → Alone
 behind terms state m =
     if verdict_of terms m == 0
-    then record state { image = image_after state.image m; next = state.next + 1; last = Some (limit_tag terms state 0); count = state.count + 4 }
+    then record state { image = image_after state.image m; next = state.next + 1; last = Some (limit_tag state 0); count = state.count + 4 }
     else record state { count = state.count + 2 }

@@ -94,13 +94,18 @@ fn copy_answer<A: Read + Drop, O: Write + Drop>(
         if line.as_slice() == b"\n".as_slice() {
             break;
         }
-        refused = refused || line.starts_with(b"refused ");
+        refused = refused || is_refused(line.as_slice());
     }
     match output.flush() {
         Err(_) => Told::NoOutput,
         Ok(()) if refused => Told::Refused,
         Ok(()) => Told::Answered,
     }
+}
+
+/// Whether a line of an answer says that nothing was done.
+fn is_refused(line: &[u8]) -> bool {
+    line.starts_with(b"refused ") || line == b"busy\n".as_slice()
 }
 
 #[cfg(test)]
@@ -145,6 +150,23 @@ mod tests {
                 refused
             )
         );
+    }
+
+    #[test]
+    fn a_retune_that_is_not_made(rt: HostRuntime) {
+        let alloc = rt.alloc();
+        let lines = b"retune a 0 0 1\n".as_slice();
+        let refused = Ending::Ran(Outcome::Refused);
+        assert!(rt;
+            is_told(
+                alloc,
+                lines,
+                b"retuned\n\n",
+                lines,
+                Ending::Ran(Outcome::Done)
+            )
+        );
+        assert!(rt; is_told(alloc, lines, b"busy\n\n", lines, refused));
     }
 
     #[test]

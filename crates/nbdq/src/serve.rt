@@ -1,11 +1,14 @@
 //! `nbdq serve`: from the command line and the configuration to the last line.
 
+#[cfg(test)]
+mod tests;
+
 use crate::serving::serve_on;
 use nbd_commands::Config;
 use nbd_service::policy::CONNECTIONS;
 use nbd_service::{ServeFault, room_for_connections};
 use nbd_session::Counted;
-use nbdq_cli::{Ending, Outcome, ServeTask, read_offer};
+use nbdq_cli::{Ending, Outcome, ServeTask, read_offer, write_warnings};
 use std::alloc::Global;
 use std::fs::{Files, Permissions, remove_file, set_permissions};
 use std::io;
@@ -45,7 +48,7 @@ where
         Ok(config) => config,
         Err(outcome) => return Ending::Ran(outcome),
     };
-    // The socket's file is made last, so that a start that fails leaves none behind.
+    // The sockets' files are made last, so that a start that fails leaves none behind.
     let Ok(tcp) = bind_tcp(rt, address) else {
         return Ending::CannotListen;
     };
@@ -73,6 +76,7 @@ fn serve_listeners<R: Print + Eprint + AllocGlobal + Wait + Threads + Sync + Clo
     unix: Option<UnixListener>,
     control: Option<UnixListener>,
 ) -> Ending {
+    warn(rt, config);
     if let Some(room) = room_for_connections() {
         if room < CONNECTIONS {
             let _ = eprintln!(rt;
@@ -90,6 +94,17 @@ fn serve_listeners<R: Print + Eprint + AllocGlobal + Wait + Threads + Sync + Clo
         },
         Err(ServeFault::NoMemory) => Ending::Ran(Outcome::NoMemory),
         Err(ServeFault::Listen) => Ending::CannotListen,
+    }
+}
+
+/// Says what is odd in a configuration, and legal. Where memory is refused or standard error fails, it serves all the same.
+fn warn<R: Eprint + AllocGlobal>(rt: &R, config: &Config<Global>) {
+    let mut text = Vec::new(rt.alloc());
+    if write_warnings(config, &mut text).is_err() {
+        return;
+    }
+    if let Ok(text) = String::from_utf8(text) {
+        let _ = rt.eprint(text);
     }
 }
 
@@ -144,7 +159,7 @@ fn remove_socket<R: Files>(rt: &R, path: &Option<String>) {
     }
 }
 
-/// Makes the file of the socket, which stays when the server ends.
+/// Makes the file of a socket.
 fn bind_unix<R: Net + Files>(rt: &R, path: &Option<String>) -> io::Result<Option<UnixListener>> {
     match path {
         Some(path) => Ok(Some(UnixListener::bind(rt, path.as_str())?)),

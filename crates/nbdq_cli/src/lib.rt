@@ -6,8 +6,10 @@ mod checking;
 mod command_line;
 mod crew;
 mod outcome;
+mod warnings;
 
 pub use checking::{check_text, read_offer};
 pub use command_line::{ControlTask, Job, ServeTask, Task, asked_job, read_command_line};
 pub use crew::{Crew, Sessions};
 pub use outcome::{Ending, Outcome, end_of_refusal, status, status_of_end, text, text_of_end};
+pub use warnings::write_warnings;

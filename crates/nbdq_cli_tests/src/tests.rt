@@ -1,2 +1,3 @@
 mod checks;
 mod command_lines;
+mod warnings;

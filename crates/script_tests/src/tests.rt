@@ -3,4 +3,6 @@ mod faults;
 mod pieces;
 mod replays;
 mod scripts;
+mod streams;
 mod talks;
+mod texts;

@@ -106,10 +106,10 @@ module _ (A : Type 0) where
 pub part_range : (ms : List Standing) (slots : List (Option Tags)) (asked now inflight served e : ℕ) (m : Standing) → IsServed ms slots asked now inflight served → e < length ms → m ≡ get_or ms e m → TagsInRange m.part
 part_range ms slots asked now inflight served e m kept lt at = part_at TagsInRange (parts ms) e m.part (before_way (parts ms) slots asked now inflight served kept.server) (within_parts ms e lt) (part_there ms e m lt at)
 
-pub terms_short : (ms : List Standing) (slots : List (Option Tags)) (asked now inflight served e : ℕ) (m : Standing) → IsServed ms slots asked now inflight served → e < length ms → m ≡ get_or ms e m → AreShort m.part.terms
-terms_short ms slots asked now inflight served e m kept lt at =
+pub rates_short : (ms : List Standing) (slots : List (Option Tags)) (asked now inflight served e : ℕ) (m : Standing) → IsServed ms slots asked now inflight served → e < length ms → m ≡ get_or ms e m → AreShort m.part.rates
+rates_short ms slots asked now inflight served e m kept lt at =
     let one : IsPart (total (parts ms)) m.part = part_at (IsPart (total (parts ms))) (parts ms) e m.part kept.server.each (within_parts ms e lt) (part_there ms e m lt at) in
-    one.terms
+    one.rates
 
 fall_range : (total t : ℕ) (z : ℤ) → total ≤ 2 ^ 62 → t < 2 ^ 62 → Within 0 (total * 2 ^ 63) z → InRange (z -ℤ pos t)
 fall_range total t (pos n) few small h = record { in_range = let up = h.not_above in search (arith, ints) }

@@ -49,7 +49,7 @@ module _ {A : Type 0} where
   is_accepted said = false
 
 module _ (A : Type 0) where
-  pub accepts : (terms : Terms) (state : Alone) (s t : ℕ) (q : RequestMessage) → Admits terms state s q → own_step {A = A} terms state (Arrive s t q) ≡ accepted terms state s t q
+  pub accepts : (terms : Terms) (state : Alone) (s t : ℕ) (q : RequestMessage) → Admits terms state s q → own_step {A = A} terms state (Arrive s t q) ≡ accepted state s t q
   accepts terms state s t q a = skip _ _ _ (ap not a.is_open) (skip _ _ _ a.young (skip _ _ _ a.spare (skip _ _ _ (ap not a.fine) (skip _ _ _ a.shallow refl))))
 
   abbrev Refused : Alone → Moved A → Type 0
@@ -112,14 +112,14 @@ pub record Waits (A : Type 0) (m : Kept) (new : Whole) (s t n : ℕ) (tag : ℤ)
   pub pushed : waiting ≡ m.waiting ++ one ∷ []
 
 abbrev pub kept_waiting : Kept → Whole → Share → List Tags → ℕ → Kept
-kept_waiting m new share waiting room = record { whole = new; journal = m.journal; room = m.room; share = share; interval = m.interval; waiting = waiting; waiting_room = room; out = m.out; out_room = m.out_room }
+kept_waiting m new share waiting room = record { whole = new; journal = m.journal; room = m.room; share = share; waiting = waiting; waiting_room = room; out = m.out; out_room = m.out_room }
 
 -- the state of the export alone
-abbrev pub state_waiting : Terms → Alone → ℕ → ℕ → RequestMessage → Alone
-state_waiting terms state s t q = record state { waiting = state.waiting ++ record { number = state.next; session = s; request = q } ∷ []; next = state.next + 1; last = Some (limit_tag terms state t); count = state.count + 1 }
+abbrev pub state_waiting : Alone → ℕ → ℕ → RequestMessage → Alone
+state_waiting state s t q = record state { waiting = state.waiting ++ record { number = state.next; session = s; request = q } ∷ []; next = state.next + 1; last = Some (limit_tag state t); count = state.count + 1 }
 
 module _ (A : Type 0) where
-  accepted_is : (old new : Whole) (s t n : ℕ) (tag : ℤ) (q : RequestMessage) → Does {A = A} old new (Arrive s t q) (Accepted n tag) → record { state = new.state; answer = Accepted n tag } ≡ accepted {A = A} old.terms old.state s t q
+  accepted_is : (old new : Whole) (s t n : ℕ) (tag : ℤ) (q : RequestMessage) → Does {A = A} old new (Arrive s t q) (Accepted n tag) → record { state = new.state; answer = Accepted n tag } ≡ accepted {A = A} old.state s t q
   accepted_is old new s t n tag q does = sym does.did ∙ accepts A old.terms old.state s t q (was_admitted A old new s t n tag q does)
 
   abbrev number_told : StepAnswer A → ℕ
@@ -133,13 +133,13 @@ module _ (A : Type 0) where
   pub number_is : (old new : Whole) (s t n : ℕ) (tag : ℤ) (q : RequestMessage) → Does {A = A} old new (Arrive s t q) (Accepted n tag) → n ≡ old.state.next
   number_is old new s t n tag q does = ap (λ (m : Moved A). number_told m.answer) (accepted_is old new s t n tag q does)
 
-  pub tag_is : (old new : Whole) (s t n : ℕ) (tag : ℤ) (q : RequestMessage) → Does {A = A} old new (Arrive s t q) (Accepted n tag) → tag ≡ limit_tag old.terms old.state t
+  pub tag_is : (old new : Whole) (s t n : ℕ) (tag : ℤ) (q : RequestMessage) → Does {A = A} old new (Arrive s t q) (Accepted n tag) → tag ≡ limit_tag old.state t
   tag_is old new s t n tag q does = ap (λ (m : Moved A). tag_told m.answer) (accepted_is old new s t n tag q does)
 
-  pub tag_fits : (old new : Whole) (s t n : ℕ) (tag : ℤ) (q : RequestMessage) → Does {A = A} old new (Arrive s t q) (Accepted n tag) → IsOptionInRange old.state.last → old.terms.l_interval ≤ 2 ^ 30 → t < 2 ^ 62 → FitsSigned w128 tag
-  tag_fits old new s t n tag q does range short small = subst (FitsSigned w128) (sym (tag_is old new s t n tag q does)) (later_fits old.state.last old.terms.l_interval t range short small)
+  pub tag_fits : (old new : Whole) (s t n : ℕ) (tag : ℤ) (q : RequestMessage) → Does {A = A} old new (Arrive s t q) (Accepted n tag) → IsOptionInRange old.state.last → old.state.rates.l_interval ≤ 2 ^ 30 → t < 2 ^ 62 → FitsSigned w128 tag
+  tag_fits old new s t n tag q does range short small = subst (FitsSigned w128) (sym (tag_is old new s t n tag q does)) (later_fits old.state.last old.state.rates.l_interval t range short small)
 
-  whole_waiting : (old new : Whole) (s t n : ℕ) (tag : ℤ) (q : RequestMessage) → Does {A = A} old new (Arrive s t q) (Accepted n tag) → new.slots ≡ old.slots → new ≡ record old { state = state_waiting old.terms old.state s t q }
+  whole_waiting : (old new : Whole) (s t n : ℕ) (tag : ℤ) (q : RequestMessage) → Does {A = A} old new (Arrive s t q) (Accepted n tag) → new.slots ≡ old.slots → new ≡ record old { state = state_waiting old.state s t q }
   whole_waiting old new s t n tag q does slots =
       ap (λ k. record new { terms = k }) does.terms
       ∙ ap (λ i. record { terms = old.terms; inflight = i; state = new.state; slots = new.slots }) does.inflight
@@ -157,9 +157,9 @@ module _ (A : Type 0) where
       ap (λ o. record m.share { last_r = option_map (λ interval. later m.share.last_r interval t) o; last_p = Some (p_tag m.share t) }) h.r_interval
       ∙ ap (λ interval. record m.share { last_r = (part_tags (part_of m) t).r; last_p = Some (later m.share.last_p interval t) }) h.p_interval
 
-  kept_is : (m : Kept) (new : Whole) (s t n room : ℕ) (tag : ℤ) (q : RequestMessage) (share : Share) (one : Tags) (waiting : List Tags) → IsMember m → Waits A m new s t n tag q share one waiting → kept_waiting m new share waiting room ≡ kept_waiting m (record m.whole { state = state_waiting m.whole.terms m.whole.state s t q }) (record m.share { last_r = (part_tags (part_of m) t).r; last_p = Some (part_tags (part_of m) t).p }) (m.waiting ++ part_tags (part_of m) t ∷ []) room
+  kept_is : (m : Kept) (new : Whole) (s t n room : ℕ) (tag : ℤ) (q : RequestMessage) (share : Share) (one : Tags) (waiting : List Tags) → IsMember m → Waits A m new s t n tag q share one waiting → kept_waiting m new share waiting room ≡ kept_waiting m (record m.whole { state = state_waiting m.whole.state s t q }) (record m.share { last_r = (part_tags (part_of m) t).r; last_p = Some (part_tags (part_of m) t).p }) (m.waiting ++ part_tags (part_of m) t ∷ []) room
   kept_is m new s t n room tag q share one waiting h w =
-      let whole = record m.whole { state = state_waiting m.whole.terms m.whole.state s t q } in
+      let whole = record m.whole { state = state_waiting m.whole.state s t q } in
       let after : Share = record m.share { last_r = (part_tags (part_of m) t).r; last_p = Some (part_tags (part_of m) t).p } in
       ap (λ (x : Whole). kept_waiting m x share waiting room) (whole_waiting m.whole new s t n tag q w.does w.slots)
       ∙ ap (λ (x : Share). kept_waiting m whole x waiting room) (w.clock ∙ share_is m t h)
@@ -188,14 +188,13 @@ module _ (A : Type 0) where
         sent = h.sent;
         seated = h.seated;
         r_interval = h.r_interval;
-        interval = h.interval;
         p_interval = h.p_interval;
         few = omega arith;
         waiting_room = omega arith;
         out_room = h.out_room;
       })
 
-pub p_fits : (m : Kept) (t : ℕ) → IsMember m → IsOptionInRange m.share.last_p → m.whole.terms.p_interval ≤ 2 ^ 30 → t < 2 ^ 62 → FitsSigned w128 (p_tag m.share t)
+pub p_fits : (m : Kept) (t : ℕ) → IsMember m → IsOptionInRange m.share.last_p → m.whole.state.rates.p_interval ≤ 2 ^ 30 → t < 2 ^ 62 → FitsSigned w128 (p_tag m.share t)
 p_fits m t h range short small = later_fits m.share.last_p m.share.p_interval t range (subst (λ n. n ≤ 2 ^ 30) (sym h.p_interval) short) small
 
 pub refusal_is : (A : Type 0) (e : ArriveRefusal) → is_accepted (refusal_said {A = A} e) ≡ false

@@ -36,9 +36,9 @@ above_r (Some tag) last None t k h = absurd k
 above_r None last (Some interval) t k h = absurd k
 above_r (Some tag) last (Some interval) t k h = above tag last interval t h
 
-above_all : (p : Part) (t : ℕ) (entries : List Entry) → AllEntries (λ e. SameKind p.terms.r_interval e.tags.r) entries → AllEntries (BelowLast p) entries → AllEntries (λ e. Before e.tags (part_tags p t)) entries
+above_all : (p : Part) (t : ℕ) (entries : List Entry) → AllEntries (λ e. SameKind p.rates.r_interval e.tags.r) entries → AllEntries (BelowLast p) entries → AllEntries (λ e. Before e.tags (part_tags p t)) entries
 above_all p t [] k b = tt
-above_all p t (e ∷ es) k b = (record { r = above_r e.tags.r p.last_r p.terms.r_interval t k.0 b.0.r; l = above e.tags.l p.last_l p.terms.l_interval t b.0.l; p = above e.tags.p p.last_p p.terms.p_interval t b.0.p }, above_all p t es k.1 b.1)
+above_all p t (e ∷ es) k b = (record { r = above_r e.tags.r p.last_r p.rates.r_interval t k.0 b.0.r; l = above e.tags.l p.last_l p.rates.l_interval t b.0.l; p = above e.tags.p p.last_p p.rates.p_interval t b.0.p }, above_all p t es k.1 b.1)
 
 same : (z : ℤ) → TagBefore (Some z) (Some z)
 same z = omega (arith, ints)
@@ -79,21 +79,21 @@ part_accepted_kept total s t q p h room lt =
     let n : length (p.waiting ++ x ∷ []) ≡ length p.waiting + 1 = length-append p.waiting (x ∷ []) in
     let some = h.waiting in
     let picks : (p.next + 1) - length (p.waiting ++ x ∷ []) ≡ k = omega arith in
-    let new : TagsWithin (total + 1) (p.next + 1) k tags = record { r = r_within k p.next t p.last_r p.terms.r_interval h.last_r h.terms.reservation lt; l = own_within 0 p.next p.terms.l_interval t p.last_l h.last_l h.terms.limit lt; p = next_within total p.terms.p_interval t p.last_p h.last_p h.terms.weight lt } in
+    let new : TagsWithin (total + 1) (p.next + 1) k tags = record { r = r_within k p.next t p.last_r p.rates.r_interval h.last_r h.rates.reservation lt; l = own_within 0 p.next p.rates.l_interval t p.last_l h.last_l h.rates.limit lt; p = next_within total p.rates.p_interval t p.last_p h.last_p h.rates.weight lt } in
     let joined = append_assoc p.out p.waiting (x ∷ []) in
     let after = accepted_part s q tags p in
-    let below_old : (e : Entry) → SameKind p.terms.r_interval e.tags.r × BelowLast p e → BelowLast after e = λ e kb. record { r = above_r e.tags.r p.last_r p.terms.r_interval t kb.0 kb.1.r; l = above e.tags.l p.last_l p.terms.l_interval t kb.1.l; p = above e.tags.p p.last_p p.terms.p_interval t kb.1.p } in
+    let below_old : (e : Entry) → SameKind p.rates.r_interval e.tags.r × BelowLast p e → BelowLast after e = λ e kb. record { r = above_r e.tags.r p.last_r p.rates.r_interval t kb.0 kb.1.r; l = above e.tags.l p.last_l p.rates.l_interval t kb.1.l; p = above e.tags.p p.last_p p.rates.p_interval t kb.1.p } in
     record {
-      terms = h.terms;
+      rates = h.rates;
       accepted = omega arith;
       counted = let c = h.counted in omega arith;
       waiting = omega arith;
       rising = rising_push p.waiting x h.rising (above_all p t p.waiting h.kinds h.below);
       numbered = subst IsNumbered joined (numbered_push (p.out ++ p.waiting) x h.numbered h.numbers);
       numbers = subst (AllEntries (λ e. e.number < p.next + 1)) joined (all_push (λ e. e.number < p.next) (λ e. e.number < p.next + 1) (λ e lt. omega arith) (p.out ++ p.waiting) x h.numbers (omega arith));
-      below = all_push (λ e. SameKind p.terms.r_interval e.tags.r × BelowLast p e) (BelowLast after) below_old p.waiting x (all_both (λ e. SameKind p.terms.r_interval e.tags.r) (BelowLast p) p.waiting h.kinds h.below) (record { r = same_option tags.r; l = same tags.l; p = same tags.p });
-      kinds = all_push (λ e. SameKind p.terms.r_interval e.tags.r) (λ e. SameKind p.terms.r_interval e.tags.r) (λ e k. k) p.waiting x h.kinds (new_kind p.last_r p.terms.r_interval t);
-      last_kind = new_last_kind p.last_r p.terms.r_interval t;
+      below = all_push (λ e. SameKind p.rates.r_interval e.tags.r × BelowLast p e) (BelowLast after) below_old p.waiting x (all_both (λ e. SameKind p.rates.r_interval e.tags.r) (BelowLast p) p.waiting h.kinds h.below) (record { r = same_option tags.r; l = same tags.l; p = same tags.p });
+      kinds = all_push (λ e. SameKind p.rates.r_interval e.tags.r) (λ e. SameKind p.rates.r_interval e.tags.r) (λ e k. k) p.waiting x h.kinds (new_kind p.last_r p.rates.r_interval t);
+      last_kind = new_last_kind p.last_r p.rates.r_interval t;
       tags = subst (λ j. AllEntries (λ e. TagsWithin (total + 1) (p.next + 1) j e.tags) (p.waiting ++ x ∷ [])) (sym picks) (all_push (λ e. TagsWithin total p.next k e.tags) (λ e. TagsWithin (total + 1) (p.next + 1) k e.tags) (λ e w. more_tags total p.next k e.tags w) p.waiting x h.tags new);
       last_r = subst (λ j. IsOptionWithin (j * 2 ^ 30) (2 ^ 62 + (p.next + 1) * 2 ^ 30) tags.r) (sym picks) new.r;
       last_l = new.l;

@@ -7,6 +7,7 @@ use Rattle.std.proofs.lemmas.List.Sums.{sum_by-set, sum_by-cons, get_or-le-sum_b
 use Rattle.std.proofs.lemmas.Option.{slice_get-get_or}
 use Rattle.nbd_wire.specs.Grammar.{RequestMessage}
 use Rattle.tag_clock.specs.declared.Tags.{Tags}
+use Rattle.tag_clock.specs.Intervals.{no_intervals}
 use Rattle.tag_clock.specs.declared.Phase.{Phase}
 use Rattle.tag_clock.specs.declared.Phase.TheVariants.{Reservation, Weight}
 use Rattle.eligibility.specs.Choice.{IsSlotInRange}
@@ -52,7 +53,7 @@ same_slots ps slots e p is at = is ∙ by ps e at ∙ ap (λ l. set l e (head_ta
 -- the requests stay
 seated_part : (t : ℕ) (state : Alone) (p : Part) → p.count ≤ state.count → IsPart t p → IsPart t (with_alone state p)
 seated_part t state p more h = record {
-  terms = h.terms;
+  rates = h.rates;
   accepted = h.accepted;
   counted = let c = h.counted in omega arith;
   waiting = h.waiting;
@@ -127,7 +128,7 @@ numbered_front (x ∷ xs) w h = (above_front x.number xs w h.0, numbered_front x
 
 done_part : (t n : ℕ) (state : Alone) (p : Part) → p.count ≤ state.count → IsPart t p → IsPart t (performed_part n state p)
 done_part t n state p more h = record {
-  terms = h.terms;
+  rates = h.rates;
   accepted = h.accepted;
   counted = let c = h.counted in omega arith;
   waiting = h.waiting;
@@ -165,7 +166,7 @@ some_served ps slots asked now inflight served e n p x kept lt at found =
 -- ---- a request is chosen
 picked_next : (phase : Phase) (p : Part) → (part_picked phase p).next ≡ p.next
 picked_next Reservation p = refl
-picked_next Weight p = by_interval p.terms.r_interval
+picked_next Weight p = by_interval p.rates.r_interval
   where
     by_interval : (o : Option ℕ) → (part_credited o (part_sent p)).next ≡ p.next
     by_interval None = refl
@@ -173,7 +174,7 @@ picked_next Weight p = by_interval p.terms.r_interval
 
 picked_out : (phase : Phase) (p : Part) → (part_picked phase p).out ≡ p.out ++ front p.waiting
 picked_out Reservation p = refl
-picked_out Weight p = by_interval p.terms.r_interval
+picked_out Weight p = by_interval p.rates.r_interval
   where
     by_interval : (o : Option ℕ) → (part_credited o (part_sent p)).out ≡ p.out ++ front p.waiting
     by_interval None = refl
@@ -209,7 +210,7 @@ module _ {A : Type 0} where
   )
     where
       some_part : Part
-      some_part = record { terms = record { size = 0; read_only = false; depth = 0; window = 0; r_interval = None; l_interval = 0; p_interval = 0 }; image = []; waiting = []; out = []; next = 0; last_r = None; last_l = None; last_p = None; sessions = []; count = 0 }
+      some_part = record { terms = record { size = 0; read_only = false; depth = 0; window = 0; rates = no_intervals }; image = []; waiting = []; out = []; next = 0; last_r = None; last_l = None; last_p = None; rates = no_intervals; sessions = []; count = 0 }
 
 pub few_out : (ps : List Part) (slots : List (Option Tags)) (asked now inflight served e : ℕ) (p : Part) → IsServer ps slots asked now inflight served → served < inflight → e < length ps → p ≡ get_or ps e p → length p.out < inflight
 few_out ps slots asked now inflight served e p kept free lt at =

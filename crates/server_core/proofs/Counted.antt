@@ -12,11 +12,11 @@ use Rattle.nbd_commands.specs.Meaning.{may_want_memory}
 use Rattle.nbd_wire.specs.Grammar.{RequestMessage}
 use Rattle.reply_box.specs.Sessions.{Session, is_here, is_open_at, is_left_at, is_here_at, outbox_at}
 use Rattle.server_table.specs.declared.event.Event.{Event}
-use Rattle.server_table.specs.declared.event.Event.TheVariants.{Attach, Arrive, Dispatch, Perform, Take, Leave, Gone}
+use Rattle.server_table.specs.declared.event.Event.TheVariants.{Attach, Arrive, Dispatch, Perform, Take, Leave, Gone, Retune}
 use Rattle.server_table.specs.declared.event.Answer.{Answer}
 use Rattle.server_table.specs.declared.event.Answer.TheVariants as said
 use Rattle.server_table.specs.Table.{Row, Side, Table, Setup, Choice, side, waits_in, is_idle, foremost, r_key, p_key, choice, shifted, due_by_reservation, due_by_limit, is_due_by_reservation, is_due_by_limit, lower_last_p, lower_last_r}
-use Rattle.server_table.specs.Steps.{Outcome, outcome, step, changed, seated, with_sessions, is_out_row, outstanding_in, new_row, sent, is_by_weight, with_credit, with_last, done_side, undone_side, accepted_in}
+use Rattle.server_table.specs.Steps.{Outcome, outcome, step, changed, seated, with_sessions, with_rates, is_out_row, outstanding_in, new_row, sent, is_by_weight, with_credit, with_last, done_side, undone_side, accepted_in}
 use Rattle.server_table.specs.Shares.{mark_of}
 use Rattle.tag_clock.specs.declared.Tags.{Tags}
 use Rattle.server_table.proofs.Dispatch.{outs_of}
@@ -85,11 +85,11 @@ same_shifted e t table =
     record { is = total_each f (λ k x. refl) 0 table.sides; long = length_each f 0 table.sides }) kept)
     kept
 
-same_credit : (setup : Setup) (chosen : Choice) (table : Table) → total (with_credit setup chosen table).sides ≡ total table.sides
-same_credit setup chosen table =
+same_credit : (chosen : Choice) (table : Table) → total (with_credit chosen table).sides ≡ total table.sides
+same_credit chosen table =
     let P : Table → Type 0 = λ new. total new.sides ≡ total table.sides in
     if_one P (is_by_weight chosen.phase)
-    (some_one P (slice_get setup.exports chosen.row.export) (λ terms h. some_one P terms.r_interval (λ by k. total_same (lower_last_r by) (λ x. refl) chosen.row.export table.sides) refl) refl)
+    (some_one P (side table chosen.row.export).rates.r_interval (λ by k. total_same (lower_last_r by) (λ x. refl) chosen.row.export table.sides) refl)
     refl
 
 -- ---- a row that is found is of an export that is there
@@ -144,10 +144,10 @@ module _ {A : Type 0} where
   seated_more : (table : Table) (e : ℕ) (sessions : List Session) (answer : Answer A) → e < length table.sides → rise answer ≡ 1 → Counts table (outcome (seated e sessions table) answer)
   seated_more table e sessions answer lt one = changed_more table e table.rows (with_sessions sessions) answer lt one
 
-  entered_more : (setup : Setup) (table : Table) (e s t : ℕ) (q : RequestMessage) (terms : Terms) → e < length table.sides → Counts table (accepted_in {A = A} terms e s t q (shifted e t table))
-  entered_more setup table e s t q terms lt =
+  entered_more : (table : Table) (e s t : ℕ) (q : RequestMessage) → e < length table.sides → Counts table (accepted_in {A = A} e s t q (shifted e t table))
+  entered_more table e s t q lt =
       let same = same_shifted e t table in
-      let row = new_row terms e s t q (side (shifted e t table) e) in
+      let row = new_row e s t q (side (shifted e t table) e) in
       one_more table (shifted e t table) e _ (with_last row) _ same.is (let long = same.long in omega (arith, long, lt)) refl
 
   counts : (setup : Setup) (table : Table) (event : Event A) (memory : Bool) → Fits setup table → Counts table (step setup table event memory)
@@ -168,14 +168,14 @@ module _ {A : Type 0} where
       (if_one P (not memory) (no_more table table said.NoMemory refl refl)
       (if_one P (not (verdict_of terms q == 0)) (seated_more table e _ _ lt refl)
       (if_one P (length (filter (waits_in e) table.rows) == terms.depth) (seated_more table e _ _ lt refl)
-      (entered_more setup table e s t q terms lt))))))) (no_more table table said.NoExport refl refl)
+      (entered_more table e s t q lt))))))) (no_more table table said.NoExport refl refl)
   counts setup table (Dispatch t) memory fits =
       let later : Table = record table { now = max table.now t } in
       let fits' : Fits setup later = record { sides = fits.sides; rows = fits.rows } in
       some_one (Counts table) (choice setup.inflight later) (λ chosen h.
       let lt = chosen_there setup later chosen fits' h in
       let more = total_more (λ (x : Side). record x { count = x.count + 1 }) (λ x. refl) chosen.row.export later.sides lt in
-      let same = same_credit setup chosen (sent chosen.row later) in
+      let same = same_credit chosen (sent chosen.row later) in
       record { is = same ∙ more }) (no_more table later said.Nothing refl refl)
   counts setup table (Perform e n) memory fits =
       let P = Counts table in
@@ -198,6 +198,13 @@ module _ {A : Type 0} where
       some_one P (slice_get setup.exports e) (λ terms h.
       if_one P (not (is_here_at (side table e).sessions s)) (no_more table table said.NotOpen refl refl)
       (seated_more table e _ _ (there setup table e terms fits h) refl)) (no_more table table said.NoExport refl refl)
+  counts setup table (Retune e rates) memory fits =
+      let P = Counts table in
+      some_one P (slice_get setup.exports e) (λ terms h.
+      if_one P (nat_le (2 ^ 56) (side table e).count) (no_more table table said.Worn refl refl)
+      (if_one P (not (length (filter (waits_in e) table.rows) == 0)) (no_more table table said.Waiting refl refl)
+      (if_one P (not memory) (no_more table table said.NoMemory refl refl)
+      (changed_more table e table.rows (with_rates rates) _ (there setup table e terms fits h) refl)))) (no_more table table said.NoExport refl refl)
 
 -- ---- as it is kept, export by export
 rows_there : (e n : ℕ) (ps : List Part) → e + length ps ≤ n → AllByRecursion (λ (row : Row). row.export < n) (rows_from e ps)

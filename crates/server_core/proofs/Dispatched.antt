@@ -31,7 +31,7 @@ use Rattle.server_core.proofs.Performed.{all_seats, seats_change, seats_there}
 
 picked_terms : (phase : Phase) (p : Part) → (part_picked phase p).terms ≡ p.terms
 picked_terms Reservation p = refl
-picked_terms Weight p = by_interval p.terms.r_interval
+picked_terms Weight p = by_interval p.rates.r_interval
   where
     by_interval : (o : Option ℕ) → (part_credited o (part_sent p)).terms ≡ p.terms
     by_interval None = refl

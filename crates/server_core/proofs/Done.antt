@@ -163,7 +163,6 @@ module _ (A : Type 0) where
         sent = numbers_without n m.whole.state.out m.out h.sent;
         seated = slots_length n m.whole.state.out m.whole.slots h.seated;
         r_interval = h.r_interval;
-        interval = h.interval;
         p_interval = h.p_interval;
         few = h.few;
         waiting_room = h.waiting_room;

@@ -75,7 +75,7 @@ more_total total n k tags h = record { r = h.r; l = h.l; p = record { not_below 
 
 part_more : (total : ℕ) (p : Part) → IsPart total p → IsPart (total + 1) p
 part_more total p h = record {
-  terms = h.terms;
+  rates = h.rates;
   accepted = h.accepted;
   counted = h.counted;
   waiting = h.waiting;
@@ -111,7 +111,7 @@ active_fallen total t m p x xs is hm lt first h =
     let head_below : BelowLast p x = (subst (AllEntries (BelowLast p)) is h.below).0 in
     let head_above : m ≤ℤ x.tags.p = (subst (AllEntries (λ e. m ≤ℤ e.tags.p)) is above).0 in
     record {
-      terms = h.terms;
+      rates = h.rates;
       accepted = h.accepted;
       counted = h.counted;
       waiting = subst (λ j. j ≤ p.next) (sym n) h.waiting;
@@ -119,7 +119,7 @@ active_fallen total t m p x xs is hm lt first h =
       numbered = numbered_behind f (λ e. refl) p.out p.waiting h.numbered;
       numbers = below_behind f (λ e. refl) p.next p.out p.waiting h.numbers;
       below = all_mapped f (BelowLast p) (BelowLast after) (λ e b. record { r = b.r; l = b.l; p = fallen_p d e.tags.p p.last_p b.p }) p.waiting h.below;
-      kinds = all_mapped f (λ e. SameKind p.terms.r_interval e.tags.r) (λ e. SameKind p.terms.r_interval e.tags.r) (λ e s. s) p.waiting h.kinds;
+      kinds = all_mapped f (λ e. SameKind p.rates.r_interval e.tags.r) (λ e. SameKind p.rates.r_interval e.tags.r) (λ e s. s) p.waiting h.kinds;
       last_kind = h.last_kind;
       tags = subst (λ j. AllEntries (λ e. TagsWithin (total + 1) p.next (p.next - j) e.tags) (map f p.waiting)) (sym n)
           (all_mapped f (λ e. (m ≤ℤ e.tags.p) × TagsWithin total p.next k e.tags) (λ e. TagsWithin (total + 1) p.next k e.tags) (λ e b. fallen_tags total p.next k t m e.tags hm b.0 lt b.1) p.waiting

@@ -119,6 +119,8 @@ module _ {A : Type 0} where
   alone_again e phase alone.Full = refl
   alone_again e phase alone.Hold = refl
   alone_again e phase alone.NotOut = refl
+  alone_again e phase alone.Retuned = refl
+  alone_again e phase alone.Waiting = refl
 
   -- a call of one export that is an own step
   pub moves_own : (ms : List Standing) (now now' inflight e : ℕ) (phase : Phase) (m m' : Standing) (step : Step A) (a : StepAnswer A) (answer : Answer A) → as_answer e phase a ≡ answer → e < length ms → m ≡ get_or ms e m → JournalMove m.part.terms step (Some a) m.journal m'.journal → CellMoves (served_of ms now inflight) e step (served_of (set ms e m') now' inflight) answer
@@ -196,7 +198,7 @@ live_is ps now e p lt at =
     let o : map job_of_entry p.out ≡ map job_of (filter (is_out_in e) (rows_from 0 ps)) = sym (ap (map job_of) (out_rows ps e 0 e p (omega arith) lt at) ∙ jobs_again e true p.out) in
     ap (λ (l : List Job). record (alone_of p) { waiting = l }) w
     ∙ ap (λ (l : List Job). record (alone_of p) { waiting = map job_of (filter (waits_in e) (rows_from 0 ps)); out = l }) o
-    ∙ ap (λ (x : Side). record { image = x.image; waiting = map job_of (filter (waits_in e) (rows_from 0 ps)); out = map job_of (filter (is_out_in e) (rows_from 0 ps)); next = x.next; last = x.last_l; sessions = x.sessions; count = x.count }) (sym (side_at ps now e p lt at))
+    ∙ ap (λ (x : Side). record { image = x.image; waiting = map job_of (filter (waits_in e) (rows_from 0 ps)); out = map job_of (filter (is_out_in e) (rows_from 0 ps)); next = x.next; last = x.last_l; rates = x.rates; sessions = x.sessions; count = x.count }) (sym (side_at ps now e p lt at))
 
 pub cell_of_export : (ms : List Standing) (now inflight e : ℕ) (m : Standing) (cell : Cell) → e < length ms → m ≡ get_or ms e m → m.inflight ≡ inflight → cell.live.terms ≡ m.part.terms → cell.live.inflight ≡ m.inflight → cell.live.state ≡ alone_of m.part → cell.journal ≡ m.journal → IsJournal cell.live cell.journal → IsCellOf (served_of ms now inflight) e cell
 cell_of_export ms now inflight e m cell lt at room terms few live journal kept = record {

@@ -22,3 +22,4 @@ pub mod Tagged
 pub mod NextDue
 pub mod Journals
 pub mod Cells
+pub mod Retuned

@@ -34,8 +34,8 @@ alone_back m h =
     let s = m.whole.state in
     let w = jobs_back s.waiting m.waiting h.tagged in
     let o = jobs_back s.out (sent_tags m.out) (sent_length m.out s.out h.sent) in
-    ap (λ l. record { image = s.image; waiting = l; out = map job_of_entry (entries_of s.out (sent_tags m.out)); next = s.next; last = s.last; sessions = s.sessions; count = s.count }) w
-    ∙ ap (λ l. record { image = s.image; waiting = s.waiting; out = l; next = s.next; last = s.last; sessions = s.sessions; count = s.count }) o
+    ap (λ l. record { image = s.image; waiting = l; out = map job_of_entry (entries_of s.out (sent_tags m.out)); next = s.next; last = s.last; rates = s.rates; sessions = s.sessions; count = s.count }) w
+    ∙ ap (λ l. record { image = s.image; waiting = s.waiting; out = l; next = s.next; last = s.last; rates = s.rates; sessions = s.sessions; count = s.count }) o
 
 -- ---- steps that leave the requests
 -- the state with the image, the sessions and the count of another
@@ -90,12 +90,12 @@ module _ {A : Type 0} where
   pub went_kept : (m : Kept) (new : Whole) (j : Journal) (r : ℕ) (step : Step A) (answer : StepAnswer A) → IsMember m → Does m.whole new step answer → new.slots ≡ m.whole.slots → KeepsRequests m.whole.terms m.whole.state step → IsMember (record m { whole = new; journal = j; room = r })
   went_kept m new j r step answer h does slots keeps =
       subst (λ (w : Whole). IsMember (record m { whole = w; journal = j; room = r })) (sym (same_whole m.whole new step answer does slots keeps))
-      (record { tagged = h.tagged; sent = h.sent; seated = h.seated; r_interval = h.r_interval; interval = h.interval; p_interval = h.p_interval; few = h.few; waiting_room = h.waiting_room; out_room = h.out_room })
+      (record { tagged = h.tagged; sent = h.sent; seated = h.seated; r_interval = h.r_interval; p_interval = h.p_interval; few = h.few; waiting_room = h.waiting_room; out_room = h.out_room })
 
 -- ---- the journal beside it
 -- what is kept of the requests doesn't depend on the journal
 pub relogged : (m : Kept) (j : Journal) (r : ℕ) → IsMember m → IsMember (record m { journal = j; room = r })
-relogged m j r h = record { tagged = h.tagged; sent = h.sent; seated = h.seated; r_interval = h.r_interval; interval = h.interval; p_interval = h.p_interval; few = h.few; waiting_room = h.waiting_room; out_room = h.out_room }
+relogged m j r h = record { tagged = h.tagged; sent = h.sent; seated = h.seated; r_interval = h.r_interval; p_interval = h.p_interval; few = h.few; waiting_room = h.waiting_room; out_room = h.out_room }
 
 pub logged_standing : (m : Kept) (new : Whole) (j : Journal) (r : ℕ) → new ≡ m.whole → standing_of (record m { whole = new; journal = j; room = r }) ≡ with_log j r (standing_of m)
 logged_standing m new j r is = ap (λ (w : Whole). standing_of (record m { whole = w; journal = j; room = r })) is

@@ -29,9 +29,9 @@ last_kind : (interval : Option ℕ) → LastKind interval None
 last_kind None = tt
 last_kind (Some interval) = tt
 
-new_part : (terms : Terms) → AreShort terms → IsPart 0 (opening_part terms)
+new_part : (terms : Terms) → AreShort terms.rates → IsPart 0 (opening_part terms)
 new_part terms h = record {
-  terms = h;
+  rates = h;
   accepted = omega arith;
   counted = omega arith;
   waiting = omega arith;
@@ -40,14 +40,14 @@ new_part terms h = record {
   numbers = tt;
   below = tt;
   kinds = tt;
-  last_kind = last_kind terms.r_interval;
+  last_kind = last_kind terms.rates.r_interval;
   tags = tt;
   last_r = tt;
   last_l = tt;
   last_p = tt;
 }
 
-new_parts : (inflight : ℕ) (xs : List Export) → All (λ (m : Standing). AreShort m.part.terms) (opened inflight xs) → AllParts (IsPart 0) (parts (opened inflight xs))
+new_parts : (inflight : ℕ) (xs : List Export) → All (λ (m : Standing). AreShort m.part.rates) (opened inflight xs) → AllParts (IsPart 0) (parts (opened inflight xs))
 new_parts inflight [] h = tt
 new_parts inflight (x ∷ xs) h = (new_part (terms_of x) (h 0 (opening_standing inflight (terms_of x)) (omega arith)), new_parts inflight xs (λ i d lt. h (suc i) d (omega arith)))
 
@@ -97,7 +97,7 @@ opened_served inflight xs =
     ∙ ap (λ l. record { setup = record { exports = terms; inflight = inflight }; table = record { rows = []; sides = map opening_side terms; now = 0 }; seats = l; journals = journals_of ms }) (new_seats inflight xs)
     ∙ ap (λ l. record { setup = record { exports = terms; inflight = inflight }; table = record { rows = []; sides = map opening_side terms; now = 0 }; seats = map (λ terms. []) terms; journals = l }) (new_journals inflight xs)
 
-pub kept_new : (inflight asked : ℕ) (xs : List Export) (slots : List (Option Tags)) → length xs ≤ 64 → All (λ (m : Standing). AreShort m.part.terms) (opened inflight xs) → slots ≡ replicate (length xs) None → asked ≡ 0 → IsServed (opened inflight xs) slots asked 0 inflight 0
+pub kept_new : (inflight asked : ℕ) (xs : List Export) (slots : List (Option Tags)) → length xs ≤ 64 → All (λ (m : Standing). AreShort m.part.rates) (opened inflight xs) → slots ≡ replicate (length xs) None → asked ≡ 0 → IsServed (opened inflight xs) slots asked 0 inflight 0
 kept_new inflight asked xs slots few short is none_asked =
     let o = new_outs inflight xs in
     let n : length (parts (opened inflight xs)) ≡ length xs = length-map (opened inflight xs) (λ (m : Standing). m.part) ∙ length-map xs (λ export. opening_standing inflight (terms_of export)) in

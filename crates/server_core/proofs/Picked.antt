@@ -33,7 +33,7 @@ part_sent_kept total p head rest is h =
     let below : AllEntries (BelowLast p) rest = (subst (AllEntries (BelowLast p)) is h.below).1 in
     let tags : AllEntries (λ entry. TagsWithin total p.next k entry.tags) rest = (subst (AllEntries (λ entry. TagsWithin total p.next k entry.tags)) is h.tags).1 in
     record {
-      terms = h.terms;
+      rates = h.rates;
       accepted = h.accepted;
       counted = let c = h.counted in omega arith;
       waiting = omega arith;
@@ -41,7 +41,7 @@ part_sent_kept total p head rest is h =
       numbered = subst IsNumbered (sym joined) h.numbered;
       numbers = subst (AllEntries (λ entry. entry.number < p.next)) (sym joined) h.numbers;
       below = subst (λ (l : List Entry). AllEntries (BelowLast (part_sent p)) (drop 1 l)) (sym is) (all_to (BelowLast p) (BelowLast (part_sent p)) (λ e b. record { r = b.r; l = b.l; p = b.p }) rest below);
-      kinds = subst (λ (l : List Entry). AllEntries (λ entry. SameKind p.terms.r_interval entry.tags.r) (drop 1 l)) (sym is) (subst (AllEntries (λ entry. SameKind p.terms.r_interval entry.tags.r)) is h.kinds).1;
+      kinds = subst (λ (l : List Entry). AllEntries (λ entry. SameKind p.rates.r_interval entry.tags.r) (drop 1 l)) (sym is) (subst (AllEntries (λ entry. SameKind p.rates.r_interval entry.tags.r)) is h.kinds).1;
       last_kind = h.last_kind;
       tags = subst (λ j. AllEntries (λ entry. TagsWithin total p.next j entry.tags) (drop 1 p.waiting)) (sym picks)
           (subst (λ (l : List Entry). AllEntries (λ entry. TagsWithin total p.next (k + 1) entry.tags) (drop 1 l)) (sym is)
@@ -91,7 +91,7 @@ part_credited_kept total by k p short picks tight tight_last h =
     let picks' : picked after ≡ k + 1 = ap (λ j. p.next - j) n ∙ picks in
     let h_tags : AllEntries (λ e. TagsWithin total p.next (k + 1) e.tags) p.waiting = subst (λ j. AllEntries (λ e. TagsWithin total p.next j e.tags) p.waiting) picks h.tags in
     record {
-      terms = h.terms;
+      rates = h.rates;
       accepted = h.accepted;
       counted = h.counted;
       waiting = subst (λ j. j ≤ p.next) (sym n) h.waiting;
@@ -99,8 +99,8 @@ part_credited_kept total by k p short picks tight tight_last h =
       numbered = numbered_behind f (λ e. refl) p.out p.waiting h.numbered;
       numbers = below_behind f (λ e. refl) p.next p.out p.waiting h.numbers;
       below = all_mapped f (BelowLast p) (BelowLast after) (λ e b. record { r = tag_before by e.tags.r p.last_r b.r; l = b.l; p = b.p }) p.waiting h.below;
-      kinds = all_mapped f (λ e. SameKind p.terms.r_interval e.tags.r) (λ e. SameKind p.terms.r_interval e.tags.r) (λ e s. same_kind by p.terms.r_interval e.tags.r s) p.waiting h.kinds;
-      last_kind = last_kind by p.terms.r_interval p.last_r h.last_kind;
+      kinds = all_mapped f (λ e. SameKind p.rates.r_interval e.tags.r) (λ e. SameKind p.rates.r_interval e.tags.r) (λ e s. same_kind by p.rates.r_interval e.tags.r s) p.waiting h.kinds;
+      last_kind = last_kind by p.rates.r_interval p.last_r h.last_kind;
       tags = subst (λ j. AllEntries (λ e. TagsWithin total p.next j e.tags) (map f p.waiting)) (sym picks')
           (all_mapped f (λ e. IsOptionWithin (k * 2 ^ 30) high e.tags.r × TagsWithin total p.next (k + 1) e.tags) (λ e. TagsWithin total p.next (k + 1) e.tags) (λ e t. record { r = credit_within by k high e.tags.r short t.0; l = t.1.l; p = t.1.p }) p.waiting
           (all_both (λ e. IsOptionWithin (k * 2 ^ 30) high e.tags.r) (λ e. TagsWithin total p.next (k + 1) e.tags) p.waiting tight h_tags));
@@ -111,7 +111,7 @@ part_credited_kept total by k p short picks tight tight_last h =
 
 pub part_picked_kept : (total : ℕ) (phase : Phase) (p : Part) (head : Entry) (rest : List Entry) → p.waiting ≡ head ∷ rest → IsPart total p → IsPart total (part_picked phase p)
 part_picked_kept total Reservation p head rest is h = part_sent_kept total p head rest is h
-part_picked_kept total Weight p head rest is h = by_interval p.terms.r_interval h.terms.reservation
+part_picked_kept total Weight p head rest is h = by_interval p.rates.r_interval h.rates.reservation
   where
     n : length p.waiting ≡ suc (length rest)
     n = ap length is

@@ -122,7 +122,7 @@ module _ (A : Type 0) where
       by (job ∷ rest) is some did = absurd (let a : ◌≡◌ {A = StepAnswer A} (Picked job.number) Nothing = ap (λ (m : Moved A). m.answer) did in cc)
 
 -- ---- the part
-picked_is : (phase : Phase) (p : Part) → part_picked phase p ≡ part_credited (credit_due phase p.terms.r_interval) (part_sent p)
+picked_is : (phase : Phase) (p : Part) → part_picked phase p ≡ part_credited (credit_due phase p.rates.r_interval) (part_sent p)
 picked_is Reservation p = refl
 picked_is Weight p = refl
 
@@ -133,7 +133,6 @@ kept_picking m due job rest ts sent slot room = record {
   journal = m.journal;
   room = m.room;
   share = share_credited_by due m.share;
-  interval = m.interval;
   waiting = waiting_credited due ts;
   waiting_room = room;
   out = m.out ++ sent ∷ [];
@@ -159,10 +158,10 @@ part_after m due job rest t ts number slot room same = by due
         ap (λ (l : List Entry). record (part_of (kept_picking m (Some interval) job rest ts (record { number = number; tags = t }) slot room)) { out = l }) pushed
         ∙ ap (λ (l : List Entry). record (part_credited (Some interval) (part_sent (part_of (kept_before m job rest t ts)))) { waiting = l }) (entries_credited interval rest ts)
 
-pub part_picks : (m : Kept) (phase : Phase) (job : Job) (rest : List Job) (t : Tags) (ts : List Tags) (number slot room : ℕ) → IsMember m → m.whole.state.waiting ≡ job ∷ rest → m.waiting ≡ t ∷ ts → part_of (kept_picking m (credit_due phase m.interval) job rest ts (record { number = number; tags = t }) slot room) ≡ part_picked phase (part_of m)
+pub part_picks : (m : Kept) (phase : Phase) (job : Job) (rest : List Job) (t : Tags) (ts : List Tags) (number slot room : ℕ) → IsMember m → m.whole.state.waiting ≡ job ∷ rest → m.waiting ≡ t ∷ ts → part_of (kept_picking m (credit_due phase m.share.r_interval) job rest ts (record { number = number; tags = t }) slot room) ≡ part_picked phase (part_of m)
 part_picks m phase job rest t ts number slot room h is pop =
-    part_after m (credit_due phase m.interval) job rest t ts number slot room (sent_length m.out m.whole.state.out h.sent)
-    ∙ ap (λ (o : Option ℕ). part_credited (credit_due phase o) (part_sent (part_of (kept_before m job rest t ts)))) h.interval
+    part_after m (credit_due phase m.share.r_interval) job rest t ts number slot room (sent_length m.out m.whole.state.out h.sent)
+    ∙ ap (λ (o : Option ℕ). part_credited (credit_due phase o) (part_sent (part_of (kept_before m job rest t ts)))) h.r_interval
     ∙ sym (picked_is phase (part_of (kept_before m job rest t ts)))
     ∙ ap (λ (w : List Job). part_picked phase (part_of (record m { whole = record m.whole { state = record m.whole.state { waiting = w } }; waiting = t ∷ ts }))) (sym is)
     ∙ ap (λ (l : List Tags). part_picked phase (part_of (record m { waiting = l }))) (sym pop)
@@ -176,9 +175,9 @@ same_intervals : (due : Option ℕ) (share : Share) → ((share_credited_by due 
 same_intervals None share = (refl, refl)
 same_intervals (Some by) share = (refl, refl)
 
-pub picking_kept : (m : Kept) (phase : Phase) (job : Job) (rest : List Job) (t : Tags) (ts : List Tags) (slot room : ℕ) → IsMember m → m.whole.state.waiting ≡ job ∷ rest → m.waiting ≡ t ∷ ts → m.waiting_room ≤ room → IsMember (kept_picking m (credit_due phase m.interval) job rest ts (record { number = job.number; tags = t }) slot room)
+pub picking_kept : (m : Kept) (phase : Phase) (job : Job) (rest : List Job) (t : Tags) (ts : List Tags) (slot room : ℕ) → IsMember m → m.whole.state.waiting ≡ job ∷ rest → m.waiting ≡ t ∷ ts → m.waiting_room ≤ room → IsMember (kept_picking m (credit_due phase m.share.r_interval) job rest ts (record { number = job.number; tags = t }) slot room)
 picking_kept m phase job rest t ts slot room h is pop more =
-    let due = credit_due phase m.interval in
+    let due = credit_due phase m.share.r_interval in
     let intervals = same_intervals due m.share in
     let n : length m.whole.state.waiting ≡ suc (length rest) = ap length is in
     let k : length m.waiting ≡ suc (length ts) = ap length pop in
@@ -194,7 +193,6 @@ picking_kept m phase job rest t ts slot room h is pop more =
       sent = map-append (λ (s : Sent). s.number) m.out (record { number = job.number; tags = t } ∷ []) ∙ ap (λ l. l ++ job.number ∷ []) h.sent ∙ sym (map-append (λ (j : Job). j.number) m.whole.state.out (job ∷ []));
       seated = omega arith;
       r_interval = intervals.0 ∙ h.r_interval;
-      interval = h.interval;
       p_interval = intervals.1 ∙ h.p_interval;
       few = omega arith;
       waiting_room = omega arith;
@@ -208,10 +206,10 @@ pub record Picking (A : Type 0) (m : Kept) (new : Whole) (number slot : ℕ) (t 
   pub popped : m.waiting ≡ t ∷ ts
 
 abbrev pub kept_after : Kept → Phase → Whole → ℕ → Tags → List Tags → ℕ → Kept
-kept_after m phase new number t ts room = record { whole = new; journal = m.journal; room = m.room; share = share_credited_by (credit_due phase m.interval) m.share; interval = m.interval; waiting = waiting_credited (credit_due phase m.interval) ts; waiting_room = room; out = m.out ++ record { number = number; tags = t } ∷ []; out_room = m.out_room }
+kept_after m phase new number t ts room = record { whole = new; journal = m.journal; room = m.room; share = share_credited_by (credit_due phase m.share.r_interval) m.share; waiting = waiting_credited (credit_due phase m.share.r_interval) ts; waiting_room = room; out = m.out ++ record { number = number; tags = t } ∷ []; out_room = m.out_room }
 
-pub kept_is : (m : Kept) (phase : Phase) (new : Whole) (number : ℕ) (t : Tags) (ts : List Tags) (room out_room : ℕ) (share : Share) (waiting : List Tags) (out : List Sent) → share ≡ share_credited_by (credit_due phase m.interval) m.share → waiting ≡ waiting_credited (credit_due phase m.interval) ts → out ≡ m.out ++ record { number = number; tags = t } ∷ [] → out_room ≡ m.out_room →
-    kept_after m phase new number t ts room ≡ record { whole = new; journal = m.journal; room = m.room; share = share; interval = m.interval; waiting = waiting; waiting_room = room; out = out; out_room = out_room }
+pub kept_is : (m : Kept) (phase : Phase) (new : Whole) (number : ℕ) (t : Tags) (ts : List Tags) (room out_room : ℕ) (share : Share) (waiting : List Tags) (out : List Sent) → share ≡ share_credited_by (credit_due phase m.share.r_interval) m.share → waiting ≡ waiting_credited (credit_due phase m.share.r_interval) ts → out ≡ m.out ++ record { number = number; tags = t } ∷ [] → out_room ≡ m.out_room →
+    kept_after m phase new number t ts room ≡ record { whole = new; journal = m.journal; room = m.room; share = share; waiting = waiting; waiting_room = room; out = out; out_room = out_room }
 kept_is m phase new number t ts room out_room share waiting out a b c d =
     ap (λ (x : Share). record (kept_after m phase new number t ts room) { share = x }) (sym a)
     ∙ ap (λ (x : List Tags). record (kept_after m phase new number t ts room) { share = share; waiting = x }) (sym b)
@@ -229,10 +227,10 @@ module _ (A : Type 0) where
       ∙ ap (λ l. record { terms = m.whole.terms; inflight = m.whole.inflight; state = new.state; slots = l }) pick.slots
       ∙ ap (λ s. record { terms = m.whole.terms; inflight = m.whole.inflight; state = s; slots = m.whole.slots ++ slot ∷ [] }) one.state_is
 
-  after_is : (m : Kept) (phase : Phase) (new : Whole) (number slot room : ℕ) (t : Tags) (ts : List Tags) (pick : Picking A m new number slot t ts) (one : PickedJob m.whole.state new.state number) → kept_after m phase new number t ts room ≡ kept_picking m (credit_due phase m.interval) one.job one.rest ts (record { number = one.job.number; tags = t }) slot room
+  after_is : (m : Kept) (phase : Phase) (new : Whole) (number slot room : ℕ) (t : Tags) (ts : List Tags) (pick : Picking A m new number slot t ts) (one : PickedJob m.whole.state new.state number) → kept_after m phase new number t ts room ≡ kept_picking m (credit_due phase m.share.r_interval) one.job one.rest ts (record { number = one.job.number; tags = t }) slot room
   after_is m phase new number slot room t ts pick one =
       ap (λ (w : Whole). kept_after m phase w number t ts room) (whole_after m new number slot t ts pick one)
-      ∙ ap (λ n. kept_picking m (credit_due phase m.interval) one.job one.rest ts (record { number = n; tags = t }) slot room) (sym one.same)
+      ∙ ap (λ n. kept_picking m (credit_due phase m.share.r_interval) one.job one.rest ts (record { number = n; tags = t }) slot room) (sym one.same)
 
   pub picks_kept : (m : Kept) (phase : Phase) (new : Whole) (number slot room : ℕ) (t : Tags) (ts : List Tags) → IsMember m → Picking A m new number slot t ts → m.waiting_room ≤ room → IsMember (kept_after m phase new number t ts room)
   picks_kept m phase new number slot room t ts h pick more =
@@ -263,10 +261,10 @@ module _ (A : Type 0) where
       }
 
   -- the tags to be credited are in range
-  pub credit_in_range : (m : Kept) (phase : Phase) (new : Whole) (number slot : ℕ) (t : Tags) (ts : List Tags) → IsMember m → Picking A m new number slot t ts → TagsInRange (part_picked phase (part_of m)) → AllTagsInRange (waiting_credited (credit_due phase m.interval) ts)
+  pub credit_in_range : (m : Kept) (phase : Phase) (new : Whole) (number slot : ℕ) (t : Tags) (ts : List Tags) → IsMember m → Picking A m new number slot t ts → TagsInRange (part_picked phase (part_of m)) → AllTagsInRange (waiting_credited (credit_due phase m.share.r_interval) ts)
   credit_in_range m phase new number slot t ts h pick range =
       let one = job_of_pick m new number slot t ts pick in
-      let due = credit_due phase m.interval in
+      let due = credit_due phase m.share.r_interval in
       let n : length m.whole.state.waiting ≡ suc (length one.rest) = ap length one.waiting in
       let k : length m.waiting ≡ suc (length ts) = ap length pick.popped in
       let tagged = h.tagged in

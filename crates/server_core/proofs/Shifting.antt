@@ -22,7 +22,7 @@ entries_shifted d (j ∷ js) (t ∷ ts) = ap (λ l. record { number = j.number; 
 some_waits : (m : Kept) → IsMember m → (length m.waiting == 0) ≡ false → (length (part_of m).waiting == 0) ≡ false
 some_waits m h some = ap (λ n. n == 0) (entries_length m.whole.state.waiting m.waiting h.tagged ∙ sym h.tagged) ∙ some
 
-pub shifts : (m : Kept) (d : ℤ) (waiting : List Tags) (share : Share) (room : ℕ) → IsMember m → (length m.waiting == 0) ≡ false → waiting ≡ map (shifted d) m.waiting → share ≡ share_shifted d m.share → standing_of (record { whole = m.whole; journal = m.journal; room = m.room; share = share; interval = m.interval; waiting = waiting; waiting_room = room; out = m.out; out_room = m.out_room }) ≡ shifted_standing d (standing_of m)
+pub shifts : (m : Kept) (d : ℤ) (waiting : List Tags) (share : Share) (room : ℕ) → IsMember m → (length m.waiting == 0) ≡ false → waiting ≡ map (shifted d) m.waiting → share ≡ share_shifted d m.share → standing_of (record { whole = m.whole; journal = m.journal; room = m.room; share = share; waiting = waiting; waiting_room = room; out = m.out; out_room = m.out_room }) ≡ shifted_standing d (standing_of m)
 shifts m d waiting share room h some a b =
     ap (λ (l : List Tags). standing_of (record m { share = share; waiting = l; waiting_room = room })) a
     ∙ ap (λ (x : Share). standing_of (record m { share = x; waiting = map (shifted d) m.waiting; waiting_room = room })) b

@@ -2,7 +2,7 @@
 use Rattle.std.specs.Prelude.{◌≡◌, ◌≤◌, ◌<◌, ℕ, Bool, true, false, length, filter, if◌then◌else◌}
 use Rattle.std.specs.List.{AllByRecursion, sum_by}
 use Rattle.server_table.specs.declared.event.Answer.{Answer}
-use Rattle.server_table.specs.declared.event.Answer.TheVariants.{Session, Accepted, Answered, Picked, Nothing, Performed, Reply, Empty, End, Left, Dropped, NoExport, NotOpen, Worn, Full, Hold, NotOut, NoMemory}
+use Rattle.server_table.specs.declared.event.Answer.TheVariants.{Session, Accepted, Answered, Picked, Nothing, Performed, Reply, Empty, End, Left, Dropped, NoExport, NotOpen, Worn, Full, Hold, NotOut, Retuned, Waiting, NoMemory}
 use Rattle.server_core.specs.Served.{Served}
 use Rattle.server_core.specs.Journals.{EachComesOfJournal}
 
@@ -30,6 +30,8 @@ module _ {A : Type 0} where
   is_counted Full = false
   is_counted Hold = false
   is_counted NotOut = false
+  is_counted Retuned = true
+  is_counted Waiting = false
   is_counted NoMemory = false
 
   -- by how many the counted steps rise

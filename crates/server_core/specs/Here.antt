@@ -4,6 +4,9 @@ use Rattle.reply_box.specs.declared.fault.NotOpen.{NotOpen}
 use Rattle.lone_export.specs.declared.refusal.NotAttached.{NotAttached as NotAttachedAlone}
 use Rattle.lone_export.specs.declared.refusal.NotAttached.TheVariants as alone
 use Rattle.lone_export.specs.declared.refusal.AttachRefusal.TheVariants as attaching
+use Rattle.lone_export.specs.declared.refusal.RetuneRefusal.TheVariants as tuned
+use Rattle.export_cell.specs.declared.refusal.NotRetuned.{NotRetuned as NotRetunedAlone}
+use Rattle.export_cell.specs.declared.refusal.NotRetuned.TheVariants as kept
 use Rattle.lone_export.specs.declared.refusal.Arrived.{Arrived}
 use Rattle.lone_export.specs.declared.refusal.NotArrived.{NotArrived as NotArrivedAlone}
 use Rattle.lone_export.specs.declared.refusal.ArriveRefusal.{ArriveRefusal as ArriveRefusalAlone}
@@ -14,6 +17,8 @@ use Rattle.server_core.specs.declared.refusal.ArriveRefusal.TheVariants as refus
 use Rattle.server_core.specs.declared.session.SessionId.{SessionId}
 use Rattle.server_core.specs.declared.refusal.NotAttached.{NotAttached}
 use Rattle.server_core.specs.declared.refusal.NotAttached.TheVariants.{Worn, Full, NoMemory}
+use Rattle.server_core.specs.declared.refusal.NotRetuned.{NotRetuned}
+use Rattle.server_core.specs.declared.refusal.NotRetuned.TheVariants as retuning
 use Rattle.server_core.specs.declared.refusal.SessionRefusal.{SessionRefusal}
 use Rattle.server_core.specs.declared.refusal.SessionRefusal.TheVariants as refusing
 
@@ -26,6 +31,12 @@ attached e (Ok n) = Ok (record { export = e; number = n })
 attached e (Err (alone.Refused attaching.Worn)) = Err Worn
 attached e (Err (alone.Refused attaching.Full)) = Err Full
 attached e (Err alone.NoMemory) = Err NoMemory
+
+abbrev pub retuned : Result (Unit {0}) NotRetunedAlone → Result (Unit {0}) NotRetuned
+retuned (Ok done) = Ok done
+retuned (Err (kept.Refused tuned.Worn)) = Err retuning.Worn
+retuned (Err (kept.Refused tuned.Waiting)) = Err retuning.Waiting
+retuned (Err kept.NoMemory) = Err retuning.NoMemory
 
 abbrev pub refusal_here : ArriveRefusalAlone → ArriveRefusal
 refusal_here arriving.NotOpen = refusal.NotOpen

@@ -6,7 +6,7 @@ use Rattle.lone_export.specs.declared.step.Step.{Step}
 use Rattle.lone_export.specs.declared.step.Step.TheVariants as own
 use Rattle.export_cell.specs.Journal.{Journal, Cell, JournalMove, IsJournal}
 use Rattle.server_table.specs.declared.event.Event.{Event}
-use Rattle.server_table.specs.declared.event.Event.TheVariants.{Attach, Arrive, Dispatch, Perform, Take, Leave, Gone}
+use Rattle.server_table.specs.declared.event.Event.TheVariants.{Attach, Arrive, Dispatch, Perform, Take, Leave, Gone, Retune}
 use Rattle.server_table.specs.declared.event.Answer.{Answer}
 use Rattle.server_table.specs.declared.event.Answer.TheVariants.{Picked}
 use Rattle.server_table.specs.Shares.{as_alone, mark_of}
@@ -35,6 +35,7 @@ module _ {A : Type 0} where
   EventMoves old (Take e s) new answer = CellMoves old e (own.Take s) new answer
   EventMoves old (Leave e s) new answer = CellMoves old e (own.Leave s) new answer
   EventMoves old (Gone e s) new answer = CellMoves old e (own.Gone s) new answer
+  EventMoves old (Retune e rates) new answer = CellMoves old e (own.Retune rates) new answer
 
 -- the cell of export e: it is what the table has of the export, and it comes of its base by its log
 pub record IsCellOf (served : Served) (e : ℕ) (cell : Cell) : Type 0 where

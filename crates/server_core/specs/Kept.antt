@@ -2,7 +2,7 @@
 use Rattle.std.specs.Prelude.{◌≡◌, ℕ, ◌+◌, ◌-◌, ◌*◌, ◌^◌, ◌<◌, ◌≤◌, ℤ, pos, neg_ℤ, ◌≤ℤ◌, Option, Some, None, List, [], ◌∷◌, ◌++◌, length, ⊤}
 use Rattle.std.specs.List.{All, sum_by}
 use Rattle.nbd_base.specs.Range.{IsOptionInRange}
-use Rattle.nbd_commands.specs.Terms.{Terms}
+use Rattle.tag_clock.specs.Intervals.{Intervals}
 use Rattle.tag_clock.specs.declared.Tags.{Tags}
 use Rattle.tag_clock.specs.Tags.{AreInRange}
 use Rattle.server_table.specs.Parts.{Entry, Part}
@@ -55,10 +55,10 @@ LastKind None (Some tag) = ⊥
 LastKind None None = ⊤
 LastKind (Some interval) last = ⊤
 
-pub record AreShort (terms : Terms) : Type 0 where
-  pub reservation : IsOptionShort terms.r_interval
-  pub limit : IsShort terms.l_interval
-  pub weight : IsShort terms.p_interval
+pub record AreShort (rates : Intervals) : Type 0 where
+  pub reservation : IsOptionShort rates.r_interval
+  pub limit : IsShort rates.l_interval
+  pub weight : IsShort rates.p_interval
 
 -- how many requests were picked
 abbrev pub picked : Part → ℕ
@@ -66,7 +66,7 @@ picked part = part.next - length part.waiting
 
 -- numbers and tags rise, and tags keep to their bounds
 pub record IsPart (total : ℕ) (part : Part) : Type 0 where
-  pub terms : AreShort part.terms
+  pub rates : AreShort part.rates
   pub accepted : part.next ≤ 2 ^ 56
   pub counted : part.next ≤ part.count
   pub waiting : length part.waiting ≤ part.next
@@ -74,8 +74,8 @@ pub record IsPart (total : ℕ) (part : Part) : Type 0 where
   pub numbered : IsNumbered (part.out ++ part.waiting)
   pub numbers : AllEntries (λ entry. entry.number < part.next) (part.out ++ part.waiting)
   pub below : AllEntries (BelowLast part) part.waiting
-  pub kinds : AllEntries (λ entry. SameKind part.terms.r_interval entry.tags.r) part.waiting
-  pub last_kind : LastKind part.terms.r_interval part.last_r
+  pub kinds : AllEntries (λ entry. SameKind part.rates.r_interval entry.tags.r) part.waiting
+  pub last_kind : LastKind part.rates.r_interval part.last_r
   pub tags : AllEntries (λ entry. TagsWithin total part.next (picked part) entry.tags) part.waiting
   pub last_r : IsOptionWithin (picked part * 2 ^ 30) (2 ^ 62 + part.next * 2 ^ 30) part.last_r
   pub last_l : IsOptionWithin 0 (2 ^ 62 + part.next * 2 ^ 30) part.last_l

@@ -1,10 +1,11 @@
 -- What a contract sees of one export of a server, and what its calls do to it.
-use Rattle.std.specs.Prelude.{◌≡◌, ◌≤◌, ◌^◌, nat_le, false, filter, Result, Ok, Err, ⊤, ℕ, List, [], ◌∷◌, map, length, Option, Some, None, ◌++◌, if◌then◌else◌, ◌==◌, Bool, not, ℤ}
+use Rattle.std.specs.Prelude.{◌≡◌, ◌≤◌, ◌^◌, nat_le, true, false, filter, Result, Ok, Err, ⊤, ℕ, List, [], ◌∷◌, map, length, Option, Some, None, ◌++◌, if◌then◌else◌, ◌==◌, Bool, not, ℤ}
 use Rattle.nbd_wire.specs.Grammar.{RequestMessage}
 use Rattle.nbd_commands.specs.Terms.{Terms}
 use Rattle.tag_clock.specs.declared.Tags.{Tags}
 use Rattle.tag_clock.specs.declared.Phase.{Phase}
 use Rattle.tag_clock.specs.Clocks.{Share}
+use Rattle.tag_clock.specs.Intervals.{Intervals}
 use Rattle.lone_export.specs.Alone.{Alone, Job, Moved, own_step, opening}
 use Rattle.lone_export.specs.Lone.{Whole, Admits, MayArrive, refusal_said}
 use Rattle.lone_export.specs.declared.refusal.Arrived.{Arrived}
@@ -13,13 +14,16 @@ use Rattle.lone_export.specs.declared.refusal.NotArrived.{NotArrived}
 use Rattle.reply_box.specs.Sessions.{is_here}
 use Rattle.lone_export.specs.declared.refusal.NotAttached.{NotAttached}
 use Rattle.lone_export.specs.declared.refusal.NotAttached.TheVariants.{Refused, NoMemory}
+use Rattle.lone_export.specs.declared.refusal.RetuneRefusal.TheVariants as tuned
 use Rattle.lone_export.specs.declared.step.Step.{Step}
 use Rattle.lone_export.specs.declared.step.StepAnswer.{StepAnswer}
 use Rattle.lone_export.specs.declared.step.Step.TheVariants.{Arrive, Perform}
 use Rattle.lone_export.specs.declared.step.StepAnswer.TheVariants as said
 use Rattle.lone_export.specs.declared.step.StepAnswer.TheVariants.{Performed}
 use Rattle.export_cell.specs.Journal.{Journal, Cell, IsReserved, opening_journal}
-use Rattle.server_table.specs.Parts.{Entry, Part, alone_of, with_alone, performed_part}
+use Rattle.export_cell.specs.declared.refusal.NotRetuned.{NotRetuned}
+use Rattle.export_cell.specs.declared.refusal.NotRetuned.TheVariants as retuning
+use Rattle.server_table.specs.Parts.{Entry, Part, alone_of, with_alone, part_retuned, performed_part}
 use Rattle.server_table.specs.Picks.{part_picked}
 use Rattle.server_table.specs.Ways.{part_shifted, part_tags, accepted_part}
 use Rattle.server_core.specs.declared.member.Sent.{Sent}
@@ -39,7 +43,7 @@ pub record Standing : Type 0 where
   pub room : ℕ
 
 abbrev pub opening_part : Terms → Part
-opening_part terms = record { terms = terms; image = (opening terms).image; waiting = []; out = []; next = 0; last_r = None; last_l = None; last_p = None; sessions = []; count = 0 }
+opening_part terms = record { terms = terms; image = (opening terms).image; waiting = []; out = []; next = 0; last_r = None; last_l = None; last_p = None; rates = terms.rates; sessions = []; count = 0 }
 
 abbrev pub opening_standing : ℕ → Terms → Standing
 opening_standing inflight terms = record { part = opening_part terms; inflight = inflight; seats = []; journal = opening_journal terms; room = 0 }
@@ -55,7 +59,6 @@ pub record Kept : Type 0 where
   pub journal : Journal
   pub room : ℕ
   pub share : Share
-  pub interval : Option ℕ
   pub waiting : List Tags
   pub waiting_room : ℕ
   pub out : List Sent
@@ -84,6 +87,7 @@ part_of m = record {
   last_r = m.share.last_r;
   last_l = m.whole.state.last;
   last_p = m.share.last_p;
+  rates = m.whole.state.rates;
   sessions = m.whole.state.sessions;
   count = m.whole.state.count;
 }
@@ -96,9 +100,8 @@ pub record IsMember (m : Kept) : Type 0 where
   pub tagged : length m.waiting ≡ length m.whole.state.waiting
   pub sent : map (λ (one : Sent). one.number) m.out ≡ map (λ (job : Job). job.number) m.whole.state.out
   pub seated : length m.whole.slots ≡ length m.whole.state.out
-  pub r_interval : m.share.r_interval ≡ m.whole.terms.r_interval
-  pub interval : m.interval ≡ m.whole.terms.r_interval
-  pub p_interval : m.share.p_interval ≡ m.whole.terms.p_interval
+  pub r_interval : m.share.r_interval ≡ m.whole.state.rates.r_interval
+  pub p_interval : m.share.p_interval ≡ m.whole.state.rates.p_interval
   pub few : length m.whole.state.waiting ≤ m.whole.terms.depth
   pub waiting_room : m.whole.terms.depth ≤ m.waiting_room
   pub out_room : m.whole.inflight ≤ m.out_room
@@ -140,6 +143,17 @@ abbrev pub WantsMemory : Standing → Result ℕ NotAttached → Type 0
 WantsMemory standing (Ok n) = ⊤
 WantsMemory standing (Err (Refused e)) = ⊤
 WantsMemory standing (Err NoMemory) = MayOpen standing
+
+-- ---- the rates are others
+abbrev pub retuned_standing : Intervals → Standing → Standing
+retuned_standing rates standing = record standing { part = part_retuned rates standing.part }
+
+-- the export has other rates, or none of its requests and rates changed; memory is wanted only where nothing else refuses it
+abbrev pub Retunes : Standing → Standing → Intervals → Result (Unit {0}) NotRetuned → Type 0
+Retunes old new rates (Ok done) = (nat_le (2 ^ 56) old.part.count ≡ false) × ((length old.part.waiting == 0) ≡ true) × (new ≡ retuned_standing rates (logged_as new old))
+Retunes old new rates (Err (retuning.Refused tuned.Worn)) = (nat_le (2 ^ 56) old.part.count ≡ true) × (new ≡ logged_as new old)
+Retunes old new rates (Err (retuning.Refused tuned.Waiting)) = (nat_le (2 ^ 56) old.part.count ≡ false) × ((length old.part.waiting == 0) ≡ false) × (new ≡ logged_as new old)
+Retunes old new rates (Err retuning.NoMemory) = (nat_le (2 ^ 56) old.part.count ≡ false) × ((length old.part.waiting == 0) ≡ true) × (new ≡ logged_as new old)
 
 -- ---- a request that is out is done
 abbrev pub seats_without : ℕ → List Seat → List Seat

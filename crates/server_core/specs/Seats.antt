@@ -2,7 +2,7 @@
 use Rattle.std.specs.Prelude.{◌≡◌, ℕ, [], ◌∷◌, ◌++◌}
 use Rattle.nbd_base.specs.Words.{change_at}
 use Rattle.server_table.specs.declared.event.Event.{Event}
-use Rattle.server_table.specs.declared.event.Event.TheVariants.{Attach, Arrive, Dispatch, Perform, Take, Leave, Gone}
+use Rattle.server_table.specs.declared.event.Event.TheVariants.{Attach, Arrive, Dispatch, Perform, Take, Leave, Gone, Retune}
 use Rattle.server_table.specs.declared.event.Answer.{Answer}
 use Rattle.server_table.specs.declared.event.Answer.TheVariants.{Picked, Performed}
 use Rattle.server_core.specs.Members.{seats_without}
@@ -28,3 +28,4 @@ module _ {A : Type 0} where
   EventSeats old (Take e s) new answer = new.seats ≡ old.seats
   EventSeats old (Leave e s) new answer = new.seats ≡ old.seats
   EventSeats old (Gone e s) new answer = new.seats ≡ old.seats
+  EventSeats old (Retune e rates) new answer = new.seats ≡ old.seats

@@ -27,6 +27,8 @@ use Rattle.server_core.specs.declared.ticket.Chosen.{Chosen}
 use Rattle.server_core.specs.declared.session.SessionId.{SessionId}
 use Rattle.server_core.specs.declared.refusal.NotAttached.{NotAttached}
 use Rattle.server_core.specs.declared.refusal.NotAttached.TheVariants as attaching
+use Rattle.server_core.specs.declared.refusal.NotRetuned.{NotRetuned}
+use Rattle.server_core.specs.declared.refusal.NotRetuned.TheVariants as retuning
 use Rattle.server_core.specs.declared.refusal.SessionRefusal.{SessionRefusal}
 use Rattle.server_core.specs.declared.refusal.SessionRefusal.TheVariants as refusing
 
@@ -103,6 +105,13 @@ module _ {A : Type 0} where
   attach_says (Err attaching.Worn) = said.Worn
   attach_says (Err attaching.Full) = said.Full
   attach_says (Err attaching.NoMemory) = said.NoMemory
+
+  abbrev pub retune_says : Result (Unit {0}) NotRetuned → Answer A
+  retune_says (Ok done) = said.Retuned
+  retune_says (Err retuning.NoExport) = said.NoExport
+  retune_says (Err retuning.Worn) = said.Worn
+  retune_says (Err retuning.Waiting) = said.Waiting
+  retune_says (Err retuning.NoMemory) = said.NoMemory
 
   abbrev pub arrive_refusal_says : ArriveRefusal → Answer A
   arrive_refusal_says arriving.NoExport = said.NoExport

@@ -3,9 +3,9 @@ ghost use Rattle.std.specs.Prelude.{◌≡◌};
 ghost use Rattle.server_table.specs.declared.event.Event.TheVariants as event;
 ghost use Rattle.server_core.specs.Journals.{EventMoves};
 ghost use Rattle.server_core.specs.Seats.{EventSeats};
-ghost use Rattle.server_core.specs.Served.{Stepped, attach_says, arrive_says, dispatch_says, take_says, leave_says, gone_says, refusal_says};
+ghost use Rattle.server_core.specs.Served.{Stepped, attach_says, retune_says, arrive_says, dispatch_says, take_says, leave_says, gone_says, refusal_says};
 
-use crate::refusal::{ArriveRefusal, NotArrived, NotAttached, SessionRefusal};
+use crate::refusal::{ArriveRefusal, NotArrived, NotAttached, NotRetuned, SessionRefusal};
 use crate::server::Server;
 use crate::session::SessionId;
 use crate::ticket::Chosen;
@@ -95,6 +95,18 @@ fn gone_answer<A: Allocator>(said: Result<(), SessionRefusal>) -> Answer<A>
     }
 }
 
+fn retune_answer<A: Allocator>(said: Result<(), NotRetuned>) -> Answer<A>
+    ensures { result ≡ retune_says said }
+{
+    match said {
+        Ok(()) => Answer::Retuned,
+        Err(NotRetuned::NoExport) => Answer::NoExport,
+        Err(NotRetuned::Worn) => Answer::Worn,
+        Err(NotRetuned::Waiting) => Answer::Waiting,
+        Err(NotRetuned::NoMemory) => Answer::NoMemory,
+    }
+}
+
 impl<I: Image, E: Eligibility<Alloc = I::Alloc>> Server<I, E> {
     /// One event, and its answer. A request to be performed is named by its number.
     pub fn event(&mut self, what: Event<I::Alloc>) -> Answer<I::Alloc>
@@ -127,6 +139,7 @@ impl<I: Image, E: Eligibility<Alloc = I::Alloc>> Server<I, E> {
                 let number = session;
                 gone_answer(self.gone(SessionId { export, number }))
             }
+            Event::Retune { export, rates } => retune_answer(self.retune(export, rates)),
         }
     }
 

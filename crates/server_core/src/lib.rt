@@ -11,7 +11,7 @@ mod tagging;
 mod ticket;
 mod way;
 
-pub use refusal::{ArriveRefusal, NoTags, NotArrived, NotAttached, SessionRefusal};
+pub use refusal::{ArriveRefusal, NoTags, NotArrived, NotAttached, NotRetuned, SessionRefusal};
 pub use runs::run;
 pub use server::Server;
 pub use session::SessionId;

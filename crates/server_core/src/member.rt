@@ -5,16 +5,16 @@ ghost use Rattle.nbd_commands.specs.Terms.{terms_of};
 ghost use Rattle.nbd_commands.specs.Exports.{IsWithin};
 ghost use Rattle.lone_export.specs.Lone.{leave_said, gone_said, take_said, attach_said, arrived_said};
 ghost use Rattle.lone_export.specs.declared.step.StepAnswer.TheVariants.{Performed};
-ghost use Rattle.export_cell.specs.Journal.{JournalMove, IsAdvanced, IsJournal, surplus, reserved, noted_as};
+ghost use Rattle.export_cell.specs.Journal.{JournalMove, IsAdvanced, IsJournal, surplus, reserved, noted_as, retuned_said};
 ghost use Rattle.server_table.specs.Parts.{alone_of};
 
 use crate::tagging::{give_credit, put_behind, shift_all};
-use export_cell::{ExportCell, Outdated};
+use export_cell::{ExportCell, NotRetuned, Outdated};
 use export_queue::Picked;
 use export_store::Image;
 use lone_export::{Arrived, NotArrived, NotAttached, Step, StepAnswer};
 use nbd_base::NoMemory;
-use nbd_commands::ExportConfig;
+use nbd_commands::{ExportConfig, Rates};
 use nbd_wire::Request;
 use reply_box::{NotOpen, Taken};
 use std::alloc::Allocator;
@@ -34,7 +34,6 @@ pub(crate) struct Sent {
 pub(crate) struct Member<I: Image> {
     cell: ExportCell<I>,
     shares: ShareClock,
-    r_interval: Option<u64>,
     waiting: VecDeque<Tags, I::Alloc>,
     out: Vec<Sent, I::Alloc>,
 }
@@ -46,13 +45,13 @@ impl<I: Image> Model for Member<I> {
 
     ghost Value = { Standing };
 
-    ghost view = { λ m. standing_of (record { whole = m.cell.live; journal = m.cell.journal; room = m.cell.room; share = m.shares; interval = m.r_interval; waiting = m.waiting.items; waiting_room = deque_capacity m.waiting; out = m.out.items; out_room = vec_capacity m.out }) };
+    ghost view = { λ m. standing_of (record { whole = m.cell.live; journal = m.cell.journal; room = m.cell.room; share = m.shares; waiting = m.waiting.items; waiting_room = deque_capacity m.waiting; out = m.out.items; out_room = vec_capacity m.out }) };
 
-    ghost invariant = { λ m. IsMember (record { whole = m.cell.live; journal = m.cell.journal; room = m.cell.room; share = m.shares; interval = m.r_interval; waiting = m.waiting.items; waiting_room = deque_capacity m.waiting; out = m.out.items; out_room = vec_capacity m.out }) };
+    ghost invariant = { λ m. IsMember (record { whole = m.cell.live; journal = m.cell.journal; room = m.cell.room; share = m.shares; waiting = m.waiting.items; waiting_room = deque_capacity m.waiting; out = m.out.items; out_room = vec_capacity m.out }) };
 }
 
 impl<I: Image> Member<I> {
-    ghost use Rattle.server_core.specs.Members.{opening_standing, slot_in, with_log, logged_as, Went, WentOr, IsLetIn, IsReservedAt, WantsMemory, Performs, Picks, AdmitsAt, Arrives, shifted_standing, told_tags};
+    ghost use Rattle.server_core.specs.Members.{opening_standing, slot_in, with_log, logged_as, Went, WentOr, Retunes, IsLetIn, IsReservedAt, WantsMemory, Performs, Picks, AdmitsAt, Arrives, shifted_standing, told_tags};
     ghost use Rattle.server_table.specs.Ways.{part_shifted};
     ghost use Rattle.server_table.specs.Order.{IsNumbered, head_tags};
     ghost use Rattle.server_table.specs.Picks.{part_picked};
@@ -66,7 +65,7 @@ impl<I: Image> Member<I> {
         inflight: usize,
     ) -> Result<Self, NoMemory>
         requires { IsWithin 4096 inflight }
-        ensures { IfOk result (λ member. (member ≡ opening_standing inflight (terms_of config.now)) × AreShort (terms_of config.now)) }
+        ensures { IfOk result (λ member. (member ≡ opening_standing inflight (terms_of config.now)) × AreShort (terms_of config.now).rates) }
     {
         let Some(tuning) = Tuning::new(config.reservation(), config.limit(), config.weight()) else {
             unreachable!();
@@ -77,7 +76,6 @@ impl<I: Image> Member<I> {
         Ok(Member {
             cell,
             shares: ShareClock::new(tuning.r_interval(), tuning.p_interval()),
-            r_interval: tuning.r_interval(),
             waiting,
             out,
         })
@@ -114,6 +112,22 @@ impl<I: Image> Member<I> {
         ensures journal { JournalMove {A = I.Alloc} self.old.part.terms Step.Attach (attach_said result) self.old.journal self.new.journal }
     {
         self.cell.attach()
+    }
+
+    /// The rates are others from now on.
+    pub(crate) fn retune(&mut self, rates: Rates) -> Result<(), NotRetuned>
+        ensures retunes { Retunes self.old self.new rates result }
+        ensures short { AreShort self.old.part.rates → AreShort self.new.part.rates }
+        ensures journal { JournalMove {A = I.Alloc} self.old.part.terms (Step.Retune rates) (retuned_said result) self.old.journal self.new.journal }
+    {
+        if let Err(refused) = self.cell.retune(rates) {
+            return Err(refused);
+        }
+        let tuning = rates.tuning();
+        // Asked for what its contract tells: a second at most.
+        let _ = tuning.l_interval();
+        self.shares.retune(tuning.r_interval(), tuning.p_interval());
+        Ok(())
     }
 
     /// The export with its journal.
@@ -233,7 +247,7 @@ impl<I: Image> Member<I> {
         kept: Option<Request<I::Alloc>>,
     ) -> Result<Arrived, NotArrived<I::Alloc>>
         requires in_range { TagsInRange self.old.part }
-        requires short { AreShort self.old.part.terms }
+        requires short { AreShort self.old.part.rates }
         requires reserved { IsReservedAt self.old session request kept }
         ensures arrives { Arrives {A = I.Alloc} self.old self.new session moment request result }
         ensures entered { is_ok result ≡ is_some kept }
@@ -292,7 +306,7 @@ impl<I: Image> Member<I> {
             number: picked.number,
             tags,
         });
-        give_credit(&mut self.waiting, &mut self.shares, self.r_interval, phase);
+        give_credit(&mut self.waiting, &mut self.shares, phase);
         Some(picked)
     }
 

@@ -31,6 +31,23 @@ pub enum NotAttached {
     NoMemory,
 }
 
+/// Why an export keeps its rates.
+#[derive(Clone, Copy, Debug, PartialEq, Eq, Error)]
+pub enum NotRetuned {
+    /// There is no such export.
+    #[error("no export")]
+    NoExport,
+    /// The export has made as many steps as it ever may.
+    #[error("worn")]
+    Worn,
+    /// A request of the export waits.
+    #[error("waiting")]
+    Waiting,
+    /// No memory was there for the place in the export's log.
+    #[error("no memory")]
+    NoMemory,
+}
+
 /// Why no tags are told.
 #[derive(Clone, Copy, Debug, PartialEq, Eq, Error)]
 pub enum NoTags {

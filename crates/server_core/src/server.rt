@@ -13,23 +13,23 @@ ghost use Rattle.server_core.specs.Kept.{AreShort};
 ghost use Rattle.server_core.specs.Members.{opening_standing, seats_without};
 ghost use Rattle.server_core.specs.Served.{AllMembers};
 ghost use Rattle.server_core.specs.Journals.{ComesOfJournal};
-ghost use Rattle.server_core.specs.Here.{here as told_here, attached as told_attached, arrived as told_arrived, refusal_here};
+ghost use Rattle.server_core.specs.Here.{here as told_here, attached as told_attached, retuned as told_retuned, arrived as told_arrived, refusal_here};
 ghost use Rattle.server_table.specs.declared.event.Event.TheVariants as event;
 
 use crate::member::Member;
-use crate::refusal::{ArriveRefusal, NoTags, NotArrived, NotAttached, SessionRefusal};
+use crate::refusal::{ArriveRefusal, NoTags, NotArrived, NotAttached, NotRetuned, SessionRefusal};
 use crate::session::SessionId;
 use crate::ticket::{Chosen, Ticket};
 use crate::way::{make_way, put_first};
 use eligibility::Eligibility;
-use export_cell::{ExportCell, Outdated};
+use export_cell::{ExportCell, NotRetuned as NotRetunedAlone, Outdated};
 use export_store::Image;
 use lone_export::{
     ArriveRefusal as ArriveRefusalAlone, Arrived, AttachRefusal, NotArrived as NotArrivedAlone,
-    NotAttached as NotAttachedAlone,
+    NotAttached as NotAttachedAlone, RetuneRefusal,
 };
 use nbd_base::NoMemory;
-use nbd_commands::{Config, ExportConfig};
+use nbd_commands::{Config, ExportConfig, Rates};
 use nbd_wire::Request;
 use reply_box::{NotOpen, Taken};
 use std::alloc::Allocator;
@@ -66,7 +66,7 @@ fn open_members<I: Image>(
 ) -> Result<Vec<Member<I>, I::Alloc>, NoMemory>
     requires { IsWithin 4096 inflight }
     ensures members { IfOk result (λ made. made.items ≡ map (λ export. opening_standing inflight (terms_of export)) exports.now) }
-    ensures short { IfOk result (λ made. All (λ member. AreShort member.part.terms) made.items) }
+    ensures short { IfOk result (λ made. All (λ member. AreShort member.part.rates) made.items) }
 {
     let mut members = Vec::with_capacity(alloc, exports.len())?;
     for export in exports {
@@ -132,6 +132,18 @@ fn attached(export: u32, said: Result<u64, NotAttachedAlone>) -> Result<SessionI
     }
 }
 
+/// What a retune was answered, as the server answers it.
+fn retuned(said: Result<(), NotRetunedAlone>) -> Result<(), NotRetuned>
+    ensures { result ≡ told_retuned said }
+{
+    match said {
+        Ok(()) => Ok(()),
+        Err(NotRetunedAlone::Refused(RetuneRefusal::Worn)) => Err(NotRetuned::Worn),
+        Err(NotRetunedAlone::Refused(RetuneRefusal::Waiting)) => Err(NotRetuned::Waiting),
+        Err(NotRetunedAlone::NoMemory) => Err(NotRetuned::NoMemory),
+    }
+}
+
 fn arrive_refusal(refusal: ArriveRefusalAlone) -> ArriveRefusal
     ensures { result ≡ refusal_here refusal }
 {
@@ -165,7 +177,7 @@ fn arrived<A: Allocator>(
 }
 
 impl<I: Image, E: Eligibility<Alloc = I::Alloc>> Server<I, E> {
-    ghost use Rattle.server_core.specs.Served.{Holds, Stepped, attach_says, leave_says, gone_says, take_says, arrive_says, dispatch_says, perform_says, seats_chosen, opening_served, setup_for, waiting_tags};
+    ghost use Rattle.server_core.specs.Served.{Holds, Stepped, attach_says, retune_says, leave_says, gone_says, take_says, arrive_says, dispatch_says, perform_says, seats_chosen, opening_served, setup_for, waiting_tags};
     ghost use Rattle.server_core.specs.Counted.{counted_steps, rise, IsSound};
     ghost use Rattle.server_core.specs.Journals.{EventMoves, IsCellOf};
 
@@ -310,6 +322,22 @@ impl<I: Image, E: Eligibility<Alloc = I::Alloc>> Server<I, E> {
         }
         let member = &mut self.members[export as usize];
         attached(export, member.attach())
+    }
+
+    /// The rates of an export are others from now on, for the requests that arrive later. The last L and P tags stay, and so
+    /// does the last R tag where the new rates have a reservation. The oldest steps of its log go into its base, as many as
+    /// have to; without memory some of these.
+    pub fn retune(&mut self, export: u32, rates: Rates) -> Result<(), NotRetuned>
+        ensures step { Stepped {A = I.Alloc} self.old (event.Retune export rates) self.new (retune_says result) }
+        ensures journals { EventMoves {A = I.Alloc} self.old (event.Retune export rates) self.new (retune_says result) }
+        ensures counted { counted_steps self.new ≡ counted_steps self.old + rise {A = I.Alloc} (retune_says result) }
+        ensures seats { self.new.seats ≡ self.old.seats }
+    {
+        if export as usize >= self.members.len() {
+            return Err(NotRetuned::NoExport);
+        }
+        let tuned = &mut self.members[export as usize];
+        retuned(tuned.retune(rates))
     }
 
     /// The request that is in service under this number, where one is. It takes no memory.

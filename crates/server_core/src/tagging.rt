@@ -78,17 +78,15 @@ pub(crate) fn shift_all<A: Allocator>(tags: &mut VecDeque<Tags, A>, delta: i128)
 pub(crate) fn give_credit<A: Allocator>(
     waiting: &mut VecDeque<Tags, A>,
     shares: &mut ShareClock,
-    r_interval: Option<u64>,
     phase: Phase,
 )
-    requires interval { shares.old.r_interval ≡ r_interval }
-    requires waiting { AllTagsInRange (waiting_credited (credit_due phase r_interval) waiting.old.items) }
-    requires last { IsOptionInRange (share_credited_by (credit_due phase r_interval) shares.old).last_r }
-    ensures waiting { waiting.new.items ≡ waiting_credited (credit_due phase r_interval) waiting.old.items }
-    ensures shares { shares.new ≡ share_credited_by (credit_due phase r_interval) shares.old }
+    requires waiting { AllTagsInRange (waiting_credited (credit_due phase shares.old.r_interval) waiting.old.items) }
+    requires last { IsOptionInRange (share_credited_by (credit_due phase shares.old.r_interval) shares.old).last_r }
+    ensures waiting { waiting.new.items ≡ waiting_credited (credit_due phase shares.old.r_interval) waiting.old.items }
+    ensures shares { shares.new ≡ share_credited_by (credit_due phase shares.old.r_interval) shares.old }
     ensures capacity { deque_capacity waiting.old ≤ deque_capacity waiting.new }
 {
-    match (phase, r_interval) {
+    match (phase, shares.r_interval()) {
         (Phase::Weight, Some(interval)) => {
             credit_all(waiting, interval);
             shares.credit();

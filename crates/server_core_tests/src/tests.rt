@@ -1,19 +1,19 @@
 use eligibility::{Eligibility, Heaped, Listed};
 use export_store::Paged;
 use nbd_commands::{Config, ExportList, ExportSettings};
-use nbd_wire::protocol::{FLUSH, READ, WRITE};
+use nbd_wire::protocol::{FLUSH, READ};
 use nbd_wire::{Request, RequestHead};
 use payload::Payload;
 use refusing::Refusing;
 use server_core::*;
-use std::alloc::Global;
+use std::alloc::{Allocator, Global};
 use tag_clock::Moment;
 
 mod credit;
 mod due;
 mod journals;
 mod memory;
-mod scripts;
+mod retunes;
 mod tickets;
 
 type Tried<E> = Server<Paged<Global>, E>;
@@ -62,27 +62,14 @@ fn server_of<E: Eligibility<Alloc = Global>>(
     Server::new(alloc, &config).ok()
 }
 
-// A request of 4 bytes: a READ, a WRITE, or a WRITE past the end.
-fn request_of(alloc: Global, name: &str, cookie: u64) -> Option<Request<Global>> {
-    let (kind, offset) = match name {
-        "read" => (READ, 0),
-        "write" => (WRITE, 0),
-        "beyond" => (WRITE, 1),
-        _ => return None,
-    };
+// A READ of 4 bytes.
+fn read_of<A: Allocator>(cookie: u64) -> Request<A> {
     let head = RequestHead {
         flags: 0,
-        kind,
+        kind: READ,
         cookie,
-        offset,
+        offset: 0,
         length: 4,
     };
-    if kind == READ {
-        return Some(Request::new(head, Payload::new()));
-    }
-    let written = [0xde, 0xad, 0xbe, 0xef];
-    let Ok(payload) = Payload::copied(alloc, head.offset, written.as_slice()) else {
-        return None;
-    };
-    Some(Request::new(head, payload))
+    Request::new(head, Payload::new())
 }

@@ -5,9 +5,9 @@ use Rattle.server_table.specs.declared.event.Event.TheVariants as event
 use Rattle.server_table.specs.declared.event.Answer.{Answer}
 use Rattle.server_table.specs.declared.event.Answer.TheVariants as answer
 use Rattle.server_lock.specs.declared.trace.EventTrace.{EventTrace}
-use Rattle.server_lock.specs.declared.trace.EventTrace.TheVariants.{Attach, Arrive, Dispatch, Perform, Take, Leave, Gone}
+use Rattle.server_lock.specs.declared.trace.EventTrace.TheVariants.{Attach, Arrive, Dispatch, Perform, Take, Leave, Gone, Retune}
 use Rattle.server_lock.specs.declared.trace.AnswerTrace.{AnswerTrace}
-use Rattle.server_lock.specs.declared.trace.AnswerTrace.TheVariants.{Session, Accepted, Answered, Picked, Nothing, Performed, Reply, Empty, End, Left, Dropped, NoExport, NotOpen, Worn, Full, Hold, NotOut, NoMemory}
+use Rattle.server_lock.specs.declared.trace.AnswerTrace.TheVariants.{Session, Accepted, Answered, Picked, Nothing, Performed, Reply, Empty, End, Left, Dropped, NoExport, NotOpen, Worn, Full, Hold, NotOut, Retuned, Waiting, NoMemory}
 use Rattle.server_lock.specs.declared.trace.Trace.{Trace}
 
 module _ {A : Type 0} where
@@ -19,6 +19,7 @@ module _ {A : Type 0} where
   short_event (event.Take e s) = Take e s
   short_event (event.Leave e s) = Leave e s
   short_event (event.Gone e s) = Gone e s
+  short_event (event.Retune e rates) = Retune e rates
 
   abbrev pub short_answer : Answer A → AnswerTrace
   short_answer (answer.Session n) = Session n
@@ -38,6 +39,8 @@ module _ {A : Type 0} where
   short_answer answer.Full = Full
   short_answer answer.Hold = Hold
   short_answer answer.NotOut = NotOut
+  short_answer answer.Retuned = Retuned
+  short_answer answer.Waiting = Waiting
   short_answer answer.NoMemory = NoMemory
 
   abbrev pub trace_of : Event A → Answer A → Trace
@@ -62,6 +65,8 @@ is_counted_trace Worn = false
 is_counted_trace Full = false
 is_counted_trace Hold = false
 is_counted_trace NotOut = false
+is_counted_trace Retuned = true
+is_counted_trace Waiting = false
 is_counted_trace NoMemory = false
 
 abbrev pub rise_of_trace : AnswerTrace → ℕ

@@ -20,5 +20,5 @@ pub use tally::{ExportTally, Tally};
 pub use trace::{AnswerTrace, EventTrace, Trace};
 pub use turns::{
     Booked, Pass, settle, turn_arrive, turn_attach, turn_dispatch, turn_gone, turn_leave,
-    turn_perform, turn_take,
+    turn_perform, turn_retune, turn_take,
 };

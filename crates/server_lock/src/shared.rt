@@ -3,7 +3,7 @@ ghost use Rattle.std.specs.Prelude.{◌≡◌, ◌≤◌, IfOk, IfErr, IfSome, v
 ghost use Rattle.std.specs.Sync.Mutex.{mutex_guard_value};
 ghost use Rattle.server_table.specs.declared.event.Event.TheVariants as event;
 ghost use Rattle.server_core.specs.Counted.{counted_steps, IsSound};
-ghost use Rattle.server_core.specs.Served.{attach_says, arrive_says, dispatch_says, perform_says, take_says, leave_says, gone_says};
+ghost use Rattle.server_core.specs.Served.{attach_says, arrive_says, dispatch_says, perform_says, take_says, leave_says, gone_says, retune_says};
 ghost use Rattle.server_lock.specs.Scores.{noted, opened, without, chosen_by};
 
 use crate::turns;
@@ -12,9 +12,12 @@ use eligibility::Eligibility;
 use export_store::Image;
 use lone_export::Arrived;
 use nbd_base::NoMemory;
+use nbd_commands::Rates;
 use nbd_wire::Request;
 use reply_box::Taken;
-use server_core::{Chosen, NotArrived, NotAttached, Server, SessionId, SessionRefusal, Ticket};
+use server_core::{
+    Chosen, NotArrived, NotAttached, NotRetuned, Server, SessionId, SessionRefusal, Ticket,
+};
 use std::hint::spin_loop;
 use std::sync::atomic::{AtomicBool, Ordering};
 use std::sync::ledger::{Blank, Ledger};
@@ -194,6 +197,19 @@ impl<L: Ledger, I: Image, E: Eligibility<Alloc = I::Alloc>> Shared<L, I, E> {
         ensures { pass.new ≡ noted {A = I.Alloc} pass.old (event.Gone session.export session.number) (gone_says result) }
     {
         turns::turn_gone(&mut *self.hold(rt), pass, session)
+    }
+
+    /// The rates of an export are others from now on.
+    pub fn turn_retune<R: Wait>(
+        &self,
+        rt: &R,
+        pass: &mut Pass<L>,
+        export: u32,
+        rates: Rates,
+    ) -> Result<(), NotRetuned>
+        ensures { pass.new ≡ noted {A = I.Alloc} pass.old (event.Retune export rates) (retune_says result) }
+    {
+        turns::turn_retune(&mut *self.hold(rt), pass, export, rates)
     }
 
     /// How many requests wait, of all exports together, while no turn is made.

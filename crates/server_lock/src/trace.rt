@@ -1,13 +1,16 @@
 //! What a pass remembers of its latest turn.
 ghost use Rattle.std.specs.Prelude.{◌≡◌};
 ghost use Rattle.server_core.specs.Counted.{rise};
-ghost use Rattle.server_core.specs.Served.{attach_says, arrive_says, dispatch_says, perform_says, take_says, leave_says, gone_says};
+ghost use Rattle.server_core.specs.Served.{attach_says, arrive_says, dispatch_says, perform_says, take_says, leave_says, gone_says, retune_says};
 ghost use Rattle.server_lock.specs.Traces.{short_answer, is_counted_trace, rise_of_trace};
 
 use lone_export::Arrived;
+use nbd_commands::Rates;
 use nbd_wire::RequestHead;
 use reply_box::Taken;
-use server_core::{ArriveRefusal, Chosen, NotArrived, NotAttached, SessionId, SessionRefusal};
+use server_core::{
+    ArriveRefusal, Chosen, NotArrived, NotAttached, NotRetuned, SessionId, SessionRefusal,
+};
 use std::alloc::Allocator;
 use tag_clock::{Moment, Phase};
 
@@ -41,6 +44,10 @@ pub enum EventTrace {
     Gone {
         export: u32,
         session: u64,
+    },
+    Retune {
+        export: u32,
+        rates: Rates,
     },
 }
 
@@ -76,6 +83,8 @@ pub enum AnswerTrace {
     Full,
     Hold,
     NotOut,
+    Retuned,
+    Waiting,
     NoMemory,
 }
 
@@ -99,7 +108,8 @@ impl AnswerTrace {
             | AnswerTrace::Performed { .. }
             | AnswerTrace::Reply { .. }
             | AnswerTrace::Left
-            | AnswerTrace::Dropped => true,
+            | AnswerTrace::Dropped
+            | AnswerTrace::Retuned => true,
             AnswerTrace::Nothing
             | AnswerTrace::Empty
             | AnswerTrace::End
@@ -109,6 +119,7 @@ impl AnswerTrace {
             | AnswerTrace::Full
             | AnswerTrace::Hold
             | AnswerTrace::NotOut
+            | AnswerTrace::Waiting
             | AnswerTrace::NoMemory => false,
         }
     }
@@ -206,5 +217,18 @@ pub(crate) fn told_gone<A: Allocator>(answer: &Result<(), SessionRefusal>) -> An
         Ok(()) => AnswerTrace::Dropped,
         Err(SessionRefusal::NoExport) => AnswerTrace::NoExport,
         Err(SessionRefusal::NotOpen) => AnswerTrace::NotOpen,
+    }
+}
+
+pub(crate) fn told_retune<A: Allocator>(answer: &Result<(), NotRetuned>) -> AnswerTrace
+    ensures trace { result ≡ short_answer {A = A} (retune_says answer.now) }
+    ensures rise { rise_of_trace result ≡ rise {A = A} (retune_says answer.now) }
+{
+    match answer {
+        Ok(()) => AnswerTrace::Retuned,
+        Err(NotRetuned::NoExport) => AnswerTrace::NoExport,
+        Err(NotRetuned::Worn) => AnswerTrace::Worn,
+        Err(NotRetuned::Waiting) => AnswerTrace::Waiting,
+        Err(NotRetuned::NoMemory) => AnswerTrace::NoMemory,
     }
 }

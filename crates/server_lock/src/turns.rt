@@ -8,23 +8,26 @@ ghost use Rattle.server_table.specs.declared.event.Answer.TheVariants as answer;
 ghost use Rattle.server_core.specs.Counted.{counted_steps, IsSound};
 ghost use Rattle.server_core.specs.Members.{seats_without};
 ghost use Rattle.server_core.specs.Journals.{EventMoves};
-ghost use Rattle.server_core.specs.Served.{Holds, Stepped, seats_chosen, attach_says, arrive_says, dispatch_says, perform_says, take_says, leave_says, gone_says};
+ghost use Rattle.server_core.specs.Served.{Holds, Stepped, seats_chosen, attach_says, arrive_says, dispatch_says, perform_says, take_says, leave_says, gone_says, retune_says};
 ghost use Rattle.server_lock.specs.Traces.{rise_of_trace};
 ghost use Rattle.server_lock.specs.Scores.{noted, scored, opened, unused, holding, without, chosen_by};
 
 use crate::tally::Tally;
 use crate::trace::{
     AnswerTrace, EventTrace, Trace, told_arrive, told_attach, told_dispatch, told_gone, told_leave,
-    told_perform, told_take,
+    told_perform, told_retune, told_take,
 };
 use eligibility::Eligibility;
 use export_cell::Outdated;
 use export_store::Image;
 use lone_export::Arrived;
 use nbd_base::NoMemory;
+use nbd_commands::Rates;
 use nbd_wire::Request;
 use reply_box::Taken;
-use server_core::{Chosen, NotArrived, NotAttached, Server, SessionId, SessionRefusal, Ticket};
+use server_core::{
+    Chosen, NotArrived, NotAttached, NotRetuned, Server, SessionId, SessionRefusal, Ticket,
+};
 use std::alloc::Allocator;
 use std::marker::Model;
 use std::sync::ledger::{Blank, Book, Ledger, Share};
@@ -452,6 +455,24 @@ pub fn turn_gone<L: Ledger, I: Image, E: Eligibility<Alloc = I::Alloc>>(
         session: number,
     };
     pass.note(&mut booked.book, event, told);
+    answer
+}
+
+/// The rates of an export are others from now on.
+pub fn turn_retune<L: Ledger, I: Image, E: Eligibility<Alloc = I::Alloc>>(
+    booked: &mut Booked<L, I, E>,
+    pass: &mut Pass<L>,
+    export: u32,
+    rates: Rates,
+) -> Result<(), NotRetuned>
+    ensures step { Stepped {A = I.Alloc} booked.old (event.Retune export rates) booked.new (retune_says result) }
+    ensures journals { EventMoves {A = I.Alloc} booked.old (event.Retune export rates) booked.new (retune_says result) }
+    ensures seats { booked.new.seats ≡ booked.old.seats }
+    ensures pass { pass.new ≡ noted {A = I.Alloc} pass.old (event.Retune export rates) (retune_says result) }
+{
+    let answer = booked.server.retune(export, rates);
+    let told = told_retune::<I::Alloc>(&answer);
+    pass.note(&mut booked.book, EventTrace::Retune { export, rates }, told);
     answer
 }
 

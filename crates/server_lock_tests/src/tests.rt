@@ -1,10 +1,13 @@
 ghost use Rattle.std.specs.Prelude.{◌≡◌};
 
+mod lines;
+mod scripts;
 mod tally;
+mod wrappers;
 
 use eligibility::{Eligibility, Heaped, Listed};
 use export_cell::Outdated;
-use export_store::Flat;
+use export_store::Paged;
 use lone_export::Arrived;
 use nbd_commands::{Config, ExportList, ExportSettings};
 use nbd_wire::protocol::{FLUSH, READ, WRITE};
@@ -14,13 +17,16 @@ use refusing::Refusing;
 use reply_box::Taken;
 use server_core::{Chosen, NotAttached, Server, SessionId, SessionRefusal};
 use server_lock::*;
+use server_table::{Answer, Event};
 use std::alloc::{Allocator, Global};
 use std::marker::Brand;
 use std::sync::Wait;
 use std::sync::ledger::{Blank, Ledger};
 use tag_clock::{Moment, Tags};
 
-type Tried<L> = Shared<L, Flat<Global>, Heaped<Global>>;
+type Live<E> = Server<Paged<Global>, E>;
+
+type Tried<L> = Shared<L, Paged<Global>, Heaped<Global>>;
 
 const FIRST: SessionId = SessionId {
     export: 0,
@@ -32,18 +38,40 @@ const SECOND: SessionId = SessionId {
     number: 1,
 };
 
-fn config_of<A: Allocator + Copy>(alloc: A) -> Option<Config<A>> {
+// An export's reservation, limit, weight, depth and window where nothing else is said.
+const PLAIN: [u64; 5] = [0, 0, 1, 1024, 256];
+
+// Of an export of 4,096 bytes.
+fn settings(name: &'static [u8], rates: &[u64; 5]) -> ExportSettings<'static> {
+    let mut settings = ExportSettings::new(name, 4096);
+    settings.reservation = rates[0];
+    settings.limit = rates[1];
+    settings.weight = rates[2];
+    settings.depth = rates[3];
+    settings.window = rates[4];
+    settings
+}
+
+fn config_of<A: Allocator + Copy>(
+    alloc: A,
+    exports: &[[u64; 5]],
+    inflight: u64,
+) -> Option<Config<A>> {
     let mut list = ExportList::new(alloc);
-    if list.add(&ExportSettings::new(b"a", 4096)).is_err() {
-        return None;
+    for (name, rates) in [b"a", b"b"].iter().zip(exports) {
+        if list.add(&settings(name.as_slice(), rates)).is_err() {
+            return None;
+        }
     }
-    Config::new(list, 32).ok()
+    Config::new(list, inflight).ok()
 }
 
 fn server_of<E: Eligibility<Alloc = A>, A: Allocator + Copy>(
     alloc: A,
-) -> Option<Server<Flat<A>, E>> {
-    let Some(config) = config_of(alloc) else {
+    exports: &[[u64; 5]],
+    inflight: u64,
+) -> Option<Server<Paged<A>, E>> {
+    let Some(config) = config_of(alloc, exports, inflight) else {
         return None;
     };
     Server::new(alloc, &config).ok()
@@ -92,9 +120,22 @@ fn alone<L: Ledger>(alloc: Global, blank: Blank) -> Option<(Tried<L>, Pass<L>)>
     requires parts { blank.parts ≡ L.parts }
     requires one { blank.parts ≡ 1 }
 {
-    let Some(server) = server_of(alloc) else {
+    let Some(server) = server_of(alloc, &[PLAIN], 32) else {
         return None;
     };
+    shared_alone(alloc, server, blank)
+}
+
+// A server that is shared, and its only pass.
+fn shared_alone<L: Ledger>(
+    alloc: Global,
+    server: Server<Paged<Global>, Heaped<Global>>,
+    blank: Blank,
+) -> Option<(Tried<L>, Pass<L>)>
+    requires name { blank.name ≡ L.name }
+    requires parts { blank.parts ≡ L.parts }
+    requires one { blank.parts ≡ 1 }
+{
     let Ok((shared, mut passes)) = Tried::<L>::new(alloc, server, blank, 1) else {
         return None;
     };
@@ -106,7 +147,7 @@ fn alone<L: Ledger>(alloc: Global, blank: Blank) -> Option<(Tried<L>, Pass<L>)>
 
 // The steps of a server, where these are all its passes.
 fn settled<L: Ledger, E: Eligibility<Alloc = A>, A: Allocator + Copy>(
-    booked: Booked<L, Flat<A>, E>,
+    booked: Booked<L, Paged<A>, E>,
     passes: Vec<Pass<L>, A>,
 ) -> Option<u128> {
     if passes.len() as u64 != booked.passes() {
@@ -186,7 +227,7 @@ fn is_read<L: Ledger, R: Wait>(rt: &R, shared: &Tried<L>, pass: &mut Pass<L>) ->
 
 // Whether the second session's oldest reply has what the first one wrote.
 fn is_told<L: Ledger>(
-    booked: &mut Booked<L, Flat<Global>, Heaped<Global>>,
+    booked: &mut Booked<L, Paged<Global>, Heaped<Global>>,
     pass: &mut Pass<L>,
 ) -> bool {
     let Ok(Taken::Reply(reply)) = turn_take(booked, pass, SECOND) else {
@@ -202,7 +243,7 @@ fn is_told<L: Ledger>(
 
 // Whether that is the only reply, and the first session is gone.
 fn is_all<L: Ledger>(
-    booked: &mut Booked<L, Flat<Global>, Heaped<Global>>,
+    booked: &mut Booked<L, Paged<Global>, Heaped<Global>>,
     pass: &mut Pass<L>,
 ) -> bool {
     matches!(turn_take(booked, pass, SECOND), Ok(Taken::Empty))
@@ -284,7 +325,7 @@ fn gone_is_still_served(rt: HostRuntime) {
     assert!(rt; ran.steps == Some(12));
 }
 
-type Old<A> = Server<Flat<A>, Listed<A>>;
+type Old<A> = Server<Paged<A>, Listed<A>>;
 
 // Seven counted steps: of three requests one is performed, one is in service and one waits.
 fn serves<A: Allocator + Copy>(server: &mut Old<A>) -> bool {
@@ -304,7 +345,7 @@ fn serves<A: Allocator + Copy>(server: &mut Old<A>) -> bool {
 }
 
 fn served<A: Allocator + Copy>(alloc: A) -> Option<Old<A>> {
-    let Some(mut server) = server_of(alloc) else {
+    let Some(mut server) = server_of(alloc, &[PLAIN], 32) else {
         return None;
     };
     if serves(&mut server) {
@@ -339,7 +380,7 @@ fn has_tags<A: Allocator + Copy>(alloc: A, server: &Old<A>) -> bool {
 // Whether a sweep leaves such a server as it was, and its base's catching up.
 fn is_swept<L: Ledger>(
     alloc: Global,
-    booked: &mut Booked<L, Flat<Global>, Listed<Global>>,
+    booked: &mut Booked<L, Paged<Global>, Listed<Global>>,
 ) -> bool {
     let Ok(mut outdated) = Outdated::with_room(alloc, 4) else {
         return false;
@@ -359,7 +400,7 @@ fn opened_and_ended<L: Ledger>(alloc: Global, blank: Blank) -> Option<(bool, boo
         return None;
     };
     let before = is_served(&server) && has_tags(alloc, &server);
-    let made = Shared::<L, Flat<Global>, Listed<Global>>::new(alloc, server, blank, 3);
+    let made = Shared::<L, Paged<Global>, Listed<Global>>::new(alloc, server, blank, 3);
     let Ok((shared, passes)) = made else {
         return None;
     };
@@ -390,12 +431,12 @@ fn refused_then_opened<'a, L: Ledger>(
         return None;
     };
     memory.arm(1);
-    let made = Shared::<L, Flat<Memory<'a>>, Listed<Memory<'a>>>::new(memory, server, blank, 2);
+    let made = Shared::<L, Paged<Memory<'a>>, Listed<Memory<'a>>>::new(memory, server, blank, 2);
     let Err((_, server, blank)) = made else {
         return None;
     };
     let back = !memory.is_armed() && is_served(&server);
-    let made = Shared::<L, Flat<Memory<'a>>, Listed<Memory<'a>>>::new(memory, server, blank, 2);
+    let made = Shared::<L, Paged<Memory<'a>>, Listed<Memory<'a>>>::new(memory, server, blank, 2);
     let Ok((shared, passes)) = made else {
         return None;
     };
@@ -409,61 +450,6 @@ fn refused_memory_hands_back(rt: HostRuntime) {
     let memory = Refusing::new(rt.alloc(), 0);
     let opened = refused_then_opened::<Brand>(&memory, Blank::new(2));
     assert!(rt; opened == Some((true, true, Some(7))));
-}
-
-// Whether an export's 64 sessions are opened, numbered from 0 on.
-fn is_filled<L: Ledger, R: Wait>(rt: &R, shared: &Tried<L>, pass: &mut Pass<L>) -> bool {
-    for number in 0..64u64 {
-        if shared.turn_attach(rt, pass, 0) != Ok(SessionId { export: 0, number }) {
-            return false;
-        }
-    }
-    true
-}
-
-// Whether one more is refused, which the pass remembers.
-fn is_full<L: Ledger, R: Wait>(rt: &R, shared: &Tried<L>, pass: &mut Pass<L>) -> bool {
-    let event = EventTrace::Attach { export: 0 };
-    let answer = AnswerTrace::Full;
-    shared.turn_attach(rt, pass, 0) == Err(NotAttached::Full)
-        && pass.last() == Some(Trace { event, answer })
-        && pass.turns() == 65
-}
-
-// Whether there is room for another once the first is gone, with the next number.
-fn has_room_again<L: Ledger, R: Wait>(rt: &R, shared: &Tried<L>, pass: &mut Pass<L>) -> bool {
-    let next = SessionId {
-        export: 0,
-        number: 64,
-    };
-    shared.turn_gone(rt, pass, FIRST).is_ok() && shared.turn_attach(rt, pass, 0) == Ok(next)
-}
-
-// An export has 64 sessions at once. The 65th is refused, and had once another is gone.
-fn sixty_five<L: Ledger, R: Wait>(
-    rt: &R,
-    alloc: Global,
-    blank: Blank,
-) -> Option<([bool; 3], Option<u128>)>
-    requires name { blank.name ≡ L.name }
-    requires parts { blank.parts ≡ L.parts }
-    requires one { blank.parts ≡ 1 }
-{
-    let Some((shared, mut pass)) = alone::<L>(alloc, blank) else {
-        return None;
-    };
-    let told = [
-        is_filled(rt, &shared, &mut pass),
-        is_full(rt, &shared, &mut pass),
-        has_room_again(rt, &shared, &mut pass),
-    ];
-    Some((told, settled_alone(alloc, shared, pass)))
-}
-
-#[test]
-fn one_session_too_many(rt: HostRuntime) {
-    let told = sixty_five::<Brand, _>(&rt, rt.alloc(), Blank::new(1));
-    assert!(rt; told == Some(([true, true, true], Some(66))));
 }
 
 // Whether nothing is due at first, and then what waits.

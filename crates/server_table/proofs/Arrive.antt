@@ -154,10 +154,10 @@ put_at row k (suc i) (x ∷ ps) p q is lt at one =
     ∙ append_assoc (part_rows k x) (filter low (rows_from (suc k) ps)) (row ∷ filter high (rows_from (suc k) ps))
     ∙ ap (λ l. part_rows k x ++ l) (put_at row (suc k) i ps p q (omega arith) (omega arith) at one)
 
-pub entered_at : (ps : List Part) (now e s t : ℕ) (q : RequestMessage) (p : Part) → e < length ps → p ≡ get_or ps e p → entered (new_row p.terms e s t q (side_of p)) (table_of ps now) ≡ table_of (set ps e (accepted_part s q (part_tags p t) p)) now
+pub entered_at : (ps : List Part) (now e s t : ℕ) (q : RequestMessage) (p : Part) → e < length ps → p ≡ get_or ps e p → entered (new_row e s t q (side_of p)) (table_of ps now) ≡ table_of (set ps e (accepted_part s q (part_tags p t) p)) now
 entered_at ps now e s t q p lt at =
     let after = accepted_part s q (part_tags p t) p in
-    let row = new_row p.terms e s t q (side_of p) in
+    let row = new_row e s t q (side_of p) in
     let outs = map (row_of e true) p.out in
     let f : Side → Side = λ side. record (with_last row side) { count = side.count + 1 } in
     let part : part_rows e after ≡ part_rows e p ++ row ∷ [] =
@@ -167,7 +167,7 @@ entered_at ps now e s t q p lt at =
     ∙ ap (λ ss. record { rows = rows_from 0 (set ps e after); sides = ss; now = now }) (sides_at f e ps p after lt at refl)
 
 module _ {A : Type 0} where
-  pub accepted_at : (ps : List Part) (now e s t : ℕ) (q : RequestMessage) (p : Part) → e < length ps → p ≡ get_or ps e p → accepted_in {A = A} p.terms e s t q (table_of ps now) ≡ outcome (table_of (set ps e (accepted_part s q (part_tags p t) p)) now) (Accepted p.next (part_tags p t).l)
+  pub accepted_at : (ps : List Part) (now e s t : ℕ) (q : RequestMessage) (p : Part) → e < length ps → p ≡ get_or ps e p → accepted_in {A = A} e s t q (table_of ps now) ≡ outcome (table_of (set ps e (accepted_part s q (part_tags p t) p)) now) (Accepted p.next (part_tags p t).l)
   accepted_at ps now e s t q p lt at =
-      ap (λ z. outcome (entered (new_row p.terms e s t q z) (table_of ps now)) (Accepted z.next (later z.last_l p.terms.l_interval t))) (side_at ps now e p lt at)
+      ap (λ z. outcome (entered (new_row e s t q z) (table_of ps now)) (Accepted z.next (later z.last_l z.rates.l_interval t))) (side_at ps now e p lt at)
       ∙ ap (λ table. outcome table (Accepted p.next (part_tags p t).l)) (entered_at ps now e s t q p lt at)

@@ -98,5 +98,5 @@ module _ {A : Type 0} where
       (skip _ _ _ (ap (λ n. n == p.terms.window) (outstanding_at ps now e s p lt at) ∙ a.spare)
       (skip _ _ _ (ap not a.fine)
       (skip _ _ _ (ap (λ n. n == p.terms.depth) (waiting_at ps e 0 e p (omega arith) lt at) ∙ a.shallow)
-      (ap (accepted_in p.terms e s t q) (shifted_way ps now e t p numbered rising lt at)
+      (ap (accepted_in e s t q) (shifted_way ps now e t p numbered rising lt at)
       ∙ accepted_at way now e s t q p within (sym (way_same (pos t) ps e p p lt at))))))))

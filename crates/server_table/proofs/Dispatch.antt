@@ -17,9 +17,9 @@ use Rattle.server_table.specs.declared.event.Event.TheVariants.{Dispatch}
 use Rattle.server_table.specs.Table.{Row, Side, Choice, foremost, is_due_by_reservation, is_due_by_limit, r_key, p_key, waits_in, lower_r, lower_last_r, credited}
 use Rattle.server_table.specs.Steps.{Outcome, outcome, send, sent, with_credit, step}
 use Rattle.server_table.specs.Order.{AllParts, AllAbove, IsRising, IsNumbered, heads, least_row, chosen_row}
-use Rattle.server_table.specs.Kept.{AreInOrder, ChoosesAmongHeads, export_phase}
+use Rattle.server_table.specs.Kept.{ChoosesAmongHeads, export_phase}
 use Rattle.server_table.specs.Picks.{entry_credited, part_credited, front, part_sent, part_picked}
-use Rattle.server_table.proofs.Rows.{sides_at, terms_at, filter_entries, filter_all, filter_no}
+use Rattle.server_table.proofs.Rows.{side_at, sides_at, filter_entries, filter_all, filter_no}
 use Rattle.server_table.proofs.Heads.{HeadAt, IsHeadAt, least_rows, least_is_head, due_r_order, due_p_order, choice_told, choice_of_heads}
 use Rattle.server_table.proofs.Ordered.{ordered_rows, choice_pairs, pair_of}
 
@@ -140,13 +140,13 @@ all_credited ps now e by p lt at =
         ap (λ b. record other { r = cond b (lowered (pos by) other.r) other.r }) none
 
 -- the whole change of a choice
-chosen_table : (ps : List Part) (now inflight : ℕ) (row : Row) (phase : Phase) (p : Part) → row.export < length ps → p ≡ get_or ps row.export p → with_credit (setup_of ps inflight) (record { row = row; phase = phase }) (table_of (set ps row.export (part_sent p)) now) ≡ table_of (set ps row.export (part_picked phase p)) now
-chosen_table ps now inflight row Reservation p lt at = refl
-chosen_table ps now inflight row Weight p lt at =
+chosen_table : (ps : List Part) (now : ℕ) (row : Row) (phase : Phase) (p : Part) → row.export < length ps → p ≡ get_or ps row.export p → with_credit (record { row = row; phase = phase }) (table_of (set ps row.export (part_sent p)) now) ≡ table_of (set ps row.export (part_picked phase p)) now
+chosen_table ps now row Reservation p lt at = refl
+chosen_table ps now row Weight p lt at =
     let e = row.export in
     let sent_ps = set ps e (part_sent p) in
-    ap (λ o. when_some o (λ terms. when_some terms.r_interval (λ by. credited by e (table_of sent_ps now)) (table_of sent_ps now)) (table_of sent_ps now)) (terms_at ps inflight e p lt at)
-    ∙ by_interval p.terms.r_interval
+    ap (λ (z : Side). when_some z.rates.r_interval (λ by. credited by e (table_of sent_ps now)) (table_of sent_ps now)) (side_at sent_ps now e (part_sent p) (rw length-set lt) (sym (set_read ps e (part_sent p) (part_sent p) lt)))
+    ∙ by_interval p.rates.r_interval
   where
     by_interval : (o : Option ℕ) → when_some o (λ by. credited by row.export (table_of (set ps row.export (part_sent p)) now)) (table_of (set ps row.export (part_sent p)) now) ≡ table_of (set ps row.export (part_credited o (part_sent p))) now
     by_interval None = refl
@@ -181,7 +181,7 @@ module _ {A : Type 0} where
   step_full ps now inflight t memory full =
       let o = outs_of 0 ps in
       let test : nat_le inflight (length (filter (λ (row : Row). row.out) (rows_from 0 ps))) ≡ true = grind (arith, nat_tests) in
-      ap (λ b. when_some (cond b None (the_choice (max now t) (rows_from 0 ps))) (λ chosen. outcome (with_credit (setup_of ps inflight) chosen (sent chosen.row (table_of ps (max now t)))) (Picked chosen.row.export chosen.row.number chosen.phase)) (outcome (table_of ps (max now t)) Nothing)) test
+      ap (λ b. when_some (cond b None (the_choice (max now t) (rows_from 0 ps))) (λ chosen. outcome (with_credit chosen (sent chosen.row (table_of ps (max now t)))) (Picked chosen.row.export chosen.row.number chosen.phase)) (outcome (table_of ps (max now t)) Nothing)) test
 
 told_pair : (o : Option Choice) → choice_told (option_map pair_of o) ≡ export_phase o
 told_pair None = refl
@@ -200,7 +200,7 @@ module _ {A : Type 0} where
   pub step_none : (ps : List Part) (now inflight t : ℕ) (memory : Bool) → AllParts (λ p. IsNumbered (p.out ++ p.waiting)) ps → AllParts (λ p. IsRising p.waiting) ps → choice_among (pos (max now t)) (heads ps) ≡ None → step {A = A} (setup_of ps inflight) (table_of ps now) (Dispatch t) memory ≡ outcome (table_of ps (max now t)) Nothing
   step_none ps now inflight t memory numbered rising is =
       let none : the_choice (max now t) (rows_from 0 ps) ≡ None = none_of (the_choice (max now t) (rows_from 0 ps)) (sym (choice_told_of ps (max now t) numbered rising) ∙ is) in
-      let made : Choice → Outcome A = λ chosen. outcome (with_credit (setup_of ps inflight) chosen (sent chosen.row (table_of ps (max now t)))) (Picked chosen.row.export chosen.row.number chosen.phase) in
+      let made : Choice → Outcome A = λ chosen. outcome (with_credit chosen (sent chosen.row (table_of ps (max now t)))) (Picked chosen.row.export chosen.row.number chosen.phase) in
       ap (λ o. when_some (cond (nat_le inflight (length (filter (λ (row : Row). row.out) (rows_from 0 ps)))) None o) made (outcome (table_of ps (max now t)) Nothing)) none
       ∙ by_test (nat_le inflight (length (filter (λ (row : Row). row.out) (rows_from 0 ps)))) made
     where
@@ -246,7 +246,7 @@ module _ {A : Type 0} where
       let waiting : (d : Part) → (get_or ps e d).waiting ≡ head.head ∷ head.rest = λ d. subst (λ n. (get_or ps n d).waiting ≡ head.head ∷ head.rest) place (head.waiting d) in
       let o = outs_of 0 ps in
       let test : nat_le inflight (length (filter (λ (row : Row). row.out) (rows_from 0 ps))) ≡ false = grind (arith, nat_tests) in
-      let made : Choice → Outcome A = λ chosen. outcome (with_credit (setup_of ps inflight) chosen (sent chosen.row (table_of ps (max now t)))) (Picked chosen.row.export chosen.row.number chosen.phase) in
+      let made : Choice → Outcome A = λ chosen. outcome (with_credit chosen (sent chosen.row (table_of ps (max now t)))) (Picked chosen.row.export chosen.row.number chosen.phase) in
       record {
         head = head.head;
         rest = head.rest;
@@ -258,8 +258,8 @@ module _ {A : Type 0} where
             let above = above_of p.out head.head head.rest (subst (λ l. IsNumbered (p.out ++ l)) own order) in
             ap (λ b. when_some (cond b None (the_choice (max now t) (rows_from 0 ps))) made (outcome (table_of ps (max now t)) Nothing)) test
             ∙ ap (λ o. when_some o made (outcome (table_of ps (max now t)) Nothing)) is
-            ∙ ap (λ tb. outcome (with_credit (setup_of ps inflight) c tb) (Picked c.row.export c.row.number c.phase)) (all_sent ps (max now t) c.row p head.head head.rest within at own head.number above)
-            ∙ ap (λ tb. outcome tb (Picked e c.row.number c.phase)) (chosen_table ps (max now t) inflight c.row c.phase p within at)
+            ∙ ap (λ tb. outcome (with_credit c tb) (Picked c.row.export c.row.number c.phase)) (all_sent ps (max now t) c.row p head.head head.rest within at own head.number above)
+            ∙ ap (λ tb. outcome tb (Picked e c.row.number c.phase)) (chosen_table ps (max now t) c.row c.phase p within at)
             ∙ ap (λ n. outcome (table_of (set ps e (part_picked c.phase p)) (max now t)) (Picked e n c.phase)) head.number;
       }
 

@@ -7,4 +7,5 @@ pub mod Ordered
 pub mod Arrive
 pub mod Arrived
 pub mod Dispatch
+pub mod Retunes
 pub mod Push

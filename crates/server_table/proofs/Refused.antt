@@ -14,7 +14,7 @@ use Rattle.server_table.proofs.Rows.{side_at, terms_at, found, filter_part}
 use Rattle.server_table.proofs.Sides.{outstanding_at}
 use Rattle.server_table.proofs.Perform.{out_at}
 
-none_there : (ps : List Part) (inflight e : ℕ) → length ps ≤ e → slice_get (setup_of ps inflight).exports e ≡ None
+pub none_there : (ps : List Part) (inflight e : ℕ) → length ps ≤ e → slice_get (setup_of ps inflight).exports e ≡ None
 none_there [] inflight e le = refl
 none_there (x ∷ xs) inflight zero le = absurd (omega arith)
 none_there (x ∷ xs) inflight (suc e) le = none_there xs inflight e (omega arith)

@@ -10,30 +10,30 @@ use Rattle.lone_export.specs.declared.step.StepAnswer.{StepAnswer}
 use Rattle.lone_export.specs.declared.step.StepAnswer.TheVariants as alone
 use Rattle.nbd_base.specs.Words.{change_at}
 use Rattle.reply_box.specs.Sessions.{Session, new_session, is_here, is_open_at, is_left_at, is_here_at, outbox_at, take_at, leave_at, drop_at}
-use Rattle.lone_export.specs.Alone.{Job, Moved, own_step, outstanding, stays, moves}
-use Rattle.server_table.specs.Parts.{Entry, Part, row_of, rows_from, side_of, table_of, setup_of, alone_of, job_of_entry, with_alone}
+use Rattle.lone_export.specs.Alone.{Job, own_step, outstanding, stays, moves}
+use Rattle.server_table.specs.Parts.{Entry, Part, row_of, part_rows, rows_from, side_of, table_of, setup_of, alone_of, job_of_entry}
 use Rattle.server_table.specs.declared.event.Event.TheVariants.{Attach, Take, Leave, Gone}
 use Rattle.server_table.specs.Table.{Row, Side, side}
-use Rattle.server_table.specs.Steps.{Outcome, outcome, seated, with_sessions, outstanding_in, step}
+use Rattle.server_table.specs.Steps.{outcome, changed, seated, with_sessions, outstanding_in, step}
 use Rattle.server_table.specs.Answers.{as_answer}
 use Rattle.server_table.specs.Kept.{as_moved}
 use Rattle.lone_export.proofs.Cases.{fork, fork_some}
 use Rattle.server_table.proofs.Rows.{side_at, terms_at, sides_at, rows_same, set_same, filter_only, filter_entries}
 
--- other sessions in the table are other sessions of the part
-seated_at : (ps : List Part) (now e : ℕ) (p : Part) (sessions : List Session) → e < length ps → p ≡ get_or ps e p → seated e sessions (table_of ps now) ≡ table_of (set ps e (record p { sessions = sessions; count = p.count + 1 })) now
-seated_at ps now e p sessions lt at =
-    let q : Part = record p { sessions = sessions; count = p.count + 1 } in
-    let f : Side → Side = λ side. record (with_sessions sessions side) { count = side.count + 1 } in
-    ap (λ rs. record { rows = rs; sides = change_at f e (map side_of ps); now = now }) (rows_same 0 e ps p q lt at (λ n. refl))
-    ∙ ap (λ ss. record { rows = rows_from 0 (set ps e q); sides = ss; now = now }) (sides_at f e ps p q lt at refl)
+-- another side in the table is another part with the same requests
+pub changed_at : (ps : List Part) (now e : ℕ) (p q : Part) (change : Side → Side) → e < length ps → p ≡ get_or ps e p → ((n : ℕ) → part_rows n p ≡ part_rows n q) → record (change (side_of p)) { count = p.count + 1 } ≡ side_of q →
+    changed e (table_of ps now) (rows_from 0 ps) change ≡ table_of (set ps e q) now
+changed_at ps now e p q change lt at rows side =
+    let f : Side → Side = λ side. record (change side) { count = side.count + 1 } in
+    ap (λ rs. record { rows = rs; sides = change_at f e (map side_of ps); now = now }) (rows_same 0 e ps p q lt at rows)
+    ∙ ap (λ ss. record { rows = rows_from 0 (set ps e q); sides = ss; now = now }) (sides_at f e ps p q lt at side)
 
 module _ {A : Type 0} where
   pub stay : (ps : List Part) (now e : ℕ) (p : Part) (phase : Phase) (said : StepAnswer A) → p ≡ get_or ps e p → outcome (table_of ps now) (as_answer e phase said) ≡ as_moved ps now e p phase (stays (alone_of p) said)
   stay ps now e p phase said at = ap (λ l. outcome (table_of l now) (as_answer e phase said)) (sym (set_same ps e p at))
 
   pub move : (ps : List Part) (now e : ℕ) (p : Part) (phase : Phase) (sessions : List Session) (said : StepAnswer A) → e < length ps → p ≡ get_or ps e p → outcome (seated e sessions (table_of ps now)) (as_answer e phase said) ≡ as_moved ps now e p phase (moves (record (alone_of p) { sessions = sessions }) said)
-  move ps now e p phase sessions said lt at = ap (λ table. outcome table (as_answer e phase said)) (seated_at ps now e p sessions lt at)
+  move ps now e p phase sessions said lt at = ap (λ table. outcome table (as_answer e phase said)) (changed_at ps now e p (record p { sessions = sessions; count = p.count + 1 }) (with_sessions sessions) lt at (λ n. refl) refl)
 
   -- ---- attach
   pub step_attach : (ps : List Part) (now inflight e : ℕ) (p : Part) (phase : Phase) → e < length ps → p ≡ get_or ps e p → step {A = A} (setup_of ps inflight) (table_of ps now) (Attach e) true ≡ as_moved ps now e p phase (own_step p.terms (alone_of p) own.Attach)

@@ -4,7 +4,7 @@ use Rattle.tag_clock.specs.declared.Phase.{Phase}
 use Rattle.lone_export.specs.declared.step.StepAnswer.{StepAnswer}
 use Rattle.lone_export.specs.declared.step.StepAnswer.TheVariants as alone
 use Rattle.server_table.specs.declared.event.Answer.{Answer}
-use Rattle.server_table.specs.declared.event.Answer.TheVariants.{Session, Accepted, Answered, Picked, Nothing, Performed, Reply, Empty, End, Left, Dropped, NotOpen, Worn, Full, Hold, NotOut}
+use Rattle.server_table.specs.declared.event.Answer.TheVariants.{Session, Accepted, Answered, Picked, Nothing, Performed, Reply, Empty, End, Left, Dropped, NotOpen, Worn, Full, Hold, NotOut, Retuned, Waiting}
 
 module _ {A : Type 0} where
   -- the export and the phase are those of a choice
@@ -25,3 +25,5 @@ module _ {A : Type 0} where
   as_answer e phase alone.Full = Full
   as_answer e phase alone.Hold = Hold
   as_answer e phase alone.NotOut = NotOut
+  as_answer e phase alone.Retuned = Retuned
+  as_answer e phase alone.Waiting = Waiting

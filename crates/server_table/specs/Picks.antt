@@ -24,4 +24,4 @@ part_sent part = record part { waiting = drop 1 part.waiting; out = part.out ++ 
 -- credit follows a choice by weight
 abbrev pub part_picked : Phase → Part → Part
 part_picked Reservation part = part_sent part
-part_picked Weight part = part_credited part.terms.r_interval (part_sent part)
+part_picked Weight part = part_credited part.rates.r_interval (part_sent part)

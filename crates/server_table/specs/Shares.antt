@@ -1,9 +1,9 @@
 -- What of a run is one export's own, by the events and their answers alone.
 use Rattle.std.specs.Prelude.{ℕ, Bool, true, false, ◌&&◌, ◌==◌, if◌then◌else◌, List, [], ◌∷◌, ◌++◌, map, Option, Some, None, option_to_list}
 use Rattle.server_table.specs.declared.event.Event.{Event}
-use Rattle.server_table.specs.declared.event.Event.TheVariants.{Attach, Arrive, Dispatch, Perform, Take, Leave, Gone}
+use Rattle.server_table.specs.declared.event.Event.TheVariants.{Attach, Arrive, Dispatch, Perform, Take, Leave, Gone, Retune}
 use Rattle.server_table.specs.declared.event.Answer.{Answer}
-use Rattle.server_table.specs.declared.event.Answer.TheVariants.{Session, Accepted, Answered, Picked, Nothing, Performed, Reply, Empty, End, Left, Dropped, NoExport, NotOpen, Worn, Full, Hold, NotOut, NoMemory}
+use Rattle.server_table.specs.declared.event.Answer.TheVariants.{Session, Accepted, Answered, Picked, Nothing, Performed, Reply, Empty, End, Left, Dropped, NoExport, NotOpen, Worn, Full, Hold, NotOut, Retuned, Waiting, NoMemory}
 use Rattle.lone_export.specs.declared.step.Step.{Step}
 use Rattle.lone_export.specs.declared.step.Step.TheVariants as step
 use Rattle.lone_export.specs.declared.step.StepAnswer.{StepAnswer}
@@ -29,6 +29,8 @@ module _ {A : Type 0} where
   as_alone Full = Some alone.Full
   as_alone Hold = Some alone.Hold
   as_alone NotOut = Some alone.NotOut
+  as_alone Retuned = Some alone.Retuned
+  as_alone Waiting = Some alone.Waiting
   as_alone NoExport = None
   as_alone NoMemory = None
 
@@ -60,6 +62,7 @@ module _ {A : Type 0} where
   own_of e (Take named s) said = if named == e && is_made said then Some (step.Take s) else None
   own_of e (Leave named s) said = if named == e && is_made said then Some (step.Leave s) else None
   own_of e (Gone named s) said = if named == e && is_made said then Some (step.Gone s) else None
+  own_of e (Retune named rates) said = if named == e && is_made said then Some (step.Retune rates) else None
 
   -- what export e was told by it
   abbrev pub told_of : ℕ → Event A → Answer A → Option (StepAnswer A)
@@ -85,3 +88,4 @@ module _ {A : Type 0} where
   named (Take e s) = Some e
   named (Leave e s) = Some e
   named (Gone e s) = Some e
+  named (Retune e rates) = Some e

@@ -2,17 +2,18 @@
 use Rattle.std.specs.Prelude.{ℕ, ◌+◌, ◌^◌, max, Bool, true, false, not, ◌&&◌, ◌||◌, ◌==◌, nat_le, if◌then◌else◌, List, [], ◌∷◌, ◌++◌, length, map, filter, find, get_or, slice_get, drop, Some, option_map}
 use Rattle.nbd_base.specs.Words.{when_some, change_at}
 use Rattle.nbd_wire.specs.Grammar.{RequestMessage}
-use Rattle.nbd_commands.specs.Terms.{Terms}
 use Rattle.nbd_commands.specs.Verdict.{verdict_of}
 use Rattle.nbd_commands.specs.Meaning.{image_after, data_of, may_want_memory}
 use Rattle.tag_clock.specs.declared.Phase.{Phase}
 use Rattle.tag_clock.specs.declared.Phase.TheVariants.{Reservation, Weight}
 use Rattle.tag_clock.specs.Tags.{later}
+use Rattle.tag_clock.specs.Intervals.{Intervals}
+use Rattle.tag_clock.specs.Clocks.{last_r_for}
 use Rattle.reply_box.specs.Sessions.{Session, new_session, is_here, is_open_at, is_left_at, is_here_at, outbox_at, post_at, take_at, leave_at, drop_at}
 use Rattle.server_table.specs.declared.event.Event.{Event}
-use Rattle.server_table.specs.declared.event.Event.TheVariants.{Attach, Arrive, Dispatch, Perform, Take, Leave, Gone}
+use Rattle.server_table.specs.declared.event.Event.TheVariants.{Attach, Arrive, Dispatch, Perform, Take, Leave, Gone, Retune}
 use Rattle.server_table.specs.declared.event.Answer.{Answer}
-use Rattle.server_table.specs.declared.event.Answer.TheVariants.{Session as Numbered, Accepted, Answered, Picked, Nothing, Performed, Reply as Replied, Empty, End, Left, Dropped, NoExport, NotOpen, Worn, Full, Hold, NotOut, NoMemory}
+use Rattle.server_table.specs.declared.event.Answer.TheVariants.{Session as Numbered, Accepted, Answered, Picked, Nothing, Performed, Reply as Replied, Empty, End, Left, Dropped, NoExport, NotOpen, Worn, Full, Hold, NotOut, Retuned, Waiting, NoMemory}
 use Rattle.server_table.specs.Table.{Row, Side, Table, Setup, Choice, side, waits_in, is_out_in, choice, shifted, credited, put, opening_table}
 
 -- the rows are these, the side of export e is changed, and its count rises
@@ -26,6 +27,13 @@ with_sessions sessions side = record side { sessions = sessions }
 abbrev pub seated : ℕ → List Session → Table → Table
 seated e sessions table = changed e table table.rows (with_sessions sessions)
 
+-- the rates are others, and without a reservation there is no last R
+abbrev pub with_rates : Intervals → Side → Side
+with_rates rates side = record side { rates = rates; last_r = last_r_for rates.r_interval side.last_r }
+
+abbrev pub retuned_in : ℕ → Intervals → Table → Table
+retuned_in e rates table = changed e table table.rows (with_rates rates)
+
 -- the rows of session s of export e, and its replies that aren't taken
 abbrev pub outstanding_in : ℕ → ℕ → Table → ℕ
 outstanding_in e s table = length (filter (λ row. row.export == e && row.session == s) table.rows) + length (outbox_at (side table e).sessions s)
@@ -35,15 +43,15 @@ abbrev pub refused_in : ℕ → ℕ → RequestMessage → ℕ → Table → Tab
 refused_in e s q error table = seated e (post_at s (record { error = error; cookie = q.head.cookie; content = [] }) (side table e).sessions) table
 
 -- the row of an arrival, with its tags
-abbrev pub new_row : Terms → ℕ → ℕ → ℕ → RequestMessage → Side → Row
-new_row terms e s t q side = record {
+abbrev pub new_row : ℕ → ℕ → ℕ → RequestMessage → Side → Row
+new_row e s t q side = record {
   export = e;
   number = side.next;
   session = s;
   request = q;
-  r = option_map (λ interval. later side.last_r interval t) terms.r_interval;
-  l = later side.last_l terms.l_interval t;
-  p = later side.last_p terms.p_interval t;
+  r = option_map (λ interval. later side.last_r interval t) side.rates.r_interval;
+  l = later side.last_l side.rates.l_interval t;
+  p = later side.last_p side.rates.p_interval t;
   out = false;
 }
 
@@ -54,8 +62,8 @@ with_last row side = record side { next = side.next + 1; last_r = row.r; last_l 
 abbrev pub entered : Row → Table → Table
 entered row table = changed row.export table (put row table.rows) (with_last row)
 
-abbrev pub entered_in : Terms → ℕ → ℕ → ℕ → RequestMessage → Table → Table
-entered_in terms e s t q table = entered (new_row terms e s t q (side table e)) table
+abbrev pub entered_in : ℕ → ℕ → ℕ → RequestMessage → Table → Table
+entered_in e s t q table = entered (new_row e s t q (side table e)) table
 
 -- the row of export e and number n that is out
 abbrev pub is_out_row : ℕ → ℕ → Row → Bool
@@ -90,10 +98,10 @@ abbrev pub is_by_weight : Phase → Bool
 is_by_weight Reservation = false
 is_by_weight Weight = true
 
-abbrev pub with_credit : Setup → Choice → Table → Table
-with_credit setup chosen table =
+abbrev pub with_credit : Choice → Table → Table
+with_credit chosen table =
     if is_by_weight chosen.phase
-    then when_some (slice_get setup.exports chosen.row.export) (λ terms. when_some terms.r_interval (λ by. credited by chosen.row.export table) table) table
+    then when_some (side table chosen.row.export).rates.r_interval (λ by. credited by chosen.row.export table) table
     else table
 
 -- what a step leaves, and its answer
@@ -106,13 +114,13 @@ module _ {A : Type 0} where
   outcome table said = record { table = table; answer = said }
 
   -- a request waits, and is told its number and its limit tag
-  abbrev pub accepted_in : Terms → ℕ → ℕ → ℕ → RequestMessage → Table → Outcome A
-  accepted_in terms e s t q table = outcome (entered_in terms e s t q table) (Accepted (side table e).next (later (side table e).last_l terms.l_interval t))
+  abbrev pub accepted_in : ℕ → ℕ → ℕ → RequestMessage → Table → Outcome A
+  accepted_in e s t q table = outcome (entered_in e s t q table) (Accepted (side table e).next (later (side table e).last_l (side table e).rates.l_interval t))
 
   abbrev pub dispatched : Setup → Table → Outcome A
   dispatched setup table =
       when_some (choice setup.inflight table)
-      (λ chosen. outcome (with_credit setup chosen (sent chosen.row table)) (Picked chosen.row.export chosen.row.number chosen.phase))
+      (λ chosen. outcome (with_credit chosen (sent chosen.row table)) (Picked chosen.row.export chosen.row.number chosen.phase))
       (outcome table Nothing)
 
   -- one event, with memory there for it or not: the first case that fits. 2^56 steps wear an export, 64 sessions fill
@@ -133,7 +141,7 @@ module _ {A : Type 0} where
       else (if not memory then outcome table NoMemory
       else (if not (verdict_of terms q == 0) then outcome (refused_in e s q (verdict_of terms q) table) (Answered (verdict_of terms q))
       else (if length (filter (waits_in e) table.rows) == terms.depth then outcome (refused_in e s q 5 table) (Answered 5)
-      else accepted_in terms e s t q (shifted e t table)))))))
+      else accepted_in e s t q (shifted e t table)))))))
       (outcome table NoExport)
   step setup table (Dispatch t) memory = dispatched setup (record table { now = max table.now t })
   step setup table (Perform e n) memory =
@@ -156,6 +164,13 @@ module _ {A : Type 0} where
       when_some (slice_get setup.exports e)
       (λ terms. if not (is_here_at (side table e).sessions s) then outcome table NotOpen
       else outcome (seated e (drop_at s (side table e).sessions) table) Dropped)
+      (outcome table NoExport)
+  step setup table (Retune e rates) memory =
+      when_some (slice_get setup.exports e)
+      (λ terms. if nat_le (2 ^ 56) (side table e).count then outcome table Worn
+      else (if not (length (filter (waits_in e) table.rows) == 0) then outcome table Waiting
+      else (if not memory then outcome table NoMemory
+      else outcome (retuned_in e rates table) Retuned)))
       (outcome table NoExport)
 
   -- a list of events from a table on, each with its mark, and with memory there where the marks have ended: the last

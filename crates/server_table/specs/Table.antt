@@ -6,6 +6,7 @@ use Rattle.nbd_wire.specs.Grammar.{RequestMessage}
 use Rattle.nbd_commands.specs.Terms.{Terms}
 use Rattle.tag_clock.specs.declared.Phase.{Phase}
 use Rattle.tag_clock.specs.declared.Phase.TheVariants.{Reservation, Weight}
+use Rattle.tag_clock.specs.Intervals.{Intervals, no_intervals}
 use Rattle.tag_clock.specs.Clocks.{lowered}
 use Rattle.reply_box.specs.Sessions.{Session}
 use Rattle.lone_export.specs.Alone.{Alone, Job}
@@ -21,8 +22,8 @@ pub record Row : Type 0 where
   pub p : ℤ
   pub out : Bool
 
--- what is kept of an export beside its rows: its bytes, its sessions, the number of its next request, its last tags, and
--- how many steps changed something of it
+-- what is kept of an export beside its rows: its bytes, its sessions, the number of its next request, its last tags, the
+-- intervals of its rates in force, and how many steps changed something of it
 pub record Side : Type 0 where
   pub image : List ℕ
   pub sessions : List Session
@@ -30,6 +31,7 @@ pub record Side : Type 0 where
   pub last_r : Option ℤ
   pub last_l : Option ℤ
   pub last_p : Option ℤ
+  pub rates : Intervals
   pub count : ℕ
 
 -- the rows of all exports, by export and then number; the sides, by export; the greatest moment of a dispatch so far
@@ -44,14 +46,14 @@ pub record Setup : Type 0 where
   pub inflight : ℕ
 
 abbrev pub opening_side : Terms → Side
-opening_side terms = record { image = replicate terms.size 0; sessions = []; next = 0; last_r = None; last_l = None; last_p = None; count = 0 }
+opening_side terms = record { image = replicate terms.size 0; sessions = []; next = 0; last_r = None; last_l = None; last_p = None; rates = terms.rates; count = 0 }
 
 abbrev pub opening_table : Setup → Table
 opening_table setup = record { rows = []; sides = map opening_side setup.exports; now = 0 }
 
 -- what stands for the side of an export that isn't there
 abbrev pub no_side : Side
-no_side = record { image = []; sessions = []; next = 0; last_r = None; last_l = None; last_p = None; count = 0 }
+no_side = record { image = []; sessions = []; next = 0; last_r = None; last_l = None; last_p = None; rates = no_intervals; count = 0 }
 
 -- the side of export e
 abbrev pub side : Table → ℕ → Side
@@ -76,6 +78,7 @@ part e table = record {
   out = map job_of (filter (is_out_in e) table.rows);
   next = (side table e).next;
   last = (side table e).last_l;
+  rates = (side table e).rates;
   sessions = (side table e).sessions;
   count = (side table e).count;
 }

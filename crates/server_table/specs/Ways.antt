@@ -30,7 +30,7 @@ way_for waiting t parts = if waiting == 0 then parts_for (least_first_p parts) t
 
 -- the tags of an arrival at t
 abbrev pub part_tags : Part → ℕ → Tags
-part_tags part t = record { r = option_map (λ interval. later part.last_r interval t) part.terms.r_interval; l = later part.last_l part.terms.l_interval t; p = later part.last_p part.terms.p_interval t }
+part_tags part t = record { r = option_map (λ interval. later part.last_r interval t) part.rates.r_interval; l = later part.last_l part.rates.l_interval t; p = later part.last_p part.rates.p_interval t }
 
 abbrev pub accepted_part : ℕ → RequestMessage → Tags → Part → Part
 accepted_part s q tags part = record part {

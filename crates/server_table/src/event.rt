@@ -1,5 +1,6 @@
 //! The events of a server, and their answers.
 
+use nbd_commands::Rates;
 use nbd_wire::{Reply, Request};
 use std::alloc::Allocator;
 use tag_clock::{Moment, Phase};
@@ -42,6 +43,11 @@ pub enum Event<A: Allocator> {
     Gone {
         export: u32,
         session: u64,
+    },
+    /// The rates of an export are others from now on.
+    Retune {
+        export: u32,
+        rates: Rates,
     },
 }
 
@@ -91,6 +97,10 @@ pub enum Answer<A: Allocator> {
     Hold,
     /// The request isn't in service.
     NotOut,
+    /// The rates of the export are others.
+    Retuned,
+    /// A request of the export waits.
+    Waiting,
     /// Memory was refused, and nothing changed.
     NoMemory,
 }

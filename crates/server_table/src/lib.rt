@@ -8,7 +8,7 @@ mod event;
 mod laws;
 
 pub use event::{Answer, Event};
-pub use laws::{choice_of_first_requests, steps_of_sessions};
+pub use laws::{choice_of_first_requests, steps_of_rates, steps_of_sessions};
 
 #[cfg(test)]
 mod tests {
@@ -20,6 +20,7 @@ mod tests {
     #[test]
     fn laws_of_the_global_allocator(_rt: HostRuntime) -> Result<(), Fail> {
         steps_of_sessions::<Global>();
+        steps_of_rates::<Global>();
         choice_of_first_requests();
         Ok(())
     }

@@ -37,20 +37,13 @@ const WRITE: &[u8; 32] =
 const READ: &[u8; 28] =
     b"\x25\x60\x95\x13\x00\x00\x00\x00\x00\x00\x00\x00\x00\x00\x00\x02\x00\x00\x00\x00\x00\x00\x0f\xfc\x00\x00\x00\x04";
 
+/// The WRITE and then the READ.
+const BOTH: &[u8; 60] =
+    b"\x25\x60\x95\x13\x00\x00\x00\x01\x00\x00\x00\x00\x00\x00\x00\x01\x00\x00\x00\x00\x00\x00\x0f\xfc\x00\x00\x00\x04\xde\xad\xbe\xef\x25\x60\x95\x13\x00\x00\x00\x00\x00\x00\x00\x00\x00\x00\x00\x02\x00\x00\x00\x00\x00\x00\x0f\xfc\x00\x00\x00\x04";
+
 /// The replies to the WRITE and then the READ.
 const REPLIES: &[u8; 36] =
     b"\x67\x44\x66\x98\x00\x00\x00\x00\x00\x00\x00\x00\x00\x00\x00\x01\x67\x44\x66\x98\x00\x00\x00\x00\x00\x00\x00\x00\x00\x00\x00\x02\xde\xad\xbe\xef";
-
-/// A READ's reply with four bytes of zeros.
-const ZEROS_READ: &[u8; 20] =
-    b"\x67\x44\x66\x98\x00\x00\x00\x00\x00\x00\x00\x00\x00\x00\x00\x02\x00\x00\x00\x00";
-
-/// A WRITE of one byte more than is allowed.
-const TOO_LONG: &[u8; 28] =
-    b"\x25\x60\x95\x13\x00\x00\x00\x01\x00\x00\x00\x00\x00\x00\x00\x01\x00\x00\x00\x00\x00\x00\x00\x00\x02\x00\x00\x01";
-
-const DISC: &[u8; 28] =
-    b"\x25\x60\x95\x13\x00\x00\x00\x02\x00\x00\x00\x00\x00\x00\x00\x03\x00\x00\x00\x00\x00\x00\x00\x00\x00\x00\x00\x00";
 
 /// A clock that stands still at the fifth nanosecond.
 #[derive(Drop)]
@@ -82,7 +75,7 @@ impl Read for Source<'_> {
 }
 
 /// What a turn came to that hands a request in; one that is handed back is told by its cookie.
-#[derive(Clone, Copy, Debug, PartialEq, Eq)]
+#[derive(PartialEq, Drop)]
 enum Came {
     Going(Arrival),
     Held(u64),
@@ -93,6 +86,21 @@ enum Came {
 type Seen = (Came, Option<Trace>);
 
 type Put = (WriteTurn, Option<Trace>);
+
+const LEAVE: EventTrace = EventTrace::Leave {
+    export: 0,
+    session: 0,
+};
+
+const TAKE: EventTrace = EventTrace::Take {
+    export: 0,
+    session: 0,
+};
+
+const GONE: EventTrace = EventTrace::Gone {
+    export: 0,
+    session: 0,
+};
 
 /// Replies that are written to memory.
 type Text<'a> = ReplyWriter<Vec<u8, Heap<'a>>, Heap<'a>>;
@@ -158,18 +166,26 @@ fn opened<'a, L: Ledger, R: Wait>(rt: &R, heap: Heap<'a>, blank: Blank) -> Optio
     requires parts { blank.parts ≡ L.parts }
     requires one { blank.parts ≡ 1 }
 {
-    let Some((shared, mut pass)) = shared_of::<L>(heap, 1, blank) else {
-        return None;
-    };
-    let Ok(session) = shared.turn_attach(rt, &mut pass, 0) else {
-        return None;
-    };
-    Some(Seated {
-        shared,
-        pass,
-        session,
-        held: None,
-    })
+    match shared_of::<L>(heap, 1, blank) {
+        Some((shared, pass)) => with_a_seat(rt, shared, pass),
+        None => None,
+    }
+}
+
+fn with_a_seat<'a, L: Ledger, R: Wait>(
+    rt: &R,
+    shared: Tried<'a, L>,
+    mut pass: Pass<L>,
+) -> Option<Seated<'a, L>> {
+    match shared.turn_attach(rt, &mut pass, 0) {
+        Ok(session) => Some(Seated {
+            shared,
+            pass,
+            session,
+            held: None,
+        }),
+        Err(_) => None,
+    }
 }
 
 impl<'a, L: Ledger> Seated<'a, L> {
@@ -198,19 +214,43 @@ impl<'a, L: Ledger> Seated<'a, L> {
         self.seen(turn)
     }
 
-    fn write<R: Wait, O: Write + Drop>(
+    /// Whether a turn comes to this.
+    fn reads<R: Wait, S: Read>(
+        &mut self,
+        rt: &R,
+        reader: &mut FrameReader<S, Heap<'a>>,
+        seen: Seen,
+    ) -> bool {
+        self.read(rt, reader) == seen
+    }
+
+    /// Whether the session has left, and a turn of its reader tells this.
+    fn ends<R: Wait, S: Read>(
+        &mut self,
+        rt: &R,
+        reader: &mut FrameReader<S, Heap<'a>>,
+        answer: AnswerTrace,
+    ) -> bool {
+        self.reads(rt, reader, (Came::Ended, traced(LEAVE, answer)))
+    }
+
+    /// Whether a turn of its writer comes to this.
+    fn writes<R: Wait, O: Write + Drop>(
         &mut self,
         rt: &R,
         replies: &mut ReplyWriter<O, Heap<'a>>,
-    ) -> Put {
-        let turn = write_turn(rt, &self.shared, &mut self.pass, self.session, replies);
-        (turn, self.pass.last())
+        turn: WriteTurn,
+        event: EventTrace,
+        answer: AnswerTrace,
+    ) -> bool {
+        let put = write_turn(rt, &self.shared, &mut self.pass, self.session, replies);
+        (put, self.pass.last()) == (turn, traced(event, answer))
     }
 
-    /// Offers the request again that was handed back. None where none was.
-    fn offer<R: Wait>(&mut self, rt: &R) -> Option<Seen> {
+    /// Whether the request that was handed back is offered again, and that comes to this.
+    fn offers<R: Wait>(&mut self, rt: &R, seen: Seen) -> bool {
         let Some(request) = self.held.take() else {
-            return None;
+            return false;
         };
         let turn = offer(
             rt,
@@ -220,15 +260,17 @@ impl<'a, L: Ledger> Seated<'a, L> {
             request,
             &Still,
         );
-        Some(self.seen(turn))
+        self.seen(turn) == seen
     }
 
     /// Serves the request that waits. False where none does.
     fn serve<R: Wait>(&mut self, rt: &R) -> bool {
-        let Some(chosen) = self.shared.turn_dispatch(rt, &mut self.pass, Still.now()) else {
-            return false;
-        };
-        self.shared.turn_perform(rt, &mut self.pass, chosen.ticket) == Some(true)
+        match self.shared.turn_dispatch(rt, &mut self.pass, Still.now()) {
+            Some(chosen) => {
+                self.shared.turn_perform(rt, &mut self.pass, chosen.ticket) == Some(true)
+            }
+            None => false,
+        }
     }
 }
 
@@ -263,8 +305,8 @@ fn arrival(head: RequestHead, answer: AnswerTrace) -> Option<Trace> {
     traced(event, answer)
 }
 
-/// This request was handed in, and waits with this number.
-fn waits(head: RequestHead, number: u64) -> Seen {
+/// The request of this kind was handed in, and waits with this number.
+fn waits(kind: u16, number: u64) -> Seen {
     let answer = Arrived::Accepted {
         number,
         limit_tag: 5,
@@ -273,29 +315,6 @@ fn waits(head: RequestHead, number: u64) -> Seen {
         number,
         limit_tag: 5,
     };
+    let head = head_of(kind);
     (Came::Going(Arrival { head, answer }), arrival(head, told))
-}
-
-fn take(answer: AnswerTrace) -> Option<Trace> {
-    let event = EventTrace::Take {
-        export: 0,
-        session: 0,
-    };
-    traced(event, answer)
-}
-
-fn leave(answer: AnswerTrace) -> Option<Trace> {
-    let event = EventTrace::Leave {
-        export: 0,
-        session: 0,
-    };
-    traced(event, answer)
-}
-
-fn gone(answer: AnswerTrace) -> Option<Trace> {
-    let event = EventTrace::Gone {
-        export: 0,
-        session: 0,
-    };
-    traced(event, answer)
 }

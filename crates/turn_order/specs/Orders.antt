@@ -1,10 +1,11 @@
 -- The flows of all exports, and what each call leaves and answers.
 use Rattle.std.specs.Prelude.{ℕ, ◌+◌, ◌-◌, true, ◌&&◌, max, Bool, nat_lt, nat_le, List, [], ◌∷◌, Option, Some, None, slice_get, slice_set, if◌then◌else◌}
 use Rattle.nbd_base.specs.Words.{when_some}
+use Rattle.turn_order.specs.declared.Rates.{Rates}
 use Rattle.turn_order.specs.declared.flow.Flow.{Flow}
 use Rattle.turn_order.specs.declared.Turn.{Turn}
 use Rattle.turn_order.specs.declared.Turn.TheVariants.{Go}
-use Rattle.turn_order.specs.Flows.{one_more, contends_at}
+use Rattle.turn_order.specs.Flows.{one_more, contends_at, tuned}
 use Rattle.turn_order.specs.Contenders.{among, credit_of, goes_on, turn_of, charged}
 
 -- the flows by export, and the greatest virtual time that the first of the contenders had at a turn
@@ -34,6 +35,10 @@ left e o = when_some (slice_get o.flows e) (λ f. placed e (record f { sessions 
 -- it lingers until a moment
 abbrev pub lingering : ℕ → ℕ → Order → Order
 lingering e until o = when_some (slice_get o.flows e) (λ f. placed e (record f { lingers_until = max f.lingers_until until }) o) o
+
+-- it has other rates
+abbrev pub retuned : ℕ → Rates → Order → Order
+retuned e rates o = when_some (slice_get o.flows e) (λ f. placed e (tuned rates o.clock f) o) o
 
 -- one of its sessions waits for its turn, and one doesn't any more
 abbrev pub wait_begun : ℕ → Order → Order

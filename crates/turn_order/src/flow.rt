@@ -1,6 +1,6 @@
 //! One export: what it may have, what it had, and what it has at hand.
 ghost use Rattle.std.specs.Prelude.{◌≡◌, ◌*◌};
-ghost use Rattle.turn_order.specs.Flows.{later_by, interval_of, flow_of, contends_at, due_at, late_at, one_more, wait_of, reserved_after, limited_after};
+ghost use Rattle.turn_order.specs.Flows.{later_by, interval_of, flow_of, contends_at, due_at, late_at, one_more, wait_of, reserved_after, limited_after, tuned};
 ghost use Rattle.turn_order.specs.Contenders.{slack_of, resume_of, goes_on, credit_of, turn_of, time_after, charged};
 
 use crate::contenders::Contenders;
@@ -80,6 +80,24 @@ impl Flow {
             waiting: 0,
             lingers_until: 0,
             stopped: false,
+        }
+    }
+
+    /// At other rates from now on: its reservation and its limit begin anew, and it isn't ahead of the clock by more than a slack
+    /// of its own requests.
+    pub fn tuned(&self, rates: Rates, clock: u128) -> Flow
+        ensures { result ≡ tuned rates clock self.now }
+    {
+        let fresh = Flow::new(rates);
+        let most = clock.saturating_add(u128::from(SLACK) * u128::from(fresh.step));
+        Flow {
+            step: fresh.step,
+            reservation_interval: fresh.reservation_interval,
+            limit_interval: fresh.limit_interval,
+            virtual_time: self.virtual_time.min(most),
+            reserved_at: fresh.reserved_at,
+            limited_until: fresh.limited_until,
+            ..*self
         }
     }
 

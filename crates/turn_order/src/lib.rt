@@ -64,6 +64,3 @@ pub enum Turn {
     /// Others come first: the session waits until it is woken, and so many nanoseconds at most.
     Wait { nanoseconds: u64 },
 }
-
-#[cfg(test)]
-mod tests;

@@ -1,7 +1,7 @@
 //! The flows of all exports.
 ghost use Rattle.std.specs.Prelude.{◌≡◌, ◌<◌, ◌^◌, ◌&&◌, nat_le, length, map, slice_get, IfOk};
 ghost use Rattle.turn_order.specs.Flows.{flow_of};
-ghost use Rattle.turn_order.specs.Orders.{placed, back, entered, left, lingering, wait_begun, wait_ended, answer, asked, turned, answered, first_waking, wakes};
+ghost use Rattle.turn_order.specs.Orders.{placed, back, entered, left, lingering, retuned, wait_begun, wait_ended, answer, asked, turned, answered, first_waking, wakes};
 
 use crate::contenders::gather;
 use crate::flow::{Flow, add_one};
@@ -92,6 +92,16 @@ impl<A: Allocator> TurnOrder<A> {
                 ..flow
             },
         );
+    }
+
+    /// The export has other rates from now on. What its sessions have at hand stays, and so does its virtual time up to a slack.
+    pub fn retune(&mut self, export: u32, rates: Rates)
+        ensures { self.new ≡ retuned export rates self.old }
+    {
+        let Some(flow) = self.flow(export) else {
+            return;
+        };
+        self.put(export, flow.tuned(rates, self.clock));
     }
 
     /// A session of the export waits for its turn from now on.

@@ -9,7 +9,7 @@ use export_store::Image;
 use lone_export::Lone;
 use nbd_base::NoMemory;
 
-/// Before an attach or an arrival the log has fewer steps.
+/// Before an attach, an arrival or a retune the log has fewer steps.
 const ENTRIES: usize = 4096;
 
 /// The most bytes of payload in a log: 64 MiB.

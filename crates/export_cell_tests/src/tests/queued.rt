@@ -78,18 +78,17 @@ fn arrives<A: Allocator + Copy>(
     alloc: A,
     number: u64,
 ) -> bool {
-    let (Some(request), Some(copy)) = (request_of(alloc, number), request_of(alloc, number)) else {
+    let session = number % SESSIONS;
+    let Some(copy) = request_of(alloc, number) else {
         return false;
     };
-    let step = Step::Arrive {
-        session: number % SESSIONS,
-        moment: Moment::zero(),
-        request: copy,
+    if !notes(steps, session, copy) {
+        return false;
+    }
+    let Some(request) = request_of(alloc, number) else {
+        return false;
     };
-    steps.push(step).is_ok()
-        && cell
-            .arrive(number % SESSIONS, Moment::zero(), request)
-            .is_ok()
+    cell.arrive(session, Moment::zero(), request).is_ok()
 }
 
 // The first request that waits is picked and performed, every second READ without memory.
@@ -242,19 +241,32 @@ fn bytes_of<A: Allocator + Copy>(image: &Flat<A>, alloc: Global) -> Option<Vec<u
     Some(bytes)
 }
 
-// The bytes of an export alone once these steps are made.
-fn folded<A: Allocator + Copy>(heap: A, alloc: Global, steps: &[Step<A>]) -> Option<Vec<u8>> {
+fn alone<A: Allocator + Copy>(heap: A) -> Option<Lone<Flat<A>>> {
     let Ok(config) = configured(heap, &settings()) else {
         return None;
     };
-    let Ok(mut lone) = Lone::<Flat<A>>::new(heap, config.exports().first()?, 32) else {
+    let Some(export) = config.exports().first() else {
         return None;
     };
+    Lone::new(heap, export, 32).ok()
+}
+
+// Whether all these steps are made.
+fn makes<A: Allocator + Copy>(lone: &mut Lone<Flat<A>>, alloc: Global, steps: &[Step<A>]) -> bool {
     let mut answers = Vec::new(alloc);
-    if lone.replay_all(steps, &mut answers) != Ok(steps.len()) {
+    lone.replay_all(steps, &mut answers) == Ok(steps.len())
+}
+
+// The bytes of an export alone once these steps are made.
+fn folded<A: Allocator + Copy>(heap: A, alloc: Global, steps: &[Step<A>]) -> Option<Vec<u8>> {
+    let Some(mut lone) = alone::<A>(heap) else {
         return None;
+    };
+    if makes(&mut lone, alloc, steps) {
+        bytes_of(lone.image(), alloc)
+    } else {
+        None
     }
-    bytes_of(lone.image(), alloc)
 }
 
 // Whether the base, all of whose steps are made, is what those steps come to that aren't in the log.
@@ -274,19 +286,35 @@ fn is_fold<A: Allocator + Copy>(
     }
 }
 
+// Whether the base comes to that fold where so much work is done besides.
+fn is_folded<'a>(
+    cell: &mut Cell<'a>,
+    steps: &mut Vec<Step<Heap<'a>>>,
+    heap: Heap<'a>,
+    alloc: Global,
+    most: usize,
+) -> bool {
+    if !is_filled(cell, steps, heap, 700, 1200) || cell.base().queued() != 0 {
+        return false;
+    }
+    if !goes_on(cell, steps, heap, most) || waits(cell) != (most < 50) {
+        return false;
+    }
+    cell.catch_up(usize::MAX);
+    is_fold(cell, steps.as_slice(), heap, alloc)
+}
+
+// The same with the steps noted that were made.
+fn is_folded_noting<'a>(cell: &mut Cell<'a>, heap: Heap<'a>, alloc: Global, most: usize) -> bool {
+    let mut steps = Vec::new(alloc);
+    is_folded(cell, &mut steps, heap, alloc, most)
+}
+
 fn comes_to_a_fold(heap: Heap<'_>, alloc: Global, most: usize) -> bool {
     let Ok(mut cell) = opened(heap, &settings()) else {
         return false;
     };
-    let mut steps = Vec::new(alloc);
-    if !is_filled(&mut cell, &mut steps, heap, 700, 1200) || cell.base().queued() != 0 {
-        return false;
-    }
-    if !goes_on(&mut cell, &mut steps, heap, most) || waits(&cell) != (most < 50) {
-        return false;
-    }
-    cell.catch_up(usize::MAX);
-    is_fold(&cell, steps.as_slice(), heap, alloc)
+    is_folded_noting(&mut cell, heap, alloc, most)
 }
 
 fn waits<A: Allocator + Copy>(cell: &ExportCell<Flat<A>>) -> bool {
@@ -304,24 +332,36 @@ fn queued_steps_come_to_a_fold(rt: HostRuntime) {
 }
 
 // Whether 8,192 of 11,908 steps are queued that left the log at once, and some of them are made with the next arrival.
+fn is_queued<'a>(
+    cell: &mut Cell<'a>,
+    steps: &mut Vec<Step<Heap<'a>>>,
+    heap: Heap<'a>,
+    alloc: Global,
+) -> bool {
+    if !is_filled(cell, steps, heap, 0, 4000) || !arrives(cell, steps, heap, 4000) {
+        return false;
+    }
+    if counts(cell) != (16004, 4096, 11908) || cell.base().queued() != 8192 {
+        return false;
+    }
+    if !arrives(cell, steps, heap, 4001) || cell.base().queued() >= 8192 {
+        return false;
+    }
+    cell.catch_up(usize::MAX);
+    is_fold(cell, steps.as_slice(), heap, alloc)
+}
+
+// The same with the steps noted that were made.
+fn is_queued_noting<'a>(cell: &mut Cell<'a>, heap: Heap<'a>, alloc: Global) -> bool {
+    let mut steps = Vec::new(alloc);
+    is_queued(cell, &mut steps, heap, alloc)
+}
+
 fn is_bounded(heap: Heap<'_>, alloc: Global) -> bool {
     let Ok(mut cell) = opened(heap, &settings()) else {
         return false;
     };
-    let mut steps = Vec::new(alloc);
-    if !is_filled(&mut cell, &mut steps, heap, 0, 4000)
-        || !arrives(&mut cell, &mut steps, heap, 4000)
-    {
-        return false;
-    }
-    if counts(&cell) != (16004, 4096, 11908) || cell.base().queued() != 8192 {
-        return false;
-    }
-    if !arrives(&mut cell, &mut steps, heap, 4001) || cell.base().queued() >= 8192 {
-        return false;
-    }
-    cell.catch_up(usize::MAX);
-    is_fold(&cell, steps.as_slice(), heap, alloc)
+    is_queued_noting(&mut cell, heap, alloc)
 }
 
 #[test]
@@ -330,33 +370,47 @@ fn a_queue_has_8192_steps(rt: HostRuntime) {
     assert!(rt; is_bounded(&heap, rt.alloc()));
 }
 
-// Whether the request arrives, at the second time where the first found no memory.
+// Whether a request arrives, at the second time where the first found no memory. So many steps were made before.
+fn is_taken_at_last<'a>(cell: &mut Cell<'a>, request: Request<Heap<'a>>, before: usize) -> bool {
+    match cell.arrive(1, Moment::zero(), request) {
+        Ok(_) => true,
+        Err(NotArrived { fault, request }) => {
+            let same = cell.live().waiting() == 0 && is_kept(cell, before);
+            same && fault == ArriveFault::NoMemory
+                && cell.arrive(1, Moment::zero(), request).is_ok()
+        }
+    }
+}
+
+// Notes the arrival of a request of a session.
+fn notes<A: Allocator + Copy>(steps: &mut Vec<Step<A>>, session: u64, request: Request<A>) -> bool {
+    let step = Step::Arrive {
+        session,
+        moment: Moment::zero(),
+        request,
+    };
+    steps.push(step).is_ok()
+}
+
+// The same of request 1,300 where a growth is refused.
 fn arrives_at_last<'a>(
     cell: &mut Cell<'a>,
     steps: &mut Vec<Step<Heap<'a>>>,
     heap: Heap<'a>,
     nth: u64,
 ) -> bool {
-    let (Some(request), Some(copy)) = (request_of(heap, 1300), request_of(heap, 1300)) else {
+    let Some(copy) = request_of(heap, 1300) else {
         return false;
     };
-    let step = Step::Arrive {
-        session: 1,
-        moment: Moment::zero(),
-        request: copy,
-    };
-    if steps.push(step).is_err() {
+    let before = steps.len();
+    if !notes(steps, 1, copy) {
         return false;
     }
+    let Some(request) = request_of(heap, 1300) else {
+        return false;
+    };
     heap.arm(nth);
-    match cell.arrive(1, Moment::zero(), request) {
-        Ok(_) => true,
-        Err(back) => {
-            let same = cell.live().waiting() == 0 && is_kept(cell, steps.len() - 1);
-            same && back.fault == ArriveFault::NoMemory
-                && cell.arrive(1, Moment::zero(), back.request).is_ok()
-        }
-    }
+    is_taken_at_last(cell, request, before)
 }
 
 // Whether steps stay queued where memory is refused, and all are made once it isn't.
@@ -369,20 +423,35 @@ fn catches_up_at_last(cell: &mut Cell<'_>, steps: usize) -> bool {
 
 // Whether all comes to the same with a refusal from the arrival on that queues a thousand steps. They want memory too: the READs among them
 // are performed beside others, so that their data are read.
+fn is_queued_at_last<'a>(
+    cell: &mut Cell<'a>,
+    steps: &mut Vec<Step<Heap<'a>>>,
+    heap: Heap<'a>,
+    alloc: Global,
+    nth: u64,
+) -> bool {
+    if !is_filled(cell, steps, heap, 900, 400) || !arrives_at_last(cell, steps, heap, nth) {
+        return false;
+    }
+    catches_up_at_last(cell, steps.len()) && is_fold_unarmed(cell, steps.as_slice(), heap, alloc)
+}
+
+// The same with the steps noted that were made.
+fn is_queued_at_last_noting<'a>(
+    cell: &mut Cell<'a>,
+    heap: Heap<'a>,
+    alloc: Global,
+    nth: u64,
+) -> bool {
+    let mut steps = Vec::new(alloc);
+    is_queued_at_last(cell, &mut steps, heap, alloc, nth)
+}
+
 fn queue_grows(heap: Heap<'_>, alloc: Global, nth: u64) -> bool {
     let Ok(mut cell) = opened(heap, &settings()) else {
         return false;
     };
-    let mut steps = Vec::new(alloc);
-    if !is_filled(&mut cell, &mut steps, heap, 900, 400) {
-        return false;
-    }
-    if !arrives_at_last(&mut cell, &mut steps, heap, nth)
-        || !catches_up_at_last(&mut cell, steps.len())
-    {
-        return false;
-    }
-    is_fold_unarmed(&cell, steps.as_slice(), heap, alloc)
+    is_queued_at_last_noting(&mut cell, heap, alloc, nth)
 }
 
 // The fold takes memory as well: what is left to be refused then is no matter.

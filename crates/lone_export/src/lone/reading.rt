@@ -1,16 +1,16 @@
 //! What is read of an export, and what its steps are refused for.
 ghost use Rattle.std.specs.Prelude.{◌≡◌, ◌<◌, ◌^◌, nat_le, length, ◌↔◌, IsTrue, option_map, slice_get};
 ghost use Rattle.lone_export.specs.Calls.{to_come};
-ghost use Rattle.lone_export.specs.Lone.{slot_at, head_at, MayAttach, MayArrive, Admits, IsInBounds};
+ghost use Rattle.lone_export.specs.Lone.{slot_at, head_at, MayAttach, MayArrive, MayRetune, Admits, IsInBounds};
 
 use crate::lone::Lone;
-use crate::refusal::{ArriveRefusal, AttachRefusal};
+use crate::refusal::{ArriveRefusal, AttachRefusal, RetuneRefusal};
 use export_store::Image;
 use nbd_commands::verdict;
 use nbd_wire::{Request, RequestHead};
 use reply_box::AdmitFault;
 
-/// The most steps that are counted by attaches and arrivals: 2^56.
+/// The most steps that are counted by attaches, arrivals and retunes: 2^56.
 const MOST_STEPS: u64 = 1 << 56;
 
 impl<I: Image> Lone<I> {
@@ -62,7 +62,7 @@ impl<I: Image> Lone<I> {
         Some(row.request.head())
     }
 
-    /// How many counted steps can still come of what is here, without another attach or arrival: a request that waits
+    /// How many counted steps can still come of what is here, without another attach, arrival or retune: a request that waits
     /// is picked and performed and its reply is taken, and each session leaves and is gone.
     pub fn to_come(&self) -> u64
         ensures { result ≡ to_come self.now.state }
@@ -109,7 +109,20 @@ impl<I: Image> Lone<I> {
         }
     }
 
-    // Whether as many steps were counted as attaches and arrivals may count.
+    /// What `retune` is refused for.
+    pub fn may_retune(&self) -> Result<(), RetuneRefusal>
+        ensures { MayRetune self.now result }
+    {
+        if self.is_worn() {
+            return Err(RetuneRefusal::Worn);
+        }
+        if self.waiting() != 0 {
+            return Err(RetuneRefusal::Waiting);
+        }
+        Ok(())
+    }
+
+    // Whether as many steps were counted as attaches, arrivals and retunes may count.
     fn is_worn(&self) -> bool
         ensures { result ≡ nat_le (2 ^ 56) self.now.state.count }
     {

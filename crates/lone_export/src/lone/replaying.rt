@@ -7,7 +7,9 @@ ghost use Rattle.nbd_commands.specs.Meaning.{image_after, data_of, may_want_memo
 ghost use Rattle.lone_export.specs.Lone.{Does, MayReplay, IsReplayed, StopsAt, mark_again, wants_memory};
 
 use crate::lone::{Lone, settle};
-use crate::said::{arrived_said, attach_said, gone_said, leave_said, pick_said, take_said};
+use crate::said::{
+    arrived_said, attach_said, gone_said, leave_said, pick_said, retune_said, take_said,
+};
 use crate::step::{Step, StepAnswer};
 use export_store::Image;
 use nbd_base::NoMemory;
@@ -50,6 +52,7 @@ impl<I: Image> Lone<I> {
             Step::Take { session } => Ok(take_said(self.take(*session))),
             Step::Leave { session } => Ok(leave_said(self.leave(*session))),
             Step::Gone { session } => Ok(gone_said(self.gone(*session))),
+            Step::Retune { rates } => Ok(retune_said(self.retune(*rates))),
         }
     }
 

@@ -3,7 +3,7 @@
 use super::said::{is_told, made, remade};
 use super::*;
 
-type Run = Vec<(Step<Global>, &'static str)>;
+pub(super) type Run = Vec<(Step<Global>, &'static str)>;
 
 // Whether a step is answered as was worked out. It is made by its own call, or by a replay.
 fn is_right(
@@ -36,7 +36,7 @@ fn count_of_right(alloc: Global, lone: &mut Alone, run: Run, by_replay: bool) ->
 }
 
 // How many steps of a run are answered as was worked out, from the first on, and how many were counted.
-fn went(
+pub(super) fn went(
     alloc: Global,
     settings: &ExportSettings<'_>,
     run: Option<Run>,

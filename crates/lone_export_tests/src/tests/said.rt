@@ -86,6 +86,11 @@ pub(super) fn made<A: Allocator + Copy>(
             Ok(()) => StepAnswer::Dropped,
             Err(NotOpen) => StepAnswer::NotOpen,
         }),
+        Step::Retune { rates } => Some(match lone.retune(rates) {
+            Ok(()) => StepAnswer::Retuned,
+            Err(RetuneRefusal::Worn) => StepAnswer::Worn,
+            Err(RetuneRefusal::Waiting) => StepAnswer::Waiting,
+        }),
     }
 }
 
@@ -136,6 +141,8 @@ fn word<A: Allocator>(answer: &StepAnswer<A>) -> &'static str {
         StepAnswer::Full => "full",
         StepAnswer::Hold => "hold",
         StepAnswer::NotOut => "not out",
+        StepAnswer::Retuned => "retuned",
+        StepAnswer::Waiting => "waiting",
         _ => "a number",
     }
 }

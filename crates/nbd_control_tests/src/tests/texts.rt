@@ -9,12 +9,14 @@ use nbd_measures::WaitQuantiles;
 use refusing::Refusing;
 use std::alloc::Global;
 
-const ANSWERS: [(Answer, &[u8]); 14] = [
+const ANSWERS: [(Answer, &[u8]); 16] = [
     (Answer::Gone, b"gone\n\n"),
     (Answer::Stopping, b"stopping\n\n"),
     (Answer::NoExport, b"refused no export\n\n"),
     (Answer::NoSession, b"refused no session\n\n"),
-    (Answer::RatesFixed, b"refused rates are fixed\n\n"),
+    (Answer::Retuned, b"retuned\n\n"),
+    (Answer::Busy, b"busy\n\n"),
+    (Answer::Worn, b"refused worn\n\n"),
     (Answer::NoMemory, b"refused no memory\n\n"),
     (
         Answer::Refused(Refused::LineTooLong),

@@ -53,33 +53,41 @@ impl<'a, R: SystemClock> Clock for Runs<'a, R> {
     }
 }
 
-// A server of an export that is served ten times a second.
-fn limited(alloc: Global) -> Option<Served> {
+// An export that is served ten times a second.
+fn limited() -> ExportSettings<'static> {
     let mut settings = ExportSettings::new(b"a", 4096);
     settings.limit = 10;
-    server_of(alloc, &settings)
+    settings
 }
 
-// Whether three requests arrive at the first moment.
+// Whether three requests arrive.
 fn three_arrive<L: Ledger, R: Wait>(rt: &R, shared: &Tried<L>, pass: &mut Pass<L>) -> bool {
-    if shared.turn_attach(rt, pass, 0) != Ok(FIRST) {
-        return false;
-    }
-    for cookie in 0..3u64 {
-        let request = read_of(cookie, 4);
-        if shared
-            .turn_arrive(rt, pass, FIRST, Moment::zero(), request)
-            .is_err()
-        {
-            return false;
-        }
-    }
-    true
+    attaches(rt, shared, pass, FIRST)
+        && arrives(rt, shared, pass, FIRST, read_of(0, 4))
+        && arrives(rt, shared, pass, FIRST, read_of(1, 4))
+        && arrives(rt, shared, pass, FIRST, read_of(2, 4))
 }
 
 // How many requests of three are left once a worker ended. Where the server stops at once, the worker still serves what
 // waits.
 fn left_of_three<L: Ledger, G: Gate, R: Wait>(
+    rt: &R,
+    shared: &Tried<L>,
+    mut pass: Pass<L>,
+    gate: &G,
+    stops: bool,
+) -> Option<usize> {
+    if !three_arrive(rt, shared, &mut pass) {
+        return None;
+    }
+    if stops {
+        shared.stop();
+    }
+    work(rt, shared, gate, pass);
+    Some(shared.waiting(rt))
+}
+
+fn left<L: Ledger, G: Gate, R: Wait>(
     rt: &R,
     alloc: Global,
     blank: Blank,
@@ -90,20 +98,15 @@ fn left_of_three<L: Ledger, G: Gate, R: Wait>(
     requires parts { blank.parts ≡ L.parts }
     requires one { blank.parts ≡ 1 }
 {
-    let Some((shared, mut passes)) = shared_of::<L>(alloc, limited(alloc), blank, 1) else {
+    let exports = [limited()];
+    let Some((shared, mut passes)) = shared_of::<L>(alloc, (exports.as_slice(), 32), blank, 1)
+    else {
         return None;
     };
-    let Some(mut pass) = passes.pop() else {
-        return None;
-    };
-    if !three_arrive(rt, &shared, &mut pass) {
-        return None;
+    match passes.pop() {
+        Some(pass) => left_of_three(rt, &shared, pass, gate, stops),
+        None => None,
     }
-    if stops {
-        shared.stop();
-    }
-    work(rt, &shared, gate, pass);
-    Some(shared.waiting(rt))
 }
 
 #[test]
@@ -112,7 +115,7 @@ fn a_worker_is_told_what_is_due(rt: HostRuntime) {
         now: Cell::new(Moment::zero()),
         leaps: Cell::new(0),
     };
-    let left = left_of_three::<Brand, _, _>(&rt, rt.alloc(), Blank::new(1), &gate, false);
+    let left = left::<Brand, _, _>(&rt, rt.alloc(), Blank::new(1), &gate, false);
     assert!(rt; left == Some(0));
     assert!(rt; (gate.leaps.get(), gate.now.get().nanoseconds()) == (2, 200_000_000));
 }
@@ -123,7 +126,7 @@ fn a_sleeper_wakes_when_it_is_due(rt: HostRuntime) {
     let clock = Runs { rt: &rt, start };
     let (work, replies) = (Bell::new(), Bell::new());
     let gate = Sleeper::new(&rt, &clock, &work, &replies);
-    let left = left_of_three::<Brand, _, _>(&rt, rt.alloc(), Blank::new(1), &gate, true);
+    let left = left::<Brand, _, _>(&rt, rt.alloc(), Blank::new(1), &gate, true);
     assert!(rt; left == Some(0));
     let elapsed = start.elapsed(&rt).expect(&rt, "a clock");
     assert!(rt; elapsed >= Duration::from_millis(200), "too soon");

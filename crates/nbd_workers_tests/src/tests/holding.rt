@@ -4,60 +4,74 @@ ghost use Rattle.std.specs.Prelude.{◌≡◌};
 use super::*;
 use server_core::ArriveRefusal;
 use std::marker::Brand;
-use std::thread::Threads;
 
-// Holds request 0 until it is released, and counts the requests that were performed.
+const SECOND: SessionId = SessionId {
+    export: 0,
+    number: 1,
+};
+
+// How the session is used whose request 0 is held.
 #[derive(Drop)]
-struct HoldsUntil {
-    holding: AtomicBool,
-    released: AtomicBool,
-    performed: AtomicU64,
+pub enum Act {
+    // Another request is performed meanwhile.
+    Overlap,
+    // It is gone meanwhile, and another session reads what it wrote.
+    WriteAndRead(Global),
+    // The server stops meanwhile.
+    Stop,
 }
 
-impl HoldsUntil {
-    fn new() -> HoldsUntil {
-        HoldsUntil {
-            holding: AtomicBool::new(false),
-            released: AtomicBool::new(false),
-            performed: AtomicU64::new(0),
-        }
-    }
+// Holds request 0 until it is released, for so many turns at most, and counts the requests that were performed.
+#[derive(Drop)]
+pub struct Holds {
+    act: Act,
+    holding: AtomicU64,
+    released: AtomicU64,
+    performed: AtomicU64,
+    pub gave_up: AtomicBool,
+    // The choices that the workers still have.
+    held: AtomicU64,
+}
 
-    fn is_holding(&self) -> bool {
-        is_set(&self.holding)
+impl Holds {
+    pub fn new(act: Act) -> Holds {
+        Holds {
+            act,
+            holding: AtomicU64::new(0),
+            released: AtomicU64::new(0),
+            performed: AtomicU64::new(0),
+            gave_up: AtomicBool::new(false),
+            held: AtomicU64::new(0),
+        }
     }
 
     fn release(&self) {
-        self.released.store(true, Ordering::SeqCst);
-    }
-
-    fn has_performed(&self, count: u64) -> bool {
-        for _ in 0..TURNS {
-            if self.performed.load(Ordering::SeqCst) == count {
-                return true;
-            }
-            thread::yield_now();
-        }
-        false
+        self.released.store(1, Ordering::SeqCst);
     }
 }
 
-impl Clock for HoldsUntil {
+impl Clock for Holds {
     fn now(&self) -> Moment {
         Moment::zero()
     }
 }
 
-impl Gate for HoldsUntil {
+impl Gate for Holds {
     fn pass(&self, ticket: &Ticket) {
-        if ticket.number() == 0 {
-            self.holding.store(true, Ordering::SeqCst);
-            is_set(&self.released);
+        if ticket.number() != 0 {
+            return;
+        }
+        self.holding.store(1, Ordering::SeqCst);
+        if !reaches(&self.released, 1) {
+            self.gave_up.store(true, Ordering::SeqCst);
         }
     }
 
-    fn done(&self, _ticket: &Ticket) {
+    fn done(&self, ticket: &Ticket) {
         self.performed.fetch_add(1, Ordering::SeqCst);
+        if matches!(self.act, Act::Overlap) && ticket.number() == 1 {
+            self.release();
+        }
     }
 
     fn idle(&self, _due: Option<Moment>) -> bool {
@@ -66,57 +80,80 @@ impl Gate for HoldsUntil {
     }
 }
 
-fn attaches_two<L: Ledger, R: Wait>(rt: &R, shared: &Tried<L>, pass: &mut Pass<L>) -> bool {
-    shared.turn_attach(rt, pass, 0) == Ok(FIRST) && shared.turn_attach(rt, pass, 0) == Ok(SECOND)
+impl Play for Holds {
+    fn works<L: Ledger, R: Wait>(&self, rt: &R, shared: &Tried<L>, pass: Pass<L>) -> Pass<L> {
+        let pass = work(rt, shared, self, pass);
+        self.held.fetch_add(pass.held(), Ordering::SeqCst);
+        pass
+    }
+
+    fn asks<L: Ledger, R: Wait>(&self, rt: &R, shared: &Tried<L>, pass: &mut Pass<L>) -> bool {
+        let told = match self.act {
+            Act::Overlap => overlapping::second_is_first(rt, shared, pass),
+            Act::WriteAndRead(alloc) => is_written_and_read(rt, alloc, shared, pass, self),
+            Act::Stop => is_stopped(rt, shared, pass, self),
+        };
+        self.release();
+        shared.stop();
+        told
+    }
 }
 
-// Whether the first session's WRITEs of three bytes arrive.
+// Whether a WRITE of one byte arrives, at the place before the byte's own number.
 fn writes<L: Ledger, R: Wait>(
     rt: &R,
     alloc: Global,
     shared: &Tried<L>,
     pass: &mut Pass<L>,
+    byte: u8,
 ) -> bool {
-    for byte in 1..4u8 {
-        let Some(request) = write_of(alloc, byte as u64 - 1, byte) else {
-            return false;
-        };
-        if shared
-            .turn_arrive(rt, pass, FIRST, Moment::zero(), request)
-            .is_err()
-        {
-            return false;
-        }
-    }
-    true
+    let offset = (byte as u64).saturating_sub(1);
+    let Ok(payload) = Payload::copied(alloc, offset, [byte].as_slice()) else {
+        return false;
+    };
+    let head = RequestHead {
+        flags: 0,
+        kind: WRITE,
+        cookie: offset,
+        offset,
+        length: 1,
+    };
+    arrives(rt, shared, pass, FIRST, Request::new(head, payload))
+}
+
+// Whether the first session's WRITEs of three bytes arrive.
+fn three_write<L: Ledger, R: Wait>(
+    rt: &R,
+    alloc: Global,
+    shared: &Tried<L>,
+    pass: &mut Pass<L>,
+) -> bool {
+    writes(rt, alloc, shared, pass, 1)
+        && writes(rt, alloc, shared, pass, 2)
+        && writes(rt, alloc, shared, pass, 3)
 }
 
 // Whether the first session is gone while its first request is held, and all three are performed then.
-fn goes<L: Ledger, R: Wait>(
-    rt: &R,
-    shared: &Tried<L>,
-    pass: &mut Pass<L>,
-    gate: &HoldsUntil,
-) -> bool {
-    if !gate.is_holding() || shared.turn_gone(rt, pass, FIRST).is_err() {
+fn goes<L: Ledger, R: Wait>(rt: &R, shared: &Tried<L>, pass: &mut Pass<L>, gate: &Holds) -> bool {
+    if !reaches(&gate.holding, 1) || shared.turn_gone(rt, pass, FIRST).is_err() {
         return false;
     }
     gate.release();
-    gate.has_performed(3)
+    reaches(&gate.performed, 3)
 }
 
 // Whether the second session reads the three bytes.
 fn reads<L: Ledger, R: Wait>(rt: &R, shared: &Tried<L>, pass: &mut Pass<L>) -> bool {
-    let request = read_of(9, 3);
-    if shared
-        .turn_arrive(rt, pass, SECOND, Moment::zero(), request)
-        .is_err()
-    {
+    if !arrives(rt, shared, pass, SECOND, read_of(9, 3)) {
         return false;
     }
-    let Some(reply) = next_reply(rt, shared, pass, SECOND) else {
-        return false;
-    };
+    match next_reply(rt, shared, pass, SECOND) {
+        Some(reply) => is_three_bytes(&reply),
+        None => false,
+    }
+}
+
+fn is_three_bytes(reply: &Reply<Global>) -> bool {
     if reply.content().is_empty() {
         return false;
     }
@@ -129,15 +166,17 @@ fn is_written_and_read<L: Ledger, R: Wait>(
     alloc: Global,
     shared: &Tried<L>,
     pass: &mut Pass<L>,
-    gate: &HoldsUntil,
+    gate: &Holds,
 ) -> bool {
-    if !attaches_two(rt, shared, pass) || !writes(rt, alloc, shared, pass) {
-        return false;
-    }
-    if !goes(rt, shared, pass, gate) || !reads(rt, shared, pass) {
-        return false;
-    }
-    shared.turn_leave(rt, pass, SECOND).is_ok() && shared.turn_gone(rt, pass, SECOND).is_ok()
+    attach_two(rt, shared, pass)
+        && three_write(rt, alloc, shared, pass)
+        && goes(rt, shared, pass, gate)
+        && reads(rt, shared, pass)
+        && ends(rt, shared, pass, SECOND)
+}
+
+fn attach_two<L: Ledger, R: Wait>(rt: &R, shared: &Tried<L>, pass: &mut Pass<L>) -> bool {
+    attaches(rt, shared, pass, FIRST) && attaches(rt, shared, pass, SECOND)
 }
 
 // Whether another request of the session is refused for now.
@@ -154,114 +193,37 @@ fn is_stopped<L: Ledger, R: Wait>(
     rt: &R,
     shared: &Tried<L>,
     pass: &mut Pass<L>,
-    gate: &HoldsUntil,
+    gate: &Holds,
 ) -> bool {
-    if shared.turn_attach(rt, pass, 0) != Ok(FIRST) {
-        return false;
-    }
-    if shared
-        .turn_arrive(rt, pass, FIRST, Moment::zero(), read_of(1, 4))
-        .is_err()
-    {
-        return false;
-    }
-    if !gate.is_holding() || !waits_for_room(rt, shared, pass) {
-        return false;
-    }
+    let waits = attaches(rt, shared, pass, FIRST)
+        && arrives(rt, shared, pass, FIRST, read_of(1, 4))
+        && reaches(&gate.holding, 1)
+        && waits_for_room(rt, shared, pass);
     shared.stop();
-    shared.turn_gone(rt, pass, FIRST).is_ok()
+    waits && shared.turn_gone(rt, pass, FIRST).is_ok()
 }
 
-// Which of the two a session thread does.
-#[derive(Clone, Copy)]
-enum Act {
-    WriteAndRead,
-    Stop,
-}
-
-fn acted<L: Ledger, R: Wait>(
-    rt: &R,
-    alloc: Global,
-    shared: &Tried<L>,
-    mut pass: Pass<L>,
-    gate: &HoldsUntil,
-    act: Act,
-) -> (Pass<L>, bool) {
-    let told = match act {
-        Act::WriteAndRead => is_written_and_read(rt, alloc, shared, &mut pass, gate),
-        Act::Stop => is_stopped(rt, shared, &mut pass, gate),
-    };
-    gate.release();
-    shared.stop();
-    (pass, told)
-}
-
-// Runs the worker and the session: their passes, and what the session was told.
-fn both_act<L: Ledger + Send + Sync, R: Threads + Wait + Sync>(
-    rt: &R,
-    alloc: Global,
-    shared: &Tried<L>,
-    gate: &HoldsUntil,
-    passes: (Pass<L>, Pass<L>),
-    act: Act,
-) -> ([Pass<L>; 2], bool) {
-    let (worker, session) = passes;
-    let (worker, (session, told)) = thread::join(
-        rt,
-        move || work(rt, shared, gate, worker),
-        move || acted(rt, alloc, shared, session, gate, act),
-    );
-    ([worker, session], told)
-}
-
-#[derive(Clone, Copy, PartialEq, Eq)]
-struct Ran {
-    told: bool,
-    held: u64,
-    steps: Option<u128>,
-}
-
-fn one_worker<L: Ledger + Send + Sync, R: Threads + Wait + Sync>(
-    rt: &R,
-    alloc: Global,
-    blank: Blank,
-    settings: &ExportSettings<'static>,
-    act: Act,
-) -> Option<Ran>
-    requires name { blank.name ≡ L.name }
-    requires parts { blank.parts ≡ L.parts }
-    requires two { blank.parts ≡ 2 }
-{
-    let server = server_of(alloc, settings);
-    let Some((shared, passes)) = shared_of::<L>(alloc, server, blank, 2) else {
-        return None;
-    };
-    let Some(passes) = two(passes) else {
-        return None;
-    };
-    let gate = HoldsUntil::new();
-    let (passes, told) = both_act(rt, alloc, &shared, &gate, passes, act);
-    let held = passes[0].held();
-    let Ok(passes) = Vec::from_array(alloc, passes) else {
-        return None;
-    };
-    let steps = settled(shared, passes);
-    Some(Ran { told, held, steps })
+// Whether a gate's one worker holds no request at the end, and the session and the steps are as they should be.
+fn is_as_told(gate: &Holds, ran: Option<Ran>, steps: u128) -> bool {
+    gate.held.load(Ordering::SeqCst) == 0 && ran == Some((true, Some(steps)))
 }
 
 #[test]
 fn gone_while_held(rt: HostRuntime) {
-    let settings = ExportSettings::new(b"a", 4096);
-    let ran = one_worker::<Brand, _>(&rt, rt.alloc(), Blank::new(2), &settings, Act::WriteAndRead);
-    let (told, held, steps) = (true, 0, Some(18));
-    assert!(rt; ran == Some(Ran { told, held, steps }));
+    let gate = Holds::new(Act::WriteAndRead(rt.alloc()));
+    let exports = [ExportSettings::new(b"a", 4096)];
+    let exports = (exports.as_slice(), 32);
+    let ran = used::<_, Brand, _>(&rt, rt.alloc(), exports, Blank::new(2), 2, &gate);
+    assert!(rt; is_as_told(&gate, ran, 18));
 }
 
 #[test]
 fn stopped_while_held(rt: HostRuntime) {
     let mut settings = ExportSettings::new(b"a", 4096);
     settings.window = 1;
-    let ran = one_worker::<Brand, _>(&rt, rt.alloc(), Blank::new(2), &settings, Act::Stop);
-    let (told, held, steps) = (true, 0, Some(5));
-    assert!(rt; ran == Some(Ran { told, held, steps }));
+    let gate = Holds::new(Act::Stop);
+    let exports = [settings];
+    let exports = (exports.as_slice(), 32);
+    let ran = used::<_, Brand, _>(&rt, rt.alloc(), exports, Blank::new(2), 2, &gate);
+    assert!(rt; is_as_told(&gate, ran, 5));
 }

@@ -6,14 +6,13 @@ use super::stop;
 use nbd_base::NoMemory;
 use nbd_commands::{Config, ExportConfig};
 use nbd_control::{
-    Answer, Command, CommandError, ExportStats, Name, Rates, ServerStats, SessionLine,
+    Answer, Command, CommandError, ExportStats, Name, Rates, Refused, ServerStats, SessionLine,
     read_command, write_answer, write_metrics, write_sessions, write_stats,
 };
 use nbd_service::policy::{CONTROL_CLIENTS, RETRY_MS};
-use nbd_service::{ExportFigures, Service, SessionFigures};
+use nbd_service::{ExportFigures, RetuneOutcome, Service, SessionFigures};
 use server_core::SessionId;
 use std::alloc::Global;
-use std::io::Write;
 use std::net::TcpStream;
 use std::sync::Wait;
 use std::sync::atomic::{AtomicBool, AtomicU64, Ordering};
@@ -114,15 +113,13 @@ fn serve_lines<L: Ledger, R: Wait + time::Clock>(
     let Ok(mut lines) = Lines::new(service.alloc, peer) else {
         return;
     };
-    let mut writer = peer;
     for _ in rt.forever() {
         if !lines.next(rt, control, &clock) {
             return;
         }
         let mut text = Vec::new(service.alloc);
         let answered = answer_line(rt, service, config, entrances, lines.line(), &mut text);
-        let written = answered.is_ok() && writer.write_all(text.as_slice()).is_ok();
-        if !written {
+        if answered.is_err() || !lines.send(rt, control, &clock, text.as_slice()) {
             return;
         }
     }
@@ -163,7 +160,9 @@ fn do_command<L: Ledger, R: Wait + time::Clock>(
         Command::Stats => put_figures(rt, service, config, false, text),
         Command::Metrics => put_figures(rt, service, config, true, text),
         Command::Sessions => put_sessions(rt, service, config, text),
-        Command::Retune { .. } => Ok(Some(Answer::RatesFixed)),
+        Command::Retune { export, rates } => {
+            Ok(Some(retune(rt, service, config, &export, rates)))
+        }
         Command::DropSession { export, session } => {
             Ok(Some(drop_session(rt, service, config, &export, session)))
         }
@@ -187,11 +186,7 @@ fn drop_session<L: Ledger, R: Wait>(
     name: &Name<Global>,
     number: u64,
 ) -> Answer {
-    let place = config
-        .exports()
-        .iter()
-        .position(|export| export.name() == name.as_bytes());
-    let Some(export) = number_of(place) else {
+    let Some(export) = export_named(config, name) else {
         return Answer::NoExport;
     };
     let session = SessionId { export, number };
@@ -202,10 +197,45 @@ fn drop_session<L: Ledger, R: Wait>(
     }
 }
 
-fn number_of(place: Option<usize>) -> Option<u32> {
+/// The number of the export that has this name.
+fn export_named(config: &Config<Global>, name: &Name<Global>) -> Option<u32> {
+    let place = config
+        .exports()
+        .iter()
+        .position(|export| export.name() == name.as_bytes());
     match place {
         Some(at) => u32::try_from(at).ok(),
         None => None,
+    }
+}
+
+/// Gives other rates to the export that has this name.
+fn retune<L: Ledger, R: Wait + time::Clock>(
+    rt: &R,
+    service: &Service<L>,
+    config: &Config<Global>,
+    name: &Name<Global>,
+    rates: Rates,
+) -> Answer {
+    let Some(export) = export_named(config, name) else {
+        return Answer::NoExport;
+    };
+    match service.retune(rt, export, wanted(rates)) {
+        RetuneOutcome::Made => Answer::Retuned,
+        RetuneOutcome::Busy => Answer::Busy,
+        RetuneOutcome::Refused(refusal) => Answer::Refused(Refused::Rates(refusal)),
+        RetuneOutcome::NoExport => Answer::NoExport,
+        RetuneOutcome::Worn => Answer::Worn,
+        RetuneOutcome::Crowded | RetuneOutcome::NoMemory => Answer::NoMemory,
+    }
+}
+
+/// The rates of a line, which are in their ranges.
+fn wanted(rates: Rates) -> turn_order::Rates {
+    turn_order::Rates {
+        reservation: u32::try_from(rates.reservation).unwrap_or(u32::MAX),
+        limit: u32::try_from(rates.limit).unwrap_or(u32::MAX),
+        weight: u32::try_from(rates.weight).unwrap_or(u32::MAX),
     }
 }
 
@@ -270,9 +300,9 @@ fn stats_of<'a>(
         read_bytes: figures.counts.read_bytes,
         written_bytes: figures.counts.written_bytes,
         rates: Rates {
-            reservation: u64::from(export.reservation()),
-            limit: u64::from(export.limit()),
-            weight: u64::from(export.weight()),
+            reservation: u64::from(figures.rates.reservation),
+            limit: u64::from(figures.rates.limit),
+            weight: u64::from(figures.rates.weight),
         },
         waits: figures.waits,
     }

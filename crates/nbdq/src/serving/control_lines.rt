@@ -1,15 +1,15 @@
-//! The lines that a client of the control socket sends.
+//! The lines that a client of the control socket sends, and the answers that it takes.
 
 use super::control::ControlSocket;
 use nbd_base::NoMemory;
 use nbd_control::MAX_LINE;
-use nbd_service::policy::{CONTROL_LINE_NS, CONTROL_LOOK_MS};
+use nbd_service::policy::{CONTROL_LOOK_MS, still_waits_for_line};
 use std::alloc::Global;
-use std::io::{ErrorKind, Read};
+use std::io::{ErrorKind, Read, Write};
 use std::net::TcpStream;
 use std::sync::Wait;
-use std::time;
 use std::time::Duration;
+use std::{io, time};
 use tag_clock::Clock;
 
 /// The lines of a client, one after another. Of a line that is too long the bytes behind are lost.
@@ -25,7 +25,9 @@ pub struct Lines<'a> {
 
 impl<'a> Lines<'a> {
     pub fn new(alloc: Global, peer: &'a TcpStream) -> Result<Lines<'a>, NoMemory> {
-        let _ = peer.set_read_timeout(Some(Duration::from_millis(CONTROL_LOOK_MS)));
+        let look = Some(Duration::from_millis(CONTROL_LOOK_MS));
+        let _ = peer.set_read_timeout(look);
+        let _ = peer.set_write_timeout(look);
         Ok(Lines {
             peer,
             line: Vec::with_capacity(alloc, MAX_LINE + 1)?,
@@ -54,8 +56,38 @@ impl<'a> Lines<'a> {
                 return true;
             }
             let passed = clock.now().nanoseconds().saturating_sub(began);
-            if passed > CONTROL_LINE_NS || control.is_ended() || !self.fill() {
+            if !still_waits_for_line(passed) || control.is_ended() || !self.fill() {
                 return false;
+            }
+        }
+        unreachable!()
+    }
+
+    /// Sends the answer to the latest line. False where the client doesn't take it in time, or is gone, or the server is at
+    /// its end while it waits for the client.
+    pub fn send<R: Wait + time::Clock, C: Clock>(
+        &self,
+        rt: &R,
+        control: &ControlSocket,
+        clock: &C,
+        answer: &[u8],
+    ) -> bool {
+        let mut peer = self.peer;
+        let mut rest = answer;
+        let began = clock.now().nanoseconds();
+        for _ in rt.forever() {
+            if rest.is_empty() {
+                return true;
+            }
+            let passed = clock.now().nanoseconds().saturating_sub(began);
+            if !still_waits_for_line(passed) {
+                return false;
+            }
+            match peer.write(rest) {
+                Ok(0) => return false,
+                Ok(count) => rest = rest.get(count..).unwrap_or(b""),
+                Err(error) if is_late(&error) && !control.is_ended() => {}
+                Err(_) => return false,
             }
         }
         unreachable!()
@@ -86,10 +118,15 @@ impl<'a> Lines<'a> {
                 self.count = count;
                 count > 0
             }
-            Err(error) => match error.kind() {
-                ErrorKind::WouldBlock | ErrorKind::TimedOut | ErrorKind::Interrupted => true,
-                _ => false,
-            },
+            Err(error) => is_late(&error),
         }
+    }
+}
+
+/// Whether nothing came or went for a while, and may still.
+fn is_late(error: &io::Error) -> bool {
+    match error.kind() {
+        ErrorKind::WouldBlock | ErrorKind::TimedOut | ErrorKind::Interrupted => true,
+        _ => false,
     }
 }

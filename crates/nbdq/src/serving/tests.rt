@@ -1,6 +1,7 @@
 //! Whole conversations with a running server, over loopback and over a Unix socket.
 
 mod control;
+mod retuned;
 
 use super::idle_threads::IdleThreads;
 use super::*;
@@ -8,16 +9,20 @@ use nbd_commands::{ExportList, ExportSettings};
 use nbd_wire::protocol::{READ, WRITE};
 use nbd_wire::{RequestHead, write_head};
 use nbdq_cli::Sessions;
+use std::fs::Files;
 use std::io::{Read, Write};
-use std::net::TcpStream;
+use std::net::{Net, SocketAddr};
+use std::os::fd::OwnedFd;
 use std::os::unix::net::UnixStream;
-use std::test::Fail;
 use std::{fs, io};
 
-const CREW: Crew = Crew {
-    workers: 4,
-    sessions: Sessions::Count(1),
-};
+/// Four workers, and so many sessions.
+fn crew_for(sessions: u64) -> Crew {
+    Crew {
+        workers: 4,
+        sessions: Sessions::Count(sessions),
+    }
+}
 
 /// The client's flags, EXPORT_NAME of `a`, and a WRITE of four bytes.
 const FIRST: &[u8] = b"\x00\x00\x00\x03IHAVEOPT\x00\x00\x00\x01\x00\x00\x00\x01a\
@@ -28,7 +33,8 @@ const REST: &[u8] =
     b"\x25\x60\x95\x13\x00\x00\x00\x00\x00\x00\x00\x00\x00\x00\x00\x02\x00\x00\x00\x00\x00\x00\x00\x00\x00\x00\x00\x04\
 \x25\x60\x95\x13\x00\x00\x00\x02\x00\x00\x00\x00\x00\x00\x00\x03\x00\x00\x00\x00\x00\x00\x00\x00\x00\x00\x00\x00";
 
-/// All that the server says: the greeting and its flags, the export's size and flags, and two replies.
+/// All that the server says: the greeting and its flags, the export's size and flags, and two
+/// replies.
 const SAID: &[u8] = b"NBDMAGICIHAVEOPT\x00\x03\
 \x00\x00\x00\x00\x00\x00\x10\x00\x05\x6d\
 \x67\x44\x66\x98\x00\x00\x00\x00\x00\x00\x00\x00\x00\x00\x00\x01\
@@ -36,104 +42,267 @@ const SAID: &[u8] = b"NBDMAGICIHAVEOPT\x00\x03\
 
 fn config_of(alloc: Global, size: u64) -> Option<Config<Global>> {
     let mut list = ExportList::new(alloc);
-    list.add(&ExportSettings::new(b"a", size)).ok()?;
+    if list.add(&ExportSettings::new(b"a", size)).is_err() {
+        return None;
+    }
     Config::new(list, 32).ok()
 }
 
-/// What a client is told who waits for the first reply before it goes on.
-fn told<S: Read + Write>(alloc: Global, stream: &mut S) -> io::Result<Vec<u8>> {
-    let mut said = Vec::new(alloc);
-    stream.write_all(FIRST)?;
+/// Where a client connects.
+#[derive(Clone, Copy)]
+enum Door {
+    Tcp(SocketAddr),
+    Unix(&'static str),
+}
+
+impl Door {
+    fn connect<R: Net<Stream = TcpStream> + Files>(self, rt: &R) -> io::Result<TcpStream> {
+        match self {
+            Door::Tcp(address) => TcpStream::connect(rt, address),
+            Door::Unix(path) => {
+                let stream = UnixStream::connect(rt, path)?;
+                Ok(TcpStream::from(OwnedFd::from(stream)))
+            }
+        }
+    }
+}
+
+/// What a client does.
+#[derive(Clone, Copy)]
+enum Client {
+    /// It waits for the first reply before it goes on.
+    Short(Door),
+    /// It asks for data of this length seven times while it reads the first reply.
+    LongReplies(Door, u32),
+    /// It writes in long parts, and another client reads them.
+    LongWrites(Door),
+    /// It sends more than the sockets hold before it reads a reply.
+    Late(Door),
+    /// It looks at a session, drops it, and asks for the end.
+    Looks,
+    /// It asks for the end twice.
+    Stops,
+    /// It is one client too many of the control socket.
+    Crowds,
+    /// It asks for other rates while requests wait.
+    Waits,
+}
+
+impl Client {
+    /// Whether the client is served as it should be.
+    fn is_well<R: Net<Stream = TcpStream> + Files>(self, rt: &R, alloc: Global) -> bool {
+        match self {
+            Client::Short(door) => is_told(rt, alloc, door),
+            Client::LongReplies(door, length) => is_long_told(rt, alloc, door, length),
+            Client::LongWrites(door) => writes_parts(rt, alloc, door)
+                && reads_parts(rt, alloc, door),
+            Client::Late(door) => reads_late(rt, alloc, door),
+            Client::Looks => control::looks_and_drops(rt, alloc),
+            Client::Stops => control::stops_twice(rt, alloc),
+            Client::Crowds => control::crowds(rt, alloc),
+            Client::Waits => retuned::is_kept_waiting(rt, alloc),
+        }
+    }
+}
+
+/// Listens at a path and, for control, at another, and serves a client until it asks for the end.
+fn served_and_asked<R>(rt: &R, path: &str, control: &str, client: Client) -> Option<u128>
+where
+    R: AllocGlobal
+        + Net<Listener = TcpListener, Stream = TcpStream>
+        + Files
+        + Wait
+        + Threads
+        + Sync
+        + time::Clock,
+{
+    let config = config_of(rt.alloc(), 4096)?;
+    let Ok(unix) = bound(rt, path) else {
+        return None;
+    };
+    let Ok(control) = bound(rt, control) else {
+        return None;
+    };
+    let listeners = Listeners {
+        tcp: None,
+        unix: Some(unix),
+        control: Some(control),
+    };
+    served(rt, &config, listeners, control::LONG_CREW, client)
+}
+
+/// The listeners of a server.
+#[derive(Drop)]
+struct Listeners {
+    tcp: Option<TcpListener>,
+    unix: Option<UnixListener>,
+    control: Option<UnixListener>,
+}
+
+/// Serves a client, and tells how many steps were counted. None where the client isn't served as it
+/// should be, or the server failed.
+fn served<R>(
+    rt: &R,
+    config: &Config<Global>,
+    listeners: Listeners,
+    crew: Crew,
+    client: Client,
+) -> Option<u128>
+where
+    R: AllocGlobal
+        + Net<Listener = TcpListener, Stream = TcpStream>
+        + Files
+        + Wait
+        + Threads
+        + Sync
+        + time::Clock,
+{
+    let alloc = rt.alloc();
+    let Listeners { tcp, unix, control } = listeners;
+    let (steps, well) = thread::join(
+        rt,
+        move || serve_on(rt, alloc, config, tcp, unix, control, crew),
+        move || client.is_well(rt, alloc),
+    );
+    match steps {
+        Ok(steps) if well => Some(steps),
+        _ => None,
+    }
+}
+
+/// A listener at an address of loopback.
+fn bound_to_loopback<R: Net<Listener = TcpListener, Stream = TcpStream>>(
+    rt: &R,
+) -> Option<(TcpListener, Door)> {
+    let Ok(listener) = TcpListener::bind(rt, "127.0.0.1:0") else {
+        return None;
+    };
+    match listener.local_addr() {
+        Ok(address) => Some((listener, Door::Tcp(address))),
+        Err(_) => None,
+    }
+}
+
+/// A listener at a path where nothing stands.
+fn bound<R: Net + Files>(rt: &R, path: &str) -> io::Result<UnixListener> {
+    let _ = fs::remove_file(rt, path);
+    UnixListener::bind(rt, path)
+}
+
+/// A server over loopback alone.
+fn tcp_alone(listener: TcpListener) -> Listeners {
+    Listeners {
+        tcp: Some(listener),
+        unix: None,
+        control: None,
+    }
+}
+
+/// A server over a Unix socket alone.
+fn unix_alone(listener: UnixListener) -> Listeners {
+    Listeners {
+        tcp: None,
+        unix: Some(listener),
+        control: None,
+    }
+}
+
+/// What one client is told over a connection, up to its end.
+fn hear(stream: &mut TcpStream, said: &mut Vec<u8>) -> io::Result<()> {
     let mut first = [0u8; 44];
+    stream.write_all(FIRST)?;
     stream.read_exact(&mut first)?;
     said.extend_from_slice(&first)?;
     stream.write_all(REST)?;
-    stream.read_to_end(&mut said)?;
-    Ok(said)
-}
-
-#[test]
-fn over_loopback(rt: HostRuntime) -> Result<(), Fail> {
-    let rt = &rt;
-    let alloc = rt.alloc();
-    let config = config_of(alloc, 4096).ok_or("a configuration")?;
-    let listener = TcpListener::bind(rt, "127.0.0.1:0")?;
-    let address = listener.local_addr()?;
-    let lent = &config;
-    let (steps, said) = thread::join(
-        rt,
-        move || serve_on(rt, alloc, lent, Some(listener), None, None, CREW),
-        move || told(alloc, &mut TcpStream::connect(rt, address)?),
-    );
-    assert_eq!(rt; said?.as_slice(), SAID);
-    assert_eq!(rt; steps, Ok(11));
+    stream.read_to_end(said)?;
     Ok(())
 }
 
+fn is_told<R: Net<Stream = TcpStream> + Files>(rt: &R, alloc: Global, door: Door) -> bool {
+    let Ok(mut stream) = door.connect(rt) else {
+        return false;
+    };
+    let mut said = Vec::new(alloc);
+    hear(&mut stream, &mut said).is_ok() && said.as_slice() == SAID
+}
+
 #[test]
-fn over_a_unix_socket(rt: HostRuntime) -> Result<(), Fail> {
-    let rt = &rt;
-    let alloc = rt.alloc();
-    let config = config_of(alloc, 4096).ok_or("a configuration")?;
+fn over_loopback(rt: HostRuntime) {
+    let config = config_of(rt.alloc(), 4096).expect(&rt, "a configuration");
+    let (listener, door) = bound_to_loopback(&rt).expect(&rt, "a listener");
+    let steps = served(
+        &rt,
+        &config,
+        tcp_alone(listener),
+        crew_for(1),
+        Client::Short(door),
+    );
+    assert!(rt; steps == Some(11));
+}
+
+#[test]
+fn over_a_unix_socket(rt: HostRuntime) {
     let path = "nbdq.socket";
-    let _ = fs::remove_file(rt, path);
-    let listener = UnixListener::bind(rt, path)?;
-    let lent = &config;
-    let (steps, said) = thread::join(
-        rt,
-        move || serve_on(rt, alloc, lent, None, Some(listener), None, CREW),
-        move || told(alloc, &mut UnixStream::connect(rt, path)?),
+    let config = config_of(rt.alloc(), 4096).expect(&rt, "a configuration");
+    let listener = bound(&rt, path).expect(&rt, "a listener");
+    let steps = served(
+        &rt,
+        &config,
+        unix_alone(listener),
+        crew_for(1),
+        Client::Short(Door::Unix(path)),
     );
-    fs::remove_file(rt, path)?;
-    assert_eq!(rt; said?.as_slice(), SAID);
-    assert_eq!(rt; steps, Ok(11));
-    Ok(())
+    assert!(rt; fs::remove_file(&rt, path).is_ok());
+    assert!(rt; steps == Some(11));
+}
+
+/// The head of a request.
+fn head_of(kind: u16, cookie: u64, offset: u64, length: u32) -> RequestHead {
+    RequestHead {
+        flags: 0,
+        kind,
+        cookie,
+        offset,
+        length,
+    }
 }
 
 /// Asks for the disk's first bytes.
-fn ask<S: Write>(stream: &mut S, cookie: u64, length: u32) -> io::Result<()> {
-    let head = RequestHead {
-        flags: 0,
-        kind: READ,
-        cookie,
-        offset: 0,
-        length,
-    };
-    stream.write_all(&write_head(&head))
+fn ask(stream: &mut TcpStream, cookie: u64, length: u32) -> io::Result<()> {
+    stream.write_all(&write_head(&head_of(READ, cookie, 0, length)))
 }
 
-/// Reads what is behind a reply's head, and tells whether it is what the disk begins with.
-fn is_first<S: Read>(
-    stream: &mut S,
-    head: &[u8; 16],
-    content: &mut Vec<u8, Global>,
-) -> io::Result<bool> {
-    stream.read_exact(content.as_mut_slice())?;
+/// Reads a reply's data, and tells whether it is what the disk begins with.
+fn is_first(stream: &mut TcpStream, head: &[u8; 16], content: &mut [u8]) -> io::Result<bool> {
+    stream.read_exact(content)?;
     Ok(
         head.starts_with(b"\x67\x44\x66\x98\0\0\0\0")
             && content.starts_with(b"\xde\xad\xbe\xef\0\0"),
     )
 }
 
-/// What a client is told who asks for long data seven times while it reads the first reply: a bit for the cookie of each reply that
-/// is well.
-fn long_told<S: Read + Write>(alloc: Global, stream: &mut S, length: u32) -> io::Result<u64> {
-    stream.write_all(FIRST)?;
+/// Writes four bytes, asks for long data, and while the first reply comes seven times more.
+fn ask_for_long(stream: &mut TcpStream, head: &mut [u8; 16], length: u32) -> io::Result<()> {
     let mut first = [0u8; 44];
+    stream.write_all(FIRST)?;
     stream.read_exact(&mut first)?;
     ask(stream, 0, length)?;
-    let mut head = [0u8; 16];
-    stream.read_exact(&mut head)?;
+    stream.read_exact(head)?;
     for cookie in 1..8 {
         ask(stream, cookie, length)?;
     }
-    let mut content = Vec::from_elem(alloc, 0u8, length as usize)?;
+    Ok(())
+}
+
+/// Reads eight long replies, the head of the first of which was read, and leaves. Tells a bit for
+/// the cookie of each that is well.
+fn read_long(stream: &mut TcpStream, head: &mut [u8; 16], content: &mut [u8]) -> io::Result<u64> {
     let mut told = 0u64;
     for more in 0..8 {
         if more > 0 {
-            stream.read_exact(&mut head)?;
+            stream.read_exact(head)?;
         }
-        if is_first(stream, &head, &mut content)? {
+        if is_first(stream, head, content)? {
             told |= 1u64.checked_shl(head[15] as u32).unwrap_or(0);
         }
     }
@@ -141,56 +310,59 @@ fn long_told<S: Read + Write>(alloc: Global, stream: &mut S, length: u32) -> io:
     Ok(told)
 }
 
+/// Whether each of eight long replies is well.
+fn is_long_told<R: Net<Stream = TcpStream> + Files>(
+    rt: &R,
+    alloc: Global,
+    door: Door,
+    length: u32,
+) -> bool {
+    let Ok(mut stream) = door.connect(rt) else {
+        return false;
+    };
+    let Ok(mut content) = Vec::from_elem(alloc, 0u8, length as usize) else {
+        return false;
+    };
+    let mut head = [0u8; 16];
+    ask_for_long(&mut stream, &mut head, length).is_ok()
+        && matches!(
+            read_long(&mut stream, &mut head, content.as_mut_slice()),
+            Ok(255)
+        )
+}
+
 #[test]
-fn long_replies(rt: HostRuntime) -> Result<(), Fail> {
-    let rt = &rt;
-    let alloc = rt.alloc();
-    let config = config_of(alloc, 2_097_152).ok_or("a configuration")?;
-    let lent = &config;
+fn long_replies(rt: HostRuntime) {
+    let config = config_of(rt.alloc(), 2_097_152).expect(&rt, "a configuration");
     for length in [1_048_576, 1_500_000] {
-        let listener = TcpListener::bind(rt, "127.0.0.1:0")?;
-        let address = listener.local_addr()?;
-        let (steps, told) = thread::join(
-            rt,
-            move || serve_on(rt, alloc, lent, Some(listener), None, None, CREW),
-            move || long_told(alloc, &mut TcpStream::connect(rt, address)?, length),
-        );
-        assert_eq!(rt; told?, 255);
-        assert_eq!(rt; steps, Ok(39));
+        let (listener, door) = bound_to_loopback(&rt).expect(&rt, "a listener");
+        let client = Client::LongReplies(door, length);
+        let steps = served(&rt, &config, tcp_alone(listener), crew_for(1), client);
+        assert!(rt; steps == Some(39), "{length} bytes");
     }
-    Ok(())
 }
 
 /// How many bytes a long WRITE of these tests has.
 const PART: u32 = 262_144;
 
-/// Sends the head of a WRITE of so many equal bytes behind the parts before it, and the first half of these.
-fn begin_part<S: Write>(
-    stream: &mut S,
-    number: u8,
-    content: &mut Vec<u8, Global>,
-) -> io::Result<()> {
-    let head = RequestHead {
-        flags: 0,
-        kind: WRITE,
-        cookie: u64::from(number),
-        offset: u64::from(number) * u64::from(PART),
-        length: PART,
-    };
-    content.as_mut_slice().fill(number);
-    stream.write_all(&write_head(&head))?;
-    let (half, _) = content.as_slice().split_at(content.len() / 2);
+/// Sends the head of a WRITE of so many equal bytes behind the parts before it, and the first half
+/// of these.
+fn begin_part(stream: &mut TcpStream, number: u8, content: &mut [u8]) -> io::Result<()> {
+    let offset = u64::from(number) * u64::from(PART);
+    content.fill(number);
+    stream.write_all(&write_head(&head_of(WRITE, u64::from(number), offset, PART)))?;
+    let (half, _) = content.split_at(content.len() / 2);
     stream.write_all(half)
 }
 
 /// Sends the other half.
-fn end_part<S: Write>(stream: &mut S, content: &Vec<u8, Global>) -> io::Result<()> {
-    let (_, half) = content.as_slice().split_at(content.len() / 2);
+fn end_part(stream: &mut TcpStream, content: &[u8]) -> io::Result<()> {
+    let (_, half) = content.split_at(content.len() / 2);
     stream.write_all(half)
 }
 
 /// Reads so many replies without data, and tells how many are well.
-fn replies_well<S: Read>(stream: &mut S, count: usize) -> io::Result<usize> {
+fn replies_well(stream: &mut TcpStream, count: usize) -> io::Result<usize> {
     let mut well = 0usize;
     for _ in 0..count {
         let mut head = [0u8; 16];
@@ -202,45 +374,59 @@ fn replies_well<S: Read>(stream: &mut S, count: usize) -> io::Result<usize> {
     Ok(well)
 }
 
-/// Writes eight parts, the last half of the last once the replies to the others came, and tells how many replies are well.
-fn write_parts<S: Read + Write>(alloc: Global, stream: &mut S) -> io::Result<usize> {
-    let mut content = Vec::from_elem(alloc, 0u8, PART as usize)?;
+/// Writes seven parts and the first half of an eighth, and tells how many replies to the seven are
+/// well.
+fn write_seven(stream: &mut TcpStream, content: &mut [u8]) -> io::Result<usize> {
     stream.write_all(FIRST)?;
     for number in 0..7 {
-        begin_part(stream, number, &mut content)?;
-        end_part(stream, &content)?;
+        begin_part(stream, number, content)?;
+        end_part(stream, content)?;
     }
-    begin_part(stream, 7, &mut content)?;
+    begin_part(stream, 7, content)?;
     let mut first = [0u8; 44];
     stream.read_exact(&mut first)?;
-    let before = replies_well(stream, 7)?;
-    end_part(stream, &content)?;
-    let last = replies_well(stream, 1)?;
+    replies_well(stream, 7)
+}
+
+/// Sends the last half, and tells whether the reply to it is well.
+fn write_last_half(stream: &mut TcpStream, content: &[u8]) -> io::Result<usize> {
+    end_part(stream, content)?;
+    let well = replies_well(stream, 1)?;
     stream.write_all(&REST[28..])?;
-    Ok(before.saturating_add(last))
+    Ok(well)
+}
+
+/// Whether eight parts are written, the last half of the last once the replies to the others came.
+fn writes_parts<R: Net<Stream = TcpStream> + Files>(rt: &R, alloc: Global, door: Door) -> bool {
+    let Ok(mut stream) = door.connect(rt) else {
+        return false;
+    };
+    let Ok(mut content) = Vec::from_elem(alloc, 0u8, PART as usize) else {
+        return false;
+    };
+    matches!(write_seven(&mut stream, content.as_mut_slice()), Ok(7))
+        && matches!(write_last_half(&mut stream, content.as_slice()), Ok(1))
+}
+
+/// Reads a part, and tells whether it has the bytes that were written.
+fn is_part(stream: &mut TcpStream, number: u8, content: &mut [u8]) -> io::Result<bool> {
+    let mut said = [0u8; 16];
+    let offset = u64::from(number) * u64::from(PART);
+    stream.write_all(&write_head(&head_of(READ, 9, offset, PART)))?;
+    stream.read_exact(&mut said)?;
+    stream.read_exact(content)?;
+    // The first bytes are those of the short WRITE.
+    Ok(content.iter().skip(4).all(|byte| *byte == number))
 }
 
 /// Reads the parts one by one, and tells how many have the bytes that were written.
-fn read_parts<S: Read + Write>(alloc: Global, stream: &mut S) -> io::Result<usize> {
-    let mut content = Vec::from_elem(alloc, 0u8, PART as usize)?;
+fn read_parts(stream: &mut TcpStream, content: &mut [u8]) -> io::Result<usize> {
     stream.write_all(FIRST)?;
     let mut first = [0u8; 44];
     stream.read_exact(&mut first)?;
     let mut well = 0usize;
     for number in 0..8u8 {
-        let head = RequestHead {
-            flags: 0,
-            kind: READ,
-            cookie: 9,
-            offset: u64::from(number) * u64::from(PART),
-            length: PART,
-        };
-        stream.write_all(&write_head(&head))?;
-        let mut said = [0u8; 16];
-        stream.read_exact(&mut said)?;
-        stream.read_exact(content.as_mut_slice())?;
-        // The first bytes are those of the short WRITE.
-        if content.iter().skip(4).all(|byte| *byte == number) {
+        if is_part(stream, number, content)? {
             well = well.saturating_add(1);
         }
     }
@@ -248,38 +434,36 @@ fn read_parts<S: Read + Write>(alloc: Global, stream: &mut S) -> io::Result<usiz
     Ok(well)
 }
 
-#[test]
-fn long_writes_and_a_second_client(rt: HostRuntime) -> Result<(), Fail> {
-    let rt = &rt;
-    let alloc = rt.alloc();
-    let config = config_of(alloc, 2_097_152).ok_or("a configuration")?;
-    let lent = &config;
-    let crew = Crew {
-        workers: 4,
-        sessions: Sessions::Count(2),
+fn reads_parts<R: Net<Stream = TcpStream> + Files>(rt: &R, alloc: Global, door: Door) -> bool {
+    let Ok(mut stream) = door.connect(rt) else {
+        return false;
     };
-    let listener = TcpListener::bind(rt, "127.0.0.1:0")?;
-    let address = listener.local_addr()?;
-    let (steps, well) = thread::join(
-        rt,
-        move || serve_on(rt, alloc, lent, Some(listener), None, None, crew),
-        move || {
-            let written = write_parts(alloc, &mut TcpStream::connect(rt, address)?)?;
-            let read = read_parts(alloc, &mut TcpStream::connect(rt, address)?)?;
-            Ok::<(usize, usize), io::Error>((written, read))
-        },
-    );
-    assert_eq!(rt; well?, (8, 8));
-    assert_eq!(rt; steps, Ok(78));
-    Ok(())
+    let Ok(mut content) = Vec::from_elem(alloc, 0u8, PART as usize) else {
+        return false;
+    };
+    matches!(read_parts(&mut stream, content.as_mut_slice()), Ok(8))
 }
 
 #[test]
-fn a_client_handed_over(rt: HostRuntime) -> Result<(), Fail> {
-    let rt = &rt;
-    let listener = TcpListener::bind(rt, "127.0.0.1:0")?;
-    let client = TcpStream::connect(rt, listener.local_addr()?)?;
-    let idle = &IdleThreads::new(rt.alloc())?;
+fn long_writes_and_a_second_client(rt: HostRuntime) {
+    let config = config_of(rt.alloc(), 2_097_152).expect(&rt, "a configuration");
+    let (listener, door) = bound_to_loopback(&rt).expect(&rt, "a listener");
+    let steps = served(
+        &rt,
+        &config,
+        tcp_alone(listener),
+        crew_for(2),
+        Client::LongWrites(door),
+    );
+    assert!(rt; steps == Some(78));
+}
+
+/// Whether a thread that waits gets the client, and then is told that there are no more.
+fn is_handed_over<R: Wait + Threads + Sync + time::Clock>(
+    rt: &R,
+    idle: &IdleThreads,
+    client: TcpStream,
+) -> (bool, bool) {
     let (waited, ()) = thread::join(
         rt,
         move || (idle.wait(rt).is_some(), idle.wait(rt).is_some()),
@@ -295,56 +479,84 @@ fn a_client_handed_over(rt: HostRuntime) -> Result<(), Fail> {
             idle.close();
         },
     );
-    assert_eq!(rt; waited, (true, false));
-    Ok(())
+    waited
+}
+
+#[test]
+fn a_client_handed_over(rt: HostRuntime) {
+    let (_listener, door) = bound_to_loopback(&rt).expect(&rt, "a listener");
+    let client = door.connect(&rt).ok().expect(&rt, "a client");
+    let idle = IdleThreads::new(rt.alloc()).ok().expect(&rt, "memory");
+    assert!(rt; is_handed_over(&rt, &idle, client) == (true, false));
 }
 
 /// The cookie of each READ of a client that reads late.
 const ASKED: u64 = 9;
 
-/// Sends READs and long WRITEs in turn before it reads a reply, more than the sockets hold, and tells how many replies are well.
-fn read_late<S: Read + Write>(alloc: Global, stream: &mut S) -> io::Result<usize> {
-    let mut content = Vec::from_elem(alloc, 0u8, PART as usize)?;
+/// Sends READs and long WRITEs in turn, more than the sockets hold.
+fn send_many(stream: &mut TcpStream, content: &mut [u8]) -> io::Result<()> {
     stream.write_all(FIRST)?;
     for number in 0..48u8 {
         ask(stream, ASKED, 16_384)?;
-        begin_part(stream, number % 4 + 4, &mut content)?;
-        end_part(stream, &content)?;
+        begin_part(stream, number % 4 + 4, content)?;
+        end_part(stream, content)?;
     }
+    Ok(())
+}
+
+/// Reads a reply, and tells whether it is well.
+fn is_reply(stream: &mut TcpStream, content: &mut [u8]) -> io::Result<bool> {
+    let mut head = [0u8; 16];
+    stream.read_exact(&mut head)?;
+    if head.ends_with(&ASKED.to_be_bytes()) {
+        stream.read_exact(content)?;
+    }
+    Ok(head.starts_with(b"\x67\x44\x66\x98\0\0\0\0\0"))
+}
+
+/// Reads all replies and leaves, and tells how many are well.
+fn read_many(stream: &mut TcpStream, content: &mut [u8]) -> io::Result<usize> {
     let mut first = [0u8; 44];
     stream.read_exact(&mut first)?;
     let mut well = 0usize;
-    let mut data = Vec::from_elem(alloc, 0u8, 16_384)?;
     for _ in 0..96 {
-        let mut head = [0u8; 16];
-        stream.read_exact(&mut head)?;
-        if head.starts_with(b"\x67\x44\x66\x98\0\0\0\0\0") {
+        if is_reply(stream, content)? {
             well = well.saturating_add(1);
-        }
-        if head.ends_with(&ASKED.to_be_bytes()) {
-            stream.read_exact(data.as_mut_slice())?;
         }
     }
     stream.write_all(&REST[28..])?;
     Ok(well)
 }
 
+fn reads_late<R: Net<Stream = TcpStream> + Files>(rt: &R, alloc: Global, door: Door) -> bool {
+    let Ok(mut stream) = door.connect(rt) else {
+        return false;
+    };
+    let Ok(mut content) = Vec::from_elem(alloc, 0u8, PART as usize) else {
+        return false;
+    };
+    send_many(&mut stream, content.as_mut_slice()).is_ok() && reads_many(alloc, &mut stream)
+}
+
+fn reads_many(alloc: Global, stream: &mut TcpStream) -> bool {
+    let Ok(mut data) = Vec::from_elem(alloc, 0u8, 16_384) else {
+        return false;
+    };
+    matches!(read_many(stream, data.as_mut_slice()), Ok(96))
+}
+
 #[test]
-fn a_client_that_reads_late(rt: HostRuntime) -> Result<(), Fail> {
-    let rt = &rt;
-    let alloc = rt.alloc();
-    let config = config_of(alloc, 2_097_152).ok_or("a configuration")?;
+fn a_client_that_reads_late(rt: HostRuntime) {
     let path = "nbdq.late";
-    let _ = fs::remove_file(rt, path);
-    let listener = UnixListener::bind(rt, path)?;
-    let lent = &config;
-    let (steps, well) = thread::join(
-        rt,
-        move || serve_on(rt, alloc, lent, None, Some(listener), None, CREW),
-        move || read_late(alloc, &mut UnixStream::connect(rt, path)?),
+    let config = config_of(rt.alloc(), 2_097_152).expect(&rt, "a configuration");
+    let listener = bound(&rt, path).expect(&rt, "a listener");
+    let steps = served(
+        &rt,
+        &config,
+        unix_alone(listener),
+        crew_for(1),
+        Client::Late(Door::Unix(path)),
     );
-    fs::remove_file(rt, path)?;
-    assert_eq!(rt; well?, 96);
-    assert_eq!(rt; steps, Ok(391));
-    Ok(())
+    assert!(rt; fs::remove_file(&rt, path).is_ok());
+    assert!(rt; steps == Some(391));
 }

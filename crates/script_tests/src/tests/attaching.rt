@@ -1,9 +1,10 @@
 //! Handshakes in which a session isn't always given, and clients that send too many options.
 
+use super::scripts::{joined, repeated};
+use super::streams::beginning;
 use nbd_options::{Attach, Attached, ExportTable};
-use nbd_session::{Counted, End, Entry, TalkFault, haggle};
+use nbd_session::{Counted, End, Entry, haggle};
 use std::alloc::Global;
-use std::test::Fail;
 
 /// The client's flags, and GO of `a` twice.
 const GO_TWICE: &[u8] =
@@ -47,71 +48,117 @@ impl Attach for Until {
     }
 }
 
-/// How the handshake goes, what is said, and how often a session was asked for.
-fn shaken(
+/// An export of this name.
+fn table_of_one(alloc: Global) -> Option<ExportTable<Global>> {
+    let mut table = ExportTable::new(alloc);
+    match table.push(b"a", None, 4096, 0x056d) {
+        Ok(()) => Some(table),
+        Err(_) => None,
+    }
+}
+
+/// Whether the handshake ends so, a session is asked for so often, and this is all that is said.
+fn ends_so(
     alloc: Global,
     sent: &[u8],
-    answer: Attached,
-    left: u32,
-) -> Result<(Result<Entry, TalkFault>, Vec<u8>, u32), Fail> {
-    let mut table = ExportTable::new(alloc);
-    table.push(b"a", None, 4096, 0x056d)?;
-    let mut attach = Until {
-        answer,
-        left,
-        asked: 0,
+    attach: &mut Until,
+    entry: Entry,
+    asked: u32,
+    said: &[u8],
+) -> bool {
+    let Some(table) = table_of_one(alloc) else {
+        return false;
     };
     let mut reader = Counted::new(sent);
     let mut writer = Counted::new(Vec::new(alloc));
-    let entry = haggle(alloc, &table, &mut reader, &mut writer, &mut attach);
-    Ok((entry, writer.into_inner(), attach.asked))
+    let told = haggle(alloc, &table, &mut reader, &mut writer, attach);
+    told == Ok(entry) && attach.asked == asked && writer.into_inner().as_slice() == said
+}
+
+/// Answers so once.
+fn once(answer: Attached) -> Until {
+    Until {
+        answer,
+        left: 1,
+        asked: 0,
+    }
 }
 
 #[test]
-fn full_at_first(rt: HostRuntime) -> Result<(), Fail> {
-    let (entry, said, asked) = shaken(rt.alloc(), GO_TWICE, Attached::Full, 1)?;
-    assert_eq!(rt; entry, Ok(Entry::In(0)));
-    assert_eq!(rt; asked, 2);
-    let well = said.as_slice() == FULL_AND_GIVEN;
-    assert!(rt; well);
-    Ok(())
+fn full_at_first(rt: HostRuntime) {
+    let alloc = rt.alloc();
+    let mut attach = once(Attached::Full);
+    assert!(rt;
+        ends_so(
+            alloc,
+            GO_TWICE,
+            &mut attach,
+            Entry::In(0),
+            2,
+            FULL_AND_GIVEN
+        )
+    );
 }
 
 #[test]
-fn no_session_by_name(rt: HostRuntime) -> Result<(), Fail> {
+fn no_session_by_name(rt: HostRuntime) {
     for answer in [Attached::Full, Attached::Other] {
-        let (entry, said, asked) = shaken(rt.alloc(), BY_NAME, answer, 1)?;
-        assert_eq!(rt; entry, Ok(Entry::Refused));
-        assert_eq!(rt; asked, 1);
-        let well = said.as_slice() == GREETING;
-        assert!(rt; well);
+        let mut attach = once(answer);
+        assert!(rt;
+            ends_so(
+                rt.alloc(),
+                BY_NAME,
+                &mut attach,
+                Entry::Refused,
+                1,
+                GREETING
+            )
+        );
     }
-    Ok(())
+}
+
+/// 1,000 options of number 99 and a last one, behind the client's flags.
+fn many_options(alloc: Global, last: &[u8]) -> Option<Vec<u8>> {
+    let many = repeated(alloc, OPTION_99, 1000)?;
+    joined(alloc, &[beginning(BY_NAME, 4), many.as_slice(), last])
+}
+
+/// The greeting, and an answer to each of 1,000 options.
+fn many_answers(alloc: Global) -> Option<Vec<u8>> {
+    let many = repeated(alloc, UNKNOWN_OPTION, 1000)?;
+    joined(alloc, &[GREETING, many.as_slice()])
+}
+
+/// Whether the handshake ends so where this option comes behind 1,000 others.
+fn is_last(alloc: Global, last: &[u8], said: &[u8], end: End) -> bool {
+    let Some(sent) = many_options(alloc, last) else {
+        return false;
+    };
+    let mut attach = Until {
+        answer: Attached::Given,
+        left: 0,
+        asked: 0,
+    };
+    ends_so(alloc, &sent, &mut attach, Entry::Out(end), 0, said)
+}
+
+/// The same with another magic, and with more data than it may have.
+const OTHER_MAGIC: &[u8] = b"\x49\x48\x41\x56\x45\x4f\x50\x55\x00\x00\x00\x63\x00\x00\x00\x00";
+
+const TOO_LONG: &[u8] = b"\x49\x48\x41\x56\x45\x4f\x50\x54\x00\x00\x00\x63\x00\x01\x00\x01";
+
+/// Whether the handshake ends at one option more than it may have, whatever that is.
+fn ends_at_one_more(alloc: Global) -> bool {
+    let Some(replies) = many_answers(alloc) else {
+        return false;
+    };
+    let replies = replies.as_slice();
+    is_last(alloc, OPTION_99, replies, End::TooMany)
+        && is_last(alloc, OTHER_MAGIC, replies, End::BadMagic)
+        && is_last(alloc, TOO_LONG, replies, End::TooMany)
 }
 
 #[test]
-fn too_many_options(rt: HostRuntime) -> Result<(), Fail> {
-    let other_magic = b"\x49\x48\x41\x56\x45\x4f\x50\x55\x00\x00\x00\x63\x00\x00\x00\x00";
-    let too_long = b"\x49\x48\x41\x56\x45\x4f\x50\x54\x00\x00\x00\x63\x00\x01\x00\x01";
-    let mut replies = Vec::from_slice(rt.alloc(), GREETING)?;
-    for _ in 0..1000u32 {
-        replies.extend_from_slice(UNKNOWN_OPTION)?;
-    }
-    for (last, end) in [
-        (*OPTION_99, End::TooMany),
-        (*other_magic, End::BadMagic),
-        (*too_long, End::TooMany),
-    ] {
-        let mut sent = Vec::from_slice(rt.alloc(), &BY_NAME[..4])?;
-        for _ in 0..1000u32 {
-            sent.extend_from_slice(OPTION_99)?;
-        }
-        sent.extend_from_slice(&last)?;
-        let (entry, said, asked) = shaken(rt.alloc(), &sent, Attached::Given, 0)?;
-        assert_eq!(rt; entry, Ok(Entry::Out(end)));
-        assert_eq!(rt; asked, 0);
-        let well = said == replies;
-        assert!(rt; well);
-    }
-    Ok(())
+fn too_many_options(rt: HostRuntime) {
+    assert!(rt; ends_at_one_more(rt.alloc()));
 }

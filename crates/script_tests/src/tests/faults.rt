@@ -1,13 +1,14 @@
-//! One conversation, cut at each of its places, and with each read, write and growth failing in turn; and so one script.
+//! One conversation, cut at each of its places, and with each read, write and growth failing in
+//! turn; and so one script.
 
+use super::scripts::{Command, every_write_fails, run, went};
+use super::streams::{Sink, Source, beginning};
 use nbd_commands::{Config, ExportList, ExportSettings};
-use nbd_scripts::{Outcome, talk_script};
+use nbd_scripts::Outcome;
 use nbd_session::{Counted, End, TalkFault, talk};
 use refusing::Refusing;
-use std::alloc::Global;
+use std::alloc::{Allocator, Global};
 use std::io;
-use std::io::{Read, Write};
-use std::test::Fail;
 
 /// The client's flags, EXPORT_NAME, a WRITE and a READ of the same four bytes, and DISC.
 pub const SENT: &[u8; 109] =
@@ -25,77 +26,38 @@ const SCRIPT: &[u8] =
 const PRINTED: &[u8] =
     b"4e42444d4147494349484156454f5054\n00030000000000001000056d67446698\n00000000000000000000000167446698\n000000000000000000000002deadbeef\nend disc\n";
 
-/// Gives bytes, and then ends or fails.
-#[derive(Drop)]
-struct Source<'a> {
-    bytes: &'a [u8],
-    fails: bool,
-}
-
-impl Read for Source<'_> {
-    fn read(&mut self, buf: &mut [u8]) -> io::Result<usize> {
-        if self.fails && self.bytes.is_empty() {
-            return Err(io::Error::from(io::ErrorKind::TimedOut));
-        }
-        let count = buf.len().min(self.bytes.len());
-        buf[..count].copy_from_slice(&self.bytes[..count]);
-        self.bytes = &self.bytes[count..];
-        Ok(count)
-    }
-}
-
-/// Takes so many bytes, and then fails.
-#[derive(Drop)]
-struct Sink {
-    taken: Vec<u8>,
-    room: usize,
-}
-
-impl Write for Sink {
-    fn write(&mut self, buf: &[u8]) -> io::Result<usize> {
-        let count = buf.len().min(self.room);
-        if count == 0 {
-            return Err(io::Error::from(io::ErrorKind::BrokenPipe));
-        }
-        self.taken.extend_from_slice(&buf[..count])?;
-        self.room -= count;
-        Ok(count)
-    }
-
-    fn flush(&mut self) -> io::Result<()> {
-        Ok(())
-    }
-}
-
-/// How the conversation over this reader and writer goes with an export of 4,096 bytes, and the writer.
-pub fn held<R: Read + Drop, W: Write + Drop>(
-    alloc: Global,
-    reader: R,
-    writer: W,
-) -> Result<(Result<End, TalkFault>, W), Fail> {
+/// A configuration of an export of 4,096 bytes.
+pub fn configured<A: Allocator + Copy>(alloc: A) -> Option<Config<A>> {
     let mut exports = ExportList::new(alloc);
-    exports.add(&ExportSettings::new(b"a", 4096))?;
-    let config = Config::new(exports, 32)?;
-    let mut reader = Counted::new(reader);
-    let mut writer = Counted::new(writer);
-    let end = talk(alloc, &config, &mut reader, &mut writer);
-    Ok((end, writer.into_inner()))
+    if exports.add(&ExportSettings::new(b"a", 4096)).is_err() {
+        return None;
+    }
+    Config::new(exports, 32).ok()
 }
 
-/// How the conversation of the first bytes goes with a writer that takes so many, and what is said.
-fn told(
+/// Whether the conversation over this reader, with a writer that takes so many bytes, goes so, and
+/// this is what is said.
+pub fn is_held(
     alloc: Global,
-    sent: &[u8],
-    fails: bool,
+    config: &Config<Global>,
+    source: Source<'_>,
     room: usize,
-) -> Result<(Result<End, TalkFault>, Vec<u8>), Fail> {
-    let taken = Vec::new(alloc);
-    let (end, Sink { taken, room: _ }) = held(
-        alloc,
-        Source { bytes: sent, fails },
-        Sink { taken, room },
-    )?;
-    Ok((end, taken))
+    end: Result<End, TalkFault>,
+    said: &[u8],
+) -> bool {
+    let sink = Sink::new(alloc, room, usize::MAX, io::ErrorKind::BrokenPipe);
+    let mut writer = Counted::new(sink);
+    let went = talk(alloc, config, &mut Counted::new(source), &mut writer);
+    went == end && writer.into_inner().has(said)
+}
+
+/// The first bytes, behind which the reader ends or fails.
+fn first(count: usize, fault: Option<io::ErrorKind>) -> Source<'static> {
+    Source {
+        bytes: beginning(SENT, count),
+        most: usize::MAX,
+        fault,
+    }
 }
 
 /// How the first bytes end, where no call fails.
@@ -107,175 +69,186 @@ fn end_of(count: usize) -> End {
     }
 }
 
-/// How many bytes are said to the first bytes.
-fn said_to(count: usize) -> usize {
+/// What is said to the first bytes.
+fn said_to(count: usize) -> &'static [u8] {
     match count {
-        0..=20 => 18,
-        21..=52 => 28,
-        53..=80 => 44,
-        _ => 64,
+        0..=20 => beginning(SAID, 18),
+        21..=52 => beginning(SAID, 28),
+        53..=80 => beginning(SAID, 44),
+        _ => SAID,
     }
 }
 
-/// The first bytes of a text.
-fn beginning(text: &[u8], count: usize) -> &[u8] {
-    text.get(..count).unwrap_or_default()
+fn is_cut_well(alloc: Global, config: &Config<Global>, count: usize) -> bool {
+    let end = Ok(end_of(count));
+    is_held(alloc, config, first(count, None), 1000, end, said_to(count))
 }
 
 #[test]
-fn cut_at_each_byte(rt: HostRuntime) -> Result<(), Fail> {
+fn cut_at_each_byte(rt: HostRuntime) {
+    let config = configured(rt.alloc()).expect(&rt, "a configuration");
     for count in 0..110usize {
-        let (end, said) = told(rt.alloc(), beginning(SENT, count), false, 1000)?;
-        assert_eq!(rt; end, Ok(end_of(count)), "at {count}");
-        let well = said.as_slice() == beginning(SAID, said_to(count));
-        assert!(rt; well, "at {count}");
+        assert!(rt; is_cut_well(rt.alloc(), &config, count), "at {count}");
     }
-    Ok(())
+}
+
+fn fails_to_read(alloc: Global, config: &Config<Global>, count: usize) -> bool {
+    let source = first(count, Some(io::ErrorKind::TimedOut));
+    let end = Err(TalkFault::ReadFailed);
+    is_held(alloc, config, source, 1000, end, said_to(count))
 }
 
 #[test]
-fn each_read_fails(rt: HostRuntime) -> Result<(), Fail> {
+fn each_read_fails(rt: HostRuntime) {
+    let config = configured(rt.alloc()).expect(&rt, "a configuration");
     for count in 0..109usize {
-        let (end, said) = told(rt.alloc(), beginning(SENT, count), true, 1000)?;
-        assert_eq!(rt; end, Err(TalkFault::ReadFailed), "at {count}");
-        let well = said.as_slice() == beginning(SAID, said_to(count));
-        assert!(rt; well, "at {count}");
+        assert!(rt; fails_to_read(rt.alloc(), &config, count), "at {count}");
     }
-    Ok(())
+}
+
+fn fails_to_write(alloc: Global, config: &Config<Global>, room: usize) -> bool {
+    let end = Err(TalkFault::WriteFailed);
+    is_held(
+        alloc,
+        config,
+        first(109, None),
+        room,
+        end,
+        beginning(SAID, room),
+    )
 }
 
 #[test]
-fn each_write_fails(rt: HostRuntime) -> Result<(), Fail> {
+fn each_write_fails(rt: HostRuntime) {
+    let config = configured(rt.alloc()).expect(&rt, "a configuration");
     for room in 0..64usize {
-        let (end, said) = told(rt.alloc(), SENT, false, room)?;
-        assert_eq!(rt; end, Err(TalkFault::WriteFailed), "at {room}");
-        let well = said.as_slice() == &SAID[..room];
-        assert!(rt; well, "at {room}");
+        assert!(rt; fails_to_write(rt.alloc(), &config, room), "at {room}");
     }
-    Ok(())
 }
 
-/// How the whole conversation goes where the first so many growths are given and the next is refused, and what is said.
-fn told_without_memory(
+/// How the whole conversation goes where that growth is refused, and what is said.
+fn held_without<'a>(
     alloc: Global,
-    heap: &Refusing<Global>,
+    heap: &'a Refusing<Global>,
+    config: &Config<&'a Refusing<Global>>,
     nth: u64,
-) -> Result<(Result<End, TalkFault>, Vec<u8>), Fail> {
-    let mut exports = ExportList::new(heap);
-    exports.add(&ExportSettings::new(b"a", 4096))?;
-    let config = Config::new(exports, 32)?;
-    let mut reader = Counted::new(SENT.as_slice());
+) -> (Result<End, TalkFault>, Vec<u8>) {
     let mut writer = Counted::new(Vec::new(alloc));
     heap.arm(nth);
-    let end = talk(heap, &config, &mut reader, &mut writer);
-    Ok((end, writer.into_inner()))
+    let end = talk(
+        heap,
+        config,
+        &mut Counted::new(SENT.as_slice()),
+        &mut writer,
+    );
+    (end, writer.into_inner())
+}
+
+/// Whether it goes well, or is ended by want of memory.
+fn is_held_without(alloc: Global, heap: &Refusing<Global>, nth: u64) -> bool {
+    let Some(config) = configured(heap) else {
+        return false;
+    };
+    let (end, said) = held_without(alloc, heap, &config, nth);
+    if heap.is_armed() {
+        end == Ok(End::Disc) && said.as_slice() == SAID.as_slice()
+    } else {
+        end == Err(TalkFault::NoMemory) && SAID.starts_with(&said)
+    }
 }
 
 #[test]
-fn each_growth_is_refused(rt: HostRuntime) -> Result<(), Fail> {
+fn each_growth_is_refused(rt: HostRuntime) {
     let mut refused = 0u64;
     for nth in 1..100u64 {
         let heap = Refusing::new(rt.alloc(), 0);
-        let (end, said) = told_without_memory(rt.alloc(), &heap, nth)?;
+        assert!(rt; is_held_without(rt.alloc(), &heap, nth), "at {nth}");
         if heap.is_armed() {
-            assert_eq!(rt; end, Ok(End::Disc));
-            let well = said.as_slice() == SAID.as_slice();
-            assert!(rt; well);
             break;
         }
-        assert_eq!(rt; end, Err(TalkFault::NoMemory), "at {nth}");
-        let begins = SAID.starts_with(&said);
-        assert!(rt; begins, "at {nth}");
         refused = nth;
     }
     assert!(rt; refused > 0);
-    Ok(())
+}
+
+/// Whether nothing is written where the script's first bytes are read, and the next read fails.
+fn reads_in_vain(alloc: Global, count: usize) -> bool {
+    let mut input = Counted::new(Source {
+        bytes: beginning(SCRIPT, count),
+        most: usize::MAX,
+        fault: Some(io::ErrorKind::TimedOut),
+    });
+    let mut output = Counted::new(Vec::new(alloc));
+    let outcome = run(Command::Talk, alloc, &mut input, &mut output);
+    let counted = input.failures() == 1 && output.failures() == 0;
+    outcome == Outcome::ReadFailed && counted && output.into_inner().is_empty()
 }
 
 #[test]
 fn each_read_of_a_script_fails(rt: HostRuntime) {
     for count in 0..SCRIPT.len() {
-        let mut input = Counted::new(Source {
-            bytes: beginning(SCRIPT, count),
-            fails: true,
-        });
-        let mut output = Counted::new(Vec::new(rt.alloc()));
-        let outcome = talk_script(rt.alloc(), &mut input, &mut output);
-        assert_eq!(rt; outcome, Outcome::ReadFailed, "at {count}");
-        assert_eq!(rt; (input.failures(), output.failures()), (1, 0), "at {count}");
-        assert!(rt; output.into_inner().is_empty(), "at {count}");
+        assert!(rt; reads_in_vain(rt.alloc(), count), "at {count}");
     }
+}
+
+/// Whether each write for the conversation of a script fails in turn.
+fn fails_to_tell(alloc: Global, script: &[u8], written: &[u8]) -> bool {
+    every_write_fails(Command::Talk, alloc, script, usize::MAX, written)
 }
 
 #[test]
 fn each_write_for_a_script_fails(rt: HostRuntime) {
-    for (script, written) in [
-        (SCRIPT, PRINTED),
-        (b"---\n", b"line 1 C3\n"),
-        (b"", b"line 1 refused\n"),
-        (b"export a size=1\n---\n0", b"hex refused\n"),
-    ] {
-        for room in 0..written.len() {
-            let mut input = Counted::new(script);
-            let mut output = Counted::new(Sink {
-                taken: Vec::new(rt.alloc()),
-                room,
-            });
-            let outcome = talk_script(rt.alloc(), &mut input, &mut output);
-            assert_eq!(rt; outcome, Outcome::WriteFailed, "at {room}");
-            assert_eq!(rt; (input.failures(), output.failures()), (0, 1), "at {room}");
-            let sink = output.into_inner();
-            let well = sink.taken.as_slice() == beginning(written, room);
-            assert!(rt; well, "at {room}");
-        }
-    }
+    let alloc = rt.alloc();
+    assert!(rt; fails_to_tell(alloc, SCRIPT, PRINTED));
+    assert!(rt; fails_to_tell(alloc, b"---\n", b"line 1 C3\n"));
+    assert!(rt; fails_to_tell(alloc, b"", b"line 1 refused\n"));
+    let odd = b"export a size=1\n---\n0".as_slice();
+    assert!(rt; fails_to_tell(alloc, odd, b"hex refused\n"));
 }
 
-/// How the script goes where the first so many growths are given and the next is refused, and what is written.
-fn printed_without_memory(
+/// How the script goes where that growth is refused. None where it goes neither as it does with
+/// memory nor writes nothing.
+fn outcome_without(
     alloc: Global,
     heap: &Refusing<Global>,
     script: &[u8],
-) -> (Outcome, Vec<u8>) {
-    let mut output = Counted::new(Vec::new(alloc));
-    let outcome = talk_script(heap, &mut Counted::new(script), &mut output);
-    (outcome, output.into_inner())
+    well: Outcome,
+    written: &[u8],
+) -> Option<Outcome> {
+    let (outcome, output) = went(Command::Talk, alloc, heap, script);
+    if outcome == well && output.as_slice() == written {
+        return Some(well);
+    }
+    let refused = outcome == Outcome::NoMemory && output.is_empty() && !heap.is_armed();
+    if refused { Some(outcome) } else { None }
+}
+
+/// The last growth without which there is not memory enough, once each was refused in turn. 0 where
+/// the script goes wrong.
+fn last_growth(alloc: Global, script: &[u8], well: Outcome, written: &[u8]) -> u64 {
+    let mut refused = 0u64;
+    for nth in 1..1000u64 {
+        let heap = Refusing::new(alloc, nth);
+        let Some(outcome) = outcome_without(alloc, &heap, script, well, written) else {
+            return 0;
+        };
+        if heap.is_armed() {
+            return refused;
+        }
+        // Collecting the fields of a line first asks for room that it can do without.
+        if outcome == Outcome::NoMemory {
+            refused = nth;
+        }
+    }
+    0
 }
 
 #[test]
 fn each_growth_for_a_script_is_refused(rt: HostRuntime) {
-    for (script, most, written) in [
-        (SCRIPT, Outcome::Done, PRINTED),
-        (
-            b"export a size=1 desc=d1\nexport a size=2\n---\n",
-            Outcome::Refused,
-            b"line 2 C4\n",
-        ),
-        (
-            b"export a size=1\n---\n0",
-            Outcome::Refused,
-            b"hex refused\n",
-        ),
-    ] {
-        let mut refused = 0u64;
-        for nth in 1..1000u64 {
-            let heap = Refusing::new(rt.alloc(), nth);
-            let (outcome, output) = printed_without_memory(rt.alloc(), &heap, script);
-            if heap.is_armed() {
-                assert_eq!(rt; outcome, most);
-                let well = output.as_slice() == written;
-                assert!(rt; well);
-                break;
-            }
-            // Collecting the fields of a line first asks for room that it can do without.
-            let spared = outcome == most && output.as_slice() == written;
-            if spared {
-                continue;
-            }
-            assert_eq!(rt; outcome, Outcome::NoMemory, "at {nth}");
-            assert!(rt; output.is_empty(), "at {nth}");
-            refused = nth;
-        }
-        assert!(rt; refused > 3 && refused < 999);
-    }
+    let alloc = rt.alloc();
+    assert!(rt; last_growth(alloc, SCRIPT, Outcome::Done, PRINTED) > 3);
+    let twice = b"export a size=1 desc=d1\nexport a size=2\n---\n".as_slice();
+    assert!(rt; last_growth(alloc, twice, Outcome::Refused, b"line 2 C4\n") > 3);
+    let odd = b"export a size=1\n---\n0".as_slice();
+    assert!(rt; last_growth(alloc, odd, Outcome::Refused, b"hex refused\n") > 3);
 }

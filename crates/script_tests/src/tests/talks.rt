@@ -1,13 +1,10 @@
-//! Whole scripts, and the whole output of each. The expected texts were worked out from the protocol's formats, apart from
+//! Whole scripts, and the whole output of each. The expected texts were worked out from the
+//! protocol's formats, apart from
 //! this program.
 
-use super::scripts::{talked, talks};
+use super::scripts::{Command, Row, first_wrong, joined, repeated, went};
 use nbd_scripts::Outcome;
 use std::alloc::Global;
-use std::test::Fail;
-
-/// What it shows, the script, and all that is written.
-type Row = (&'static str, &'static [u8], &'static [u8]);
 
 const HANDSHAKES: [Row; 8] = [
     (
@@ -188,28 +185,27 @@ const REQUESTS: [Row; 14] = [
     ),
 ];
 
+/// What the first row shows of which something else is written.
+fn first_not_held(alloc: Global, rows: &[Row]) -> Option<&'static str> {
+    first_wrong(Command::Talk, alloc, rows, Outcome::Done)
+}
+
 #[test]
 fn handshakes(rt: HostRuntime) {
-    for row in &HANDSHAKES {
-        let well = talks(rt.alloc(), row.1, row.2);
-        assert!(rt; well, "{}", row.0);
-    }
+    let wrong = first_not_held(rt.alloc(), &HANDSHAKES);
+    assert!(rt; wrong.is_none(), "{wrong:?}");
 }
 
 #[test]
 fn options(rt: HostRuntime) {
-    for row in &OPTIONS {
-        let well = talks(rt.alloc(), row.1, row.2);
-        assert!(rt; well, "{}", row.0);
-    }
+    let wrong = first_not_held(rt.alloc(), &OPTIONS);
+    assert!(rt; wrong.is_none(), "{wrong:?}");
 }
 
 #[test]
 fn requests(rt: HostRuntime) {
-    for row in &REQUESTS {
-        let well = talks(rt.alloc(), row.1, row.2);
-        assert!(rt; well, "{}", row.0);
-    }
+    let wrong = first_not_held(rt.alloc(), &REQUESTS);
+    assert!(rt; wrong.is_none(), "{wrong:?}");
 }
 
 /// The hex of the greeting, and of UNSUP for option 99.
@@ -218,39 +214,73 @@ const GREETING: &[u8] = b"4e42444d4147494349484156454f50540003";
 const UNKNOWN_OPTION: &[u8] = b"0003e889045565a9000000638000000100000000";
 
 /// 1,000 options of number 99 without data and one more, as a script.
-fn many_options(alloc: Global, last: &[u8]) -> Result<Vec<u8>, Fail> {
-    let mut script = Vec::from_slice(alloc, b"export a size=4096\n---\n00000003\n")?;
-    for _ in 0..1000u32 {
-        script.extend_from_slice(b"49484156454f5054 00000063 00000000\n")?;
+fn many_options(alloc: Global, last: &[u8]) -> Option<Vec<u8>> {
+    let many = repeated(alloc, b"49484156454f5054 00000063 00000000\n", 1000)?;
+    joined(
+        alloc,
+        &[
+            b"export a size=4096\n---\n00000003\n",
+            many.as_slice(),
+            last,
+        ],
+    )
+}
+
+/// A text in lines of 32 bytes.
+fn in_lines(alloc: Global, text: &[u8]) -> Option<Vec<u8>> {
+    let mut lines = Vec::new(alloc);
+    for row in text.chunks(32) {
+        if lines.extend_from_slice(row).is_err() || lines.push(b'\n').is_err() {
+            return None;
+        }
     }
-    script.extend_from_slice(last)?;
-    Ok(script)
+    Some(lines)
+}
+
+/// The greeting and an answer to each of 1,000 options.
+fn many_answers(alloc: Global) -> Option<Vec<u8>> {
+    let answers = repeated(alloc, UNKNOWN_OPTION, 1000)?;
+    joined(alloc, &[GREETING, answers.as_slice()])
+}
+
+/// Their lines.
+fn many_lines(alloc: Global) -> Option<Vec<u8>> {
+    let said = many_answers(alloc)?;
+    in_lines(alloc, &said)
+}
+
+/// Whether the conversation of many options ends so, behind an answer to each of the first 1,000.
+fn ends_so(alloc: Global, lines: &[u8], last: &[u8], end: &[u8]) -> bool {
+    let Some(script) = many_options(alloc, last) else {
+        return false;
+    };
+    let (outcome, output) = went(Command::Talk, alloc, alloc, script.as_slice());
+    outcome == Outcome::Done && output.strip_prefix(lines) == Some(end)
+}
+
+/// What comes last, and how the conversation ends.
+const LAST: [(&str, &str); 4] = [
+    ("49484156454f5054 00000063 00000000", "end too many\n"),
+    ("49484156454f5054 00000063 00010001", "end too many\n"),
+    ("49484156454f5055 00000063 00000000", "end bad magic\n"),
+    ("", "end over\n"),
+];
+
+/// The first of these that ends otherwise.
+fn first_otherwise(alloc: Global) -> Option<&'static str> {
+    let Some(lines) = many_lines(alloc) else {
+        return Some("memory");
+    };
+    for (last, end) in &LAST {
+        if !ends_so(alloc, lines.as_slice(), last.as_bytes(), end.as_bytes()) {
+            return Some(last);
+        }
+    }
+    None
 }
 
 #[test]
-fn too_many_options(rt: HostRuntime) -> Result<(), Fail> {
-    let mut said = Vec::from_slice(rt.alloc(), GREETING)?;
-    for _ in 0..1000u32 {
-        said.extend_from_slice(UNKNOWN_OPTION)?;
-    }
-    let mut lines = Vec::new(rt.alloc());
-    for row in said.chunks(32) {
-        lines.extend_from_slice(row)?;
-        lines.push(b'\n')?;
-    }
-    for (last, end) in [
-        (
-            b"49484156454f5054 00000063 00000000".as_slice(),
-            b"end too many\n".as_slice(),
-        ),
-        (b"49484156454f5054 00000063 00010001", b"end too many\n"),
-        (b"49484156454f5055 00000063 00000000", b"end bad magic\n"),
-        (b"", b"end over\n"),
-    ] {
-        let (went, output) = talked(rt.alloc(), &many_options(rt.alloc(), last)?);
-        assert_eq!(rt; went, Outcome::Done);
-        let well = output.strip_prefix(lines.as_slice()) == Some(end);
-        assert!(rt; well);
-    }
-    Ok(())
+fn too_many_options(rt: HostRuntime) {
+    let wrong = first_otherwise(rt.alloc());
+    assert!(rt; wrong.is_none(), "{wrong:?}");
 }

@@ -4,16 +4,9 @@
 use super::*;
 
 // Whether so many reads arrive at the first moment.
-fn are_sent<E: Eligibility<Alloc = Global>>(
-    alloc: Global,
-    server: &mut Tried<E>,
-    count: u64,
-) -> bool {
+fn are_sent<E: Eligibility<Alloc = Global>>(server: &mut Tried<E>, count: u64) -> bool {
     for _ in 0..count {
-        let Some(request) = request_of(alloc, "read", 0) else {
-            return false;
-        };
-        if server.arrive(FIRST, at(0), request).is_err() {
+        if server.arrive(FIRST, at(0), read_of(0)).is_err() {
             return false;
         }
     }
@@ -43,7 +36,6 @@ fn of_the_first<E: Eligibility<Alloc = Global>>(
 
 // What is due once the second was chosen at the moment that it is due at, and once a third waits.
 fn of_the_last<E: Eligibility<Alloc = Global>>(
-    alloc: Global,
     server: &mut Tried<E>,
 ) -> Option<(Option<u64>, Option<u64>)> {
     let Some(due) = due_of(server) else {
@@ -53,7 +45,7 @@ fn of_the_last<E: Eligibility<Alloc = Global>>(
         return None;
     }
     let last = due_of(server);
-    if !are_sent(alloc, server, 1) {
+    if !are_sent(server, 1) {
         return None;
     }
     Some((last, due_of(server)))
@@ -61,22 +53,19 @@ fn of_the_last<E: Eligibility<Alloc = Global>>(
 
 // What is due next: before anything waits, once two wait, once the first is in service, once there is no room for the
 // second, once there is again, and once it was chosen.
-fn dues<E: Eligibility<Alloc = Global>>(
-    alloc: Global,
-    server: &mut Tried<E>,
-) -> Option<[Option<u64>; 6]> {
+fn dues<E: Eligibility<Alloc = Global>>(server: &mut Tried<E>) -> Option<[Option<u64>; 6]> {
     if server.attach(0) != Ok(FIRST) {
         return None;
     }
     let idle = due_of(server);
-    if !are_sent(alloc, server, 2) {
+    if !are_sent(server, 2) {
         return None;
     }
     let first = due_of(server);
     let Some((in_service, done)) = of_the_first(server) else {
         return None;
     };
-    let Some((last, third)) = of_the_last(alloc, server) else {
+    let Some((last, third)) = of_the_last(server) else {
         return None;
     };
     Some([idle, first, in_service, done, last, third])
@@ -91,7 +80,7 @@ fn tells<E: Eligibility<Alloc = Global>>(
     let Some(mut server) = server_of::<E>(alloc, &[rates], inflight) else {
         return false;
     };
-    dues(alloc, &mut server) == Some(told)
+    dues(&mut server) == Some(told)
 }
 
 fn both_tell(alloc: Global, rates: [u64; 5], inflight: u64, told: [Option<u64>; 6]) -> bool {

@@ -3,7 +3,7 @@
 use super::*;
 use export_cell::Outdated;
 
-type Kept<'a> = Server<Paged<Memory<'a>>, Heaped<Memory<'a>>>;
+pub type Kept<'a> = Server<Paged<Memory<'a>>, Heaped<Memory<'a>>>;
 
 // Two exports; two requests of a session may be under way.
 fn configured<'a>(memory: Memory<'a>) -> Option<Config<Memory<'a>>> {
@@ -19,26 +19,15 @@ fn configured<'a>(memory: Memory<'a>) -> Option<Config<Memory<'a>>> {
     Config::new(list, 4).ok()
 }
 
-fn made<'a>(memory: Memory<'a>) -> Option<Kept<'a>> {
+pub fn made<'a>(memory: Memory<'a>) -> Option<Kept<'a>> {
     let Some(config) = configured(memory) else {
         return None;
     };
     Server::new(memory, &config).ok()
 }
 
-fn read_in<'a>() -> Request<Memory<'a>> {
-    let head = RequestHead {
-        flags: 0,
-        kind: READ,
-        cookie: 7,
-        offset: 0,
-        length: 4,
-    };
-    Request::new(head, Payload::new())
-}
-
 // How many steps an export counted, how many its log has, and how many its base has made.
-fn counts(server: &Kept, export: u32) -> Option<(u64, u64, u64)> {
+pub fn counts(server: &Kept, export: u32) -> Option<(u64, u64, u64)> {
     let Some(cell) = server.journal(export) else {
         return None;
     };
@@ -51,7 +40,7 @@ fn counts(server: &Kept, export: u32) -> Option<(u64, u64, u64)> {
 }
 
 // Whether the export has counted as many steps as before, and has them in its base and its log.
-fn is_as_it_was(server: &Kept, before: (u64, u64, u64)) -> bool {
+pub fn is_as_it_was(server: &Kept, before: (u64, u64, u64)) -> bool {
     let Some((steps, kept, base)) = counts(server, 0) else {
         return false;
     };
@@ -59,7 +48,7 @@ fn is_as_it_was(server: &Kept, before: (u64, u64, u64)) -> bool {
 }
 
 // Whether the base went no further than this.
-fn is_within(server: &Kept, base: u64) -> bool {
+pub fn is_within(server: &Kept, base: u64) -> bool {
     match counts(server, 0) {
         Some(now) => base <= now.2,
         None => false,
@@ -77,7 +66,7 @@ fn attaches_again(server: &mut Kept, before: (u64, u64, u64), number: u64) -> bo
 }
 
 // Whether a session of export 0 is opened under this number, at the second time where the first found no memory.
-fn attaches(server: &mut Kept, number: u64) -> bool {
+pub fn attaches(server: &mut Kept, number: u64) -> bool {
     let Some(before) = counts(server, 0) else {
         return false;
     };
@@ -105,11 +94,11 @@ fn arrives_again<'a>(
 }
 
 // Whether a READ of session 0 of export 0 waits, at the second time where the first found no memory.
-fn arrives(server: &mut Kept) -> bool {
+pub fn arrives(server: &mut Kept) -> bool {
     let Some(before) = counts(server, 0) else {
         return false;
     };
-    match server.arrive(FIRST, at(0), read_in()) {
+    match server.arrive(FIRST, at(0), read_of(7)) {
         Ok(_) => true,
         Err(NotArrived { refusal, request }) => {
             refusal == ArriveRefusal::NoMemory && arrives_again(server, before, request)
@@ -129,7 +118,7 @@ fn serves_one(server: &mut Kept) -> bool {
 }
 
 // Whether this session is opened, and so many READs of session 0 are served.
-fn is_served(server: &mut Kept, session: u64, rounds: u64) -> bool {
+pub fn is_served(server: &mut Kept, session: u64, rounds: u64) -> bool {
     if !attaches(server, session) {
         return false;
     }

@@ -5,17 +5,11 @@ use super::*;
 type One = Tried<Heaped<Global>>;
 
 // Whether a request arrives, and a second one is held and comes back.
-fn holds_the_second(alloc: Global, server: &mut One) -> bool {
-    let Some(first) = request_of(alloc, "read", 1) else {
-        return false;
-    };
-    if server.arrive(FIRST, at(0), first).is_err() {
+fn holds_the_second(server: &mut One) -> bool {
+    if server.arrive(FIRST, at(0), read_of(1)).is_err() {
         return false;
     }
-    let Some(second) = request_of(alloc, "read", 2) else {
-        return false;
-    };
-    match server.arrive(FIRST, at(0), second) {
+    match server.arrive(FIRST, at(0), read_of(2)) {
         Ok(_) => false,
         Err(back) => back.refusal == ArriveRefusal::Hold && back.request.head().cookie == 2,
     }
@@ -57,12 +51,11 @@ fn fills(server: &mut One) -> bool {
 
 #[test]
 fn tickets_are_good_once(rt: HostRuntime) {
-    let alloc = rt.alloc();
-    let mut server = server_of::<Heaped<Global>>(alloc, &[[0, 0, 1, 8, 1]], 1).expect(
+    let mut server = server_of::<Heaped<Global>>(rt.alloc(), &[[0, 0, 1, 8, 1]], 1).expect(
         &rt, "a server",
     );
     assert!(rt; server.attach(0) == Ok(FIRST));
-    assert!(rt; holds_the_second(alloc, &mut server));
+    assert!(rt; holds_the_second(&mut server));
     assert!(rt; server.waiting() == 1);
     assert!(rt; is_good_once(&mut server));
     assert!(rt; fills(&mut server));

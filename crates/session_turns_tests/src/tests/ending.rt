@@ -3,6 +3,36 @@ ghost use Rattle.std.specs.Prelude.{◌≡◌};
 
 use super::*;
 
+/// A READ's reply with four bytes of zeros.
+const ZEROS_READ: &[u8; 20] =
+    b"\x67\x44\x66\x98\x00\x00\x00\x00\x00\x00\x00\x00\x00\x00\x00\x02\x00\x00\x00\x00";
+
+/// A WRITE of one byte more than is allowed.
+const TOO_LONG: &[u8; 28] =
+    b"\x25\x60\x95\x13\x00\x00\x00\x01\x00\x00\x00\x00\x00\x00\x00\x01\x00\x00\x00\x00\x00\x00\x00\x00\x02\x00\x00\x01";
+
+const DISC: &[u8; 28] =
+    b"\x25\x60\x95\x13\x00\x00\x00\x02\x00\x00\x00\x00\x00\x00\x00\x03\x00\x00\x00\x00\x00\x00\x00\x00\x00\x00\x00\x00";
+
+/// Gives bytes, and then ends or fails.
+#[derive(Drop)]
+struct Source<'a> {
+    bytes: &'a [u8],
+    fails: bool,
+}
+
+impl Read for Source<'_> {
+    fn read(&mut self, buf: &mut [u8]) -> io::Result<usize> {
+        if self.fails && self.bytes.is_empty() {
+            return Err(io::Error::from(io::ErrorKind::TimedOut));
+        }
+        let count = buf.len().min(self.bytes.len());
+        buf[..count].copy_from_slice(&self.bytes[..count]);
+        self.bytes = &self.bytes[count..];
+        Ok(count)
+    }
+}
+
 /// Takes so many bytes, and then fails.
 #[derive(Drop)]
 struct Sink<'a> {
@@ -26,42 +56,55 @@ impl Write for Sink<'_> {
     }
 }
 
-/// How a session goes whose client sent these bytes: a turn of its reader, and another, and a turn of its writer.
-fn sent<'a, L: Ledger, R: Wait>(
+/// Whether the session leaves at its reader's first turn, and its writer drops it. Where the growth that is refused isn't
+/// come to, the WRITE is taken in.
+fn is_left<'a, L: Ledger, R: Wait>(
+    rt: &R,
+    heap: Heap<'a>,
+    one: &mut Seated<'a, L>,
+    reader: &mut FrameReader<Source<'_>, Heap<'a>>,
+    writer: &mut Text<'a>,
+) -> bool {
+    let turn = one.read(rt, reader);
+    if heap.is_armed() {
+        return turn == waits(1, 0);
+    }
+    turn == (Came::Ended, traced(LEAVE, AnswerTrace::Left))
+        && one.ends(rt, reader, AnswerTrace::NotOpen)
+        && one.writes(rt, writer, WriteTurn::Ended, GONE, AnswerTrace::Dropped)
+}
+
+/// The turns of a session whose client sent these bytes, and whose growth of this number is refused, or none at 0.
+fn goes<'a, L: Ledger, R: Wait>(
     rt: &R,
     heap: Heap<'a>,
     one: &mut Seated<'a, L>,
     source: Source<'_>,
-    mut writer: Text<'a>,
-) -> (Seen, Seen, Put) {
+    nth: u64,
+) -> bool {
+    let Some(mut writer) = text_of(heap) else {
+        return false;
+    };
     let mut reader = FrameReader::new(heap, Counted::new(source));
-    let turn = one.read(rt, &mut reader);
-    let again = one.read(rt, &mut reader);
-    let end = one.write(rt, &mut writer);
-    (turn, again, end)
+    heap.arm(nth);
+    is_left(rt, heap, one, &mut reader, &mut writer)
 }
 
-/// Whether the session left at the first turn, and its writer dropped it.
-fn is_left(seen: (Seen, Seen, Put)) -> bool {
-    let (turn, again, end) = seen;
-    turn == (Came::Ended, leave(AnswerTrace::Left))
-        && again == (Came::Ended, leave(AnswerTrace::NotOpen))
-        && end == (WriteTurn::Ended, gone(AnswerTrace::Dropped))
-}
-
-/// Whether a session leaves at once whose client sent these bytes.
-fn leaves<'a, L: Ledger, R: Wait>(rt: &R, heap: Heap<'a>, blank: Blank, source: Source<'_>) -> bool
+fn leaves<'a, L: Ledger, R: Wait>(
+    rt: &R,
+    heap: Heap<'a>,
+    blank: Blank,
+    source: Source<'_>,
+    nth: u64,
+) -> bool
     requires name { blank.name ≡ L.name }
     requires parts { blank.parts ≡ L.parts }
     requires one { blank.parts ≡ 1 }
 {
-    let Some(mut one) = opened::<L, R>(rt, heap, blank) else {
-        return false;
-    };
-    let Some(writer) = text_of(heap) else {
-        return false;
-    };
-    is_left(sent(rt, heap, &mut one, source, writer))
+    match opened::<L, R>(rt, heap, blank) {
+        Some(mut one) => goes(rt, heap, &mut one, source, nth),
+        None => false,
+    }
 }
 
 #[test]
@@ -79,34 +122,9 @@ fn what_is_no_request_leaves(rt: HostRuntime) {
     ] {
         let source = Source { bytes, fails };
         assert!(rt;
-            leaves::<Brand, _>(&rt, &heap, Blank::new(1), source),
+            leaves::<Brand, _>(&rt, &heap, Blank::new(1), source, 0),
             "{what}"
         );
-    }
-}
-
-/// Whether a session leaves whose growth of this number is refused, and else takes the WRITE in.
-fn leaves_without<'a, L: Ledger, R: Wait>(rt: &R, heap: Heap<'a>, blank: Blank, nth: u64) -> bool
-    requires name { blank.name ≡ L.name }
-    requires parts { blank.parts ≡ L.parts }
-    requires one { blank.parts ≡ 1 }
-{
-    let Some(mut one) = opened::<L, R>(rt, heap, blank) else {
-        return false;
-    };
-    let source = Source {
-        bytes: WRITE.as_slice(),
-        fails: false,
-    };
-    let Some(writer) = text_of(heap) else {
-        return false;
-    };
-    heap.arm(nth);
-    let seen = sent(rt, heap, &mut one, source, writer);
-    if heap.is_armed() {
-        seen.0 == waits(head_of(1), 0)
-    } else {
-        is_left(seen)
     }
 }
 
@@ -115,8 +133,12 @@ fn refused_memory_leaves(rt: HostRuntime) {
     let mut refused = 0u64;
     for nth in 1..100u64 {
         let heap = Refusing::new(rt.alloc(), 0);
+        let source = Source {
+            bytes: WRITE.as_slice(),
+            fails: false,
+        };
         assert!(rt;
-            leaves_without::<Brand, _>(&rt, &heap, Blank::new(1), nth),
+            leaves::<Brand, _>(&rt, &heap, Blank::new(1), source, nth),
             "at {nth}"
         );
         if heap.is_armed() {
@@ -127,15 +149,6 @@ fn refused_memory_leaves(rt: HostRuntime) {
     assert!(rt; refused > 0);
 }
 
-/// The client's READ is taken in and served.
-fn is_served<'a, L: Ledger, R: Wait>(
-    rt: &R,
-    one: &mut Seated<'a, L>,
-    reader: &mut FrameReader<&[u8], Heap<'a>>,
-) -> bool {
-    one.read(rt, reader) == waits(head_of(0), 0) && one.serve(rt)
-}
-
 /// The writer fails, and the session is dropped for both sides.
 fn is_dropped<'a, L: Ledger, R: Wait>(
     rt: &R,
@@ -143,9 +156,22 @@ fn is_dropped<'a, L: Ledger, R: Wait>(
     reader: &mut FrameReader<&[u8], Heap<'a>>,
     writer: &mut ReplyWriter<Sink<'a>, Heap<'a>>,
 ) -> bool {
-    one.write(rt, writer) == (WriteTurn::Ended, gone(AnswerTrace::Dropped))
-        && one.write(rt, writer) == (WriteTurn::Ended, gone(AnswerTrace::NotOpen))
-        && one.read(rt, reader) == (Came::Ended, leave(AnswerTrace::NotOpen))
+    one.writes(rt, writer, WriteTurn::Ended, GONE, AnswerTrace::Dropped)
+        && one.writes(rt, writer, WriteTurn::Ended, GONE, AnswerTrace::NotOpen)
+        && one.ends(rt, reader, AnswerTrace::NotOpen)
+}
+
+/// The client's READ is taken in and served, and its reply's write fails.
+fn is_served<'a, L: Ledger, R: Wait>(
+    rt: &R,
+    heap: Heap<'a>,
+    one: &mut Seated<'a, L>,
+    writer: &mut ReplyWriter<Sink<'a>, Heap<'a>>,
+) -> bool {
+    let mut reader = FrameReader::new(heap, Counted::new(READ.as_slice()));
+    one.reads(rt, &mut reader, waits(0, 0))
+        && one.serve(rt)
+        && is_dropped(rt, one, &mut reader, writer)
 }
 
 /// One write failed, and the writer has so many bytes of the READ's reply.
@@ -156,23 +182,30 @@ fn has_written<'a>(replies: ReplyWriter<Sink<'a>, Heap<'a>>, room: usize) -> boo
     failures == 1 && Some(taken.as_slice()) == ZEROS_READ.as_slice().get(..room)
 }
 
-/// The READ is served, and its reply's write fails behind so many bytes.
+/// The write fails behind so many bytes.
+fn fails<'a, L: Ledger, R: Wait>(
+    rt: &R,
+    heap: Heap<'a>,
+    one: &mut Seated<'a, L>,
+    room: usize,
+) -> bool {
+    let taken = Vec::new(heap);
+    let Ok(mut writer) = ReplyWriter::new(heap, Sink { taken, room }, 1) else {
+        return false;
+    };
+    let served = is_served(rt, heap, one, &mut writer);
+    served & has_written(writer, room)
+}
+
 fn fails_at<'a, L: Ledger, R: Wait>(rt: &R, heap: Heap<'a>, blank: Blank, room: usize) -> bool
     requires name { blank.name ≡ L.name }
     requires parts { blank.parts ≡ L.parts }
     requires one { blank.parts ≡ 1 }
 {
-    let Some(mut one) = opened::<L, R>(rt, heap, blank) else {
-        return false;
-    };
-    let mut reader = FrameReader::new(heap, Counted::new(READ.as_slice()));
-    let taken = Vec::new(heap);
-    let Ok(mut writer) = ReplyWriter::new(heap, Sink { taken, room }, 1) else {
-        return false;
-    };
-    is_served(rt, &mut one, &mut reader)
-        && is_dropped(rt, &mut one, &mut reader, &mut writer)
-        && has_written(writer, room)
+    match opened::<L, R>(rt, heap, blank) {
+        Some(mut one) => fails(rt, heap, &mut one, room),
+        None => false,
+    }
 }
 
 #[test]

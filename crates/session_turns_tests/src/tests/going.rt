@@ -5,74 +5,81 @@ use super::*;
 
 type Wire<'a, 'b> = FrameReader<&'b [u8], Heap<'a>>;
 
-/// The WRITE and the READ in one piece.
-fn both(heap: Heap<'_>) -> Option<Vec<u8, Heap<'_>>> {
-    let mut sent = Vec::new(heap);
-    let whole = sent.extend_from_slice(WRITE.as_slice()).is_ok()
-        && sent.extend_from_slice(READ.as_slice()).is_ok();
-    if whole { Some(sent) } else { None }
+/// The READ is handed back, with the cookie 2.
+fn held() -> Seen {
+    (Came::Held(2), arrival(head_of(0), AnswerTrace::Hold))
 }
 
-/// The WRITE is taken in, and the READ handed back.
+/// The WRITE is taken in, and the READ handed back. No reply is there before the WRITE is served.
 fn one_goes_in<'a, L: Ledger, R: Wait>(
     rt: &R,
     one: &mut Seated<'a, L>,
     reader: &mut Wire<'a, '_>,
-) -> bool {
-    one.read(rt, reader) == waits(head_of(1), 0)
-        && one.read(rt, reader) == (Came::Held(2), arrival(head_of(0), AnswerTrace::Hold))
-}
-
-/// No reply is there before the WRITE is served, and the READ isn't taken in before its reply is taken.
-fn none_goes_in<'a, L: Ledger, R: Wait>(
-    rt: &R,
-    one: &mut Seated<'a, L>,
     writer: &mut Text<'a>,
 ) -> bool {
-    one.write(rt, writer) == (WriteTurn::Idle, take(AnswerTrace::Empty))
-        && one.serve(rt)
-        && one.offer(rt) == Some((Came::Held(2), arrival(head_of(0), AnswerTrace::Hold)))
+    one.reads(rt, reader, waits(1, 0))
+        && one.reads(rt, reader, held())
+        && one.writes(rt, writer, WriteTurn::Idle, TAKE, AnswerTrace::Empty)
 }
 
-/// The WRITE's reply is written, and then the READ is taken in.
+/// The READ isn't taken in before the WRITE's reply is written.
 fn the_other_goes_in<'a, L: Ledger, R: Wait>(
     rt: &R,
     one: &mut Seated<'a, L>,
     writer: &mut Text<'a>,
 ) -> bool {
-    one.write(rt, writer) == (WriteTurn::Written, take(reply(1)))
-        && one.offer(rt) == Some(waits(head_of(0), 1))
+    one.serve(rt)
+        && one.offers(rt, held())
+        && one.writes(rt, writer, WriteTurn::Written, TAKE, reply(1))
+        && one.offers(rt, waits(0, 1))
 }
 
-/// The READ is served, and its reply is written.
+/// The READ is served, and its reply is written. Then the input is over.
 fn it_is_answered<'a, L: Ledger, R: Wait>(
     rt: &R,
     one: &mut Seated<'a, L>,
+    reader: &mut Wire<'a, '_>,
     writer: &mut Text<'a>,
 ) -> bool {
-    one.serve(rt) && one.write(rt, writer) == (WriteTurn::Written, take(reply(2)))
+    one.serve(rt)
+        && one.writes(rt, writer, WriteTurn::Written, TAKE, reply(2))
+        && one.ends(rt, reader, AnswerTrace::Left)
 }
 
-/// The input is over, and the session ends for both sides.
+/// The session ends for both sides, and further turns find none.
 fn it_ends<'a, L: Ledger, R: Wait>(
     rt: &R,
     one: &mut Seated<'a, L>,
     reader: &mut Wire<'a, '_>,
     writer: &mut Text<'a>,
 ) -> bool {
-    one.read(rt, reader) == (Came::Ended, leave(AnswerTrace::Left))
-        && one.write(rt, writer) == (WriteTurn::Ended, gone(AnswerTrace::Dropped))
+    one.writes(rt, writer, WriteTurn::Ended, GONE, AnswerTrace::Dropped)
+        && one.writes(rt, writer, WriteTurn::Ended, TAKE, AnswerTrace::NotOpen)
+        && one.ends(rt, reader, AnswerTrace::NotOpen)
 }
 
-/// Further turns find no session.
-fn it_stays_ended<'a, L: Ledger, R: Wait>(
+/// All that the client is told.
+fn all_goes<'a, L: Ledger, R: Wait>(
     rt: &R,
+    heap: Heap<'a>,
     one: &mut Seated<'a, L>,
-    reader: &mut Wire<'a, '_>,
     writer: &mut Text<'a>,
 ) -> bool {
-    one.write(rt, writer) == (WriteTurn::Ended, take(AnswerTrace::NotOpen))
-        && one.read(rt, reader) == (Came::Ended, leave(AnswerTrace::NotOpen))
+    let mut reader = FrameReader::new(heap, Counted::new(BOTH.as_slice()));
+    one_goes_in(rt, one, &mut reader, writer)
+        && the_other_goes_in(rt, one, writer)
+        && it_is_answered(rt, one, &mut reader, writer)
+        && it_ends(rt, one, &mut reader, writer)
+}
+
+/// Both replies were written.
+fn is_written<'a, L: Ledger, R: Wait>(rt: &R, heap: Heap<'a>, one: &mut Seated<'a, L>) -> bool {
+    let Some(mut writer) = text_of(heap) else {
+        return false;
+    };
+    let went = all_goes(rt, heap, one, &mut writer);
+    let written = writer.into_writer().into_inner();
+    went & (written.as_slice() == REPLIES.as_slice())
 }
 
 /// How many steps were counted.
@@ -88,36 +95,23 @@ fn steps_of<'a, L: Ledger>(heap: Heap<'a>, shared: Tried<'a, L>, pass: Pass<L>) 
     Some(settle(booked, passes))
 }
 
+/// The pass made 17 turns, and 11 of them were steps.
+fn are_counted<'a, L: Ledger, R: Wait>(rt: &R, heap: Heap<'a>, mut one: Seated<'a, L>) -> bool {
+    let written = is_written(rt, heap, &mut one);
+    let Seated { shared, pass, .. } = one;
+    written & (pass.turns() == 17) & (steps_of(heap, shared, pass) == Some(11))
+}
+
 /// A request is held until the reply to the one before it is taken, and both go on to the end.
 fn is_held<'a, L: Ledger, R: Wait>(rt: &R, heap: Heap<'a>, blank: Blank) -> bool
     requires name { blank.name ≡ L.name }
     requires parts { blank.parts ≡ L.parts }
     requires one { blank.parts ≡ 1 }
 {
-    let Some(sent) = both(heap) else {
-        return false;
-    };
-    let Some(mut one) = opened::<L, R>(rt, heap, blank) else {
-        return false;
-    };
-    let mut reader = FrameReader::new(heap, Counted::new(sent.as_slice()));
-    let Some(mut writer) = text_of(heap) else {
-        return false;
-    };
-    let went = one_goes_in(rt, &mut one, &mut reader)
-        && none_goes_in(rt, &mut one, &mut writer)
-        && the_other_goes_in(rt, &mut one, &mut writer)
-        && it_is_answered(rt, &mut one, &mut writer)
-        && it_ends(rt, &mut one, &mut reader, &mut writer)
-        && it_stays_ended(rt, &mut one, &mut reader, &mut writer);
-    went && writer.into_writer().into_inner().as_slice() == REPLIES.as_slice()
-        && are_counted(heap, one)
-}
-
-/// The pass made 17 turns, and 11 of them were steps.
-fn are_counted<'a, L: Ledger>(heap: Heap<'a>, one: Seated<'a, L>) -> bool {
-    let Seated { shared, pass, .. } = one;
-    pass.turns() == 17 && steps_of(heap, shared, pass) == Some(11)
+    match opened::<L, R>(rt, heap, blank) {
+        Some(one) => are_counted(rt, heap, one),
+        None => false,
+    }
 }
 
 #[test]
@@ -131,19 +125,17 @@ const BEHIND: &[u8; 28] =
     b"\x25\x60\x95\x13\x00\x00\x00\x00\x00\x00\x00\x00\x00\x00\x00\x02\x00\x00\x00\x00\x00\x00\x10\x00\x00\x00\x00\x04";
 
 /// It is handed in, and answered with EINVAL.
-fn is_answered<'a, L: Ledger, R: Wait>(
-    rt: &R,
-    one: &mut Seated<'a, L>,
-    reader: &mut Wire<'a, '_>,
-) -> bool {
+fn is_answered<'a, L: Ledger, R: Wait>(rt: &R, heap: Heap<'a>, one: &mut Seated<'a, L>) -> bool {
+    let mut reader = FrameReader::new(heap, Counted::new(BEHIND.as_slice()));
     let mut head = head_of(0);
     head.offset = 4096;
     let answer = Arrived::Answered(22);
-    one.read(rt, reader)
-        == (
-            Came::Going(Arrival { head, answer }),
-            arrival(head, AnswerTrace::Answered(22)),
-        )
+    let told = arrival(head, AnswerTrace::Answered(22));
+    one.reads(
+        rt,
+        &mut reader,
+        (Came::Going(Arrival { head, answer }), told),
+    )
 }
 
 fn error_is_told<'a, L: Ledger, R: Wait>(rt: &R, heap: Heap<'a>, blank: Blank) -> bool
@@ -151,11 +143,10 @@ fn error_is_told<'a, L: Ledger, R: Wait>(rt: &R, heap: Heap<'a>, blank: Blank) -
     requires parts { blank.parts ≡ L.parts }
     requires one { blank.parts ≡ 1 }
 {
-    let Some(mut one) = opened::<L, R>(rt, heap, blank) else {
-        return false;
-    };
-    let mut reader = FrameReader::new(heap, Counted::new(BEHIND.as_slice()));
-    is_answered(rt, &mut one, &mut reader)
+    match opened::<L, R>(rt, heap, blank) {
+        Some(mut one) => is_answered(rt, heap, &mut one),
+        None => false,
+    }
 }
 
 #[test]

@@ -1,53 +1,43 @@
 //! Replies that are taken and written: in the order in which they were taken, but for one that was made ready.
 ghost use Rattle.std.specs.Prelude.{◌≡◌};
 
-use super::held::{Unshared, served};
+use super::held::{Unshared, writes};
 use super::*;
 
-/// One reply is taken, and then what there is besides.
-fn are_taken<'a, L: Ledger>(one: &mut Unshared<'a, L>, replies: &mut Text<'a>) -> bool {
-    let first = replies.take_one(&mut one.disks, &mut one.pass, one.session);
-    let one_waits = replies.unwritten() == 1 && replies.data() == 0 && replies.bytes() == 16;
-    let all = replies.take(&mut one.disks, &mut one.pass, one.session);
-    let both_wait = replies.unwritten() == 2 && replies.data() == 4 && replies.bytes() == 36;
-    first == Stop::Full && one_waits && all == Stop::Empty && both_wait
+/// The replies to the READ and then the WRITE.
+const TURNED_ROUND: &[u8; 36] =
+    b"\x67\x44\x66\x98\x00\x00\x00\x00\x00\x00\x00\x00\x00\x00\x00\x02\xde\xad\xbe\xef\x67\x44\x66\x98\x00\x00\x00\x00\x00\x00\x00\x00\x00\x00\x00\x01";
+
+/// Whether so many replies wait, with so many bytes of data, and so many with their heads.
+fn has(replies: &Text<'_>, unwritten: usize, data: usize, bytes: usize) -> bool {
+    replies.unwritten() == unwritten && replies.data() == data && replies.bytes() == bytes
 }
 
-/// Both are written and sent, and none waits.
+/// One reply is taken, and then what there is besides. Both are written.
+fn in_order<'a, L: Ledger>(one: &mut Unshared<'a, L>, replies: &mut Text<'a>) -> bool {
+    let first = replies.take_one(&mut one.disks, &mut one.pass, one.session) == Stop::Full;
+    let waits = has(replies, 1, 0, 16);
+    let all = replies.take(&mut one.disks, &mut one.pass, one.session) == Stop::Empty;
+    first & waits & all & has(replies, 2, 4, 36)
+}
+
+/// What waits is written and sent, and none waits.
 fn go_out(replies: &mut Text<'_>) -> bool {
     replies.write().is_ok() && replies.unwritten() == 0 && replies.send().is_ok()
 }
 
-/// What is taken is written, in this order.
-fn in_order<'a, L: Ledger>(heap: Heap<'a>, blank: Blank) -> bool
-    requires name { blank.name ≡ L.name }
-    requires parts { blank.parts ≡ L.parts }
-    requires one { blank.parts ≡ 1 }
-{
-    let Some(mut one) = served::<L>(heap, blank) else {
-        return false;
-    };
-    let Ok(mut replies) = ReplyWriter::new(heap, Vec::new(heap), 3) else {
-        return false;
-    };
-    are_taken(&mut one, &mut replies)
-        && go_out(&mut replies)
-        && replies.into_writer().into_inner().as_slice() == REPLIES.as_slice()
-}
-
 /// The READ's reply is made ready, in memory that has other bytes.
-fn is_made_ready<'a, L: Ledger>(
+fn made_ready<'a, L: Ledger>(
     heap: Heap<'a>,
     one: &mut Unshared<'a, L>,
 ) -> Option<ReadyReply<Heap<'a>>> {
-    let Ok(reply) = take_reply(&mut one.disks, &mut one.pass, one.session) else {
+    let Ok(memory) = Vec::from_array(heap, *b"old") else {
         return None;
     };
-    let mut memory = Vec::new(heap);
-    if memory.extend_from_slice(b"old").is_err() {
-        return None;
+    match take_reply(&mut one.disks, &mut one.pass, one.session) {
+        Ok(reply) => Some(ReadyReply::of(reply, memory, 4)),
+        Err(_) => None,
     }
-    Some(ReadyReply::of(reply, memory, 4))
 }
 
 /// It goes before the WRITE's, which was taken first and waits.
@@ -56,36 +46,41 @@ fn goes_first<'a, L: Ledger>(
     one: &mut Unshared<'a, L>,
     replies: &mut Text<'a>,
 ) -> bool {
-    let waits = replies.take_one(&mut one.disks, &mut one.pass, one.session) == Stop::Full;
-    let Some(ready) = is_made_ready(heap, one) else {
+    if replies.take_one(&mut one.disks, &mut one.pass, one.session) != Stop::Full {
         return false;
-    };
-    waits && ready.data() == 4 && replies.write_ready(&ready).is_ok() && go_out(replies)
+    }
+    match made_ready(heap, one) {
+        Some(ready) => ready.data() == 4 && replies.write_ready(&ready).is_ok(),
+        None => false,
+    }
 }
 
-/// The text of the READ's reply, and then of the WRITE's.
-fn is_turned_round(text: &[u8]) -> bool {
-    text.get(..20) == REPLIES.as_slice().get(16..) && text.get(20..) == REPLIES.as_slice().get(..16)
-}
-
-fn ready_first<'a, L: Ledger>(heap: Heap<'a>, blank: Blank) -> bool
-    requires name { blank.name ≡ L.name }
-    requires parts { blank.parts ≡ L.parts }
-    requires one { blank.parts ≡ 1 }
-{
-    let Some(mut one) = served::<L>(heap, blank) else {
+/// Both requests are served, and their replies written by one of the two ways: this text.
+pub fn is_written<'a, L: Ledger>(
+    heap: Heap<'a>,
+    one: &mut Unshared<'a, L>,
+    is_ready: bool,
+    text: &[u8],
+) -> bool {
+    if !one.serve() || !one.serve() {
         return false;
-    };
+    }
     let Ok(mut replies) = ReplyWriter::new(heap, Vec::new(heap), 3) else {
         return false;
     };
-    goes_first(heap, &mut one, &mut replies)
-        && is_turned_round(replies.into_writer().into_inner().as_slice())
+    let begun = if is_ready {
+        goes_first(heap, one, &mut replies)
+    } else {
+        in_order(one, &mut replies)
+    };
+    let out = go_out(&mut replies);
+    let written = replies.into_writer().into_inner();
+    begun & out & (written.as_slice() == text)
 }
 
 #[test]
 fn replies_are_written_in_order(rt: HostRuntime) {
     let heap = Refusing::new(rt.alloc(), 0);
-    assert!(rt; in_order::<Brand>(&heap, Blank::new(1)));
-    assert!(rt; ready_first::<Brand>(&heap, Blank::new(1)));
+    assert!(rt; writes::<Brand>(&heap, Blank::new(1), false, REPLIES.as_slice()));
+    assert!(rt; writes::<Brand>(&heap, Blank::new(1), true, TURNED_ROUND.as_slice()));
 }

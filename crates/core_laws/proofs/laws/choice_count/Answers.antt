@@ -1,4 +1,4 @@
-use Rattle.core_laws.proofs.Counts.{nothing_before, bounded_by_limit, bounded_by_reservation}
+use Rattle.core_laws.proofs.Bounded.{nothing_before, bounded_by_limit, bounded_by_reservation}
 use Rattle.core_laws.proofs.laws.choice_count.Goals as goal
 
 pub returns-clause-none : goal.returns-clause-none

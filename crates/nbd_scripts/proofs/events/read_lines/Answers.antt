@@ -12,7 +12,7 @@ returns-in-Err g c =
     let line = c.first_line.result.0.now in
     let after = c.first_line.result.1.now in
     let cuts : Cuts c.loop-rest.rest.now line after = record { some = search rules; is_line = c.first_line.ensures.line; is_after = c.first_line.ensures.behind } in
-    line_missed g.row.A.Denot c.args.body.above c.args.body.text.now c.loop-rest.lines.items c.in-Err.fault c.loop-rest.above c.loop-rest.rest.now line after c.loop-rest.invariant.goes cuts c.in-Err.ensures.missed
+    line_missed g.row.A.Denot c.args.body.above c.args.body.text.now c.loop-rest.lines.items c.in-Err.fault c.loop-rest.above c.loop-rest.rest.now line after c.loop-rest.invariant.goes cuts c.in-Err.ensures.refused
 
 pub loop-rest-preserved : goal.loop-rest-preserved
 loop-rest-preserved g c =

@@ -1,14 +1,12 @@
 //! The control socket of a server that runs.
 
 use super::*;
-use std::fs::Files;
-use std::net::Net;
 
 /// How many clients of the control socket are served at a time.
 const CLIENTS: usize = 8;
 
 /// Until it is asked for the end.
-const LONG_CREW: Crew = Crew {
+pub const LONG_CREW: Crew = Crew {
     workers: 2,
     sessions: Sessions::Forever,
 };
@@ -36,8 +34,9 @@ const SESSION: [&[u8]; 2] = [
     b" requests_total=2 outstanding=0 under_way_bytes=0\n\n",
 ];
 
-/// Sends a line, and reads the answer up to the empty line that ends it, or to the end of the socket.
-fn ask_line(alloc: Global, stream: &mut UnixStream, line: &[u8]) -> io::Result<Vec<u8>> {
+/// Sends a line, and reads the answer up to the empty line that ends it, or to the end of the
+/// socket.
+pub fn ask_line(alloc: Global, stream: &mut UnixStream, line: &[u8]) -> io::Result<Vec<u8>> {
     let mut answer = Vec::new(alloc);
     stream.write_all(line)?;
     let mut byte = [0u8; 1];
@@ -54,7 +53,7 @@ fn ask_line(alloc: Global, stream: &mut UnixStream, line: &[u8]) -> io::Result<V
 }
 
 /// Whether a line is answered so.
-fn is_answered(alloc: Global, stream: &mut UnixStream, line: &[u8], text: &[u8]) -> bool {
+pub fn is_answered(alloc: Global, stream: &mut UnixStream, line: &[u8], text: &[u8]) -> bool {
     match ask_line(alloc, stream, line) {
         Ok(answer) => answer.as_slice() == text,
         Err(_) => false,
@@ -62,7 +61,7 @@ fn is_answered(alloc: Global, stream: &mut UnixStream, line: &[u8], text: &[u8])
 }
 
 /// Whether the answer to a line has each of these parts.
-fn tells(alloc: Global, stream: &mut UnixStream, line: &[u8], parts: &[&[u8]]) -> bool {
+pub fn tells(alloc: Global, stream: &mut UnixStream, line: &[u8], parts: &[&[u8]]) -> bool {
     let Ok(answer) = ask_line(alloc, stream, line) else {
         return false;
     };
@@ -83,7 +82,7 @@ fn has(text: &[u8], part: &[u8]) -> bool {
 }
 
 /// Opens a session of `a`, writes four bytes there and reads them.
-fn begin(stream: &mut UnixStream) -> bool {
+pub fn begin(stream: &mut UnixStream) -> bool {
     let mut first = [0u8; 44];
     stream.write_all(FIRST).is_ok() && stream.read_exact(&mut first).is_ok() && goes_on(stream)
 }
@@ -120,9 +119,12 @@ fn refuses(alloc: Global, control: &mut UnixStream) -> bool {
         && is_answered(
             alloc,
             control,
-            b"retune a 0 0 1\n",
-            b"refused rates are fixed\n\n",
+            b"retune b 0 0 1\n",
+            b"refused no export\n\n",
         )
+        && is_answered(alloc, control, b"retune a 0 1000001 1\n", b"refused C6\n\n")
+        && is_answered(alloc, control, b"retune a 0 0 0\n", b"refused C7\n\n")
+        && is_answered(alloc, control, b"retune a 5 3 1\n", b"refused C9\n\n")
 }
 
 /// Whether a line of so many bytes is refused.
@@ -139,106 +141,94 @@ fn refuses_long(alloc: Global, control: &mut UnixStream, length: usize) -> bool 
         )
 }
 
-/// Looks at a session, drops it, and asks for the end.
-fn looked_and_dropped<R: Net + Files>(rt: &R, alloc: Global) -> io::Result<bool> {
-    let mut control = UnixStream::connect(rt, "nbdq.looked.control")?;
-    let mut client = UnixStream::connect(rt, "nbdq.looked")?;
-    let well = begin(&mut client)
-        && adds_up(alloc, &mut control)
-        && refuses(alloc, &mut control)
-        && refuses_long(alloc, &mut control, 10_000)
-        && is_answered(alloc, &mut control, b"drop 'a' 0\n", b"gone\n\n")
-        && is_cut(&mut client)
-        && is_answered(alloc, &mut control, b"stop\n", b"stopping\n\n");
-    // So it ends in any case.
-    let _ = ask_line(alloc, &mut control, b"stop now\n");
-    Ok(well)
+/// Whether a session is looked at, dropped, and the end asked for.
+fn is_dropped(alloc: Global, control: &mut UnixStream, client: &mut UnixStream) -> bool {
+    begin(client)
+        && adds_up(alloc, control)
+        && refuses(alloc, control)
+        && refuses_long(alloc, control, 10_000)
+        && is_answered(alloc, control, b"drop 'a' 0\n", b"gone\n\n")
+        && is_cut(client)
+        && is_answered(alloc, control, b"stop\n", b"stopping\n\n")
 }
 
-/// Asks for the end while a session is open, which goes on until it is cut.
-fn stopped_twice<R: Net + Files>(rt: &R, alloc: Global) -> io::Result<bool> {
-    let mut control = UnixStream::connect(rt, "nbdq.stopped.control")?;
-    let mut client = UnixStream::connect(rt, "nbdq.stopped")?;
-    let well = begin(&mut client)
-        && is_answered(alloc, &mut control, b"stop\n", b"stopping\n\n")
-        && goes_on(&mut client);
-    let stopped = is_answered(alloc, &mut control, b"stop now\n", b"stopping\n\n");
-    Ok(well && stopped && is_cut(&mut client))
+pub fn looks_and_drops<R: Net + Files>(rt: &R, alloc: Global) -> bool {
+    let Ok(mut control) = UnixStream::connect(rt, "nbdq.looked.control") else {
+        return false;
+    };
+    let Ok(mut client) = UnixStream::connect(rt, "nbdq.looked") else {
+        return false;
+    };
+    let well = is_dropped(alloc, &mut control, &mut client);
+    // So it ends in any case.
+    let _ = ask_line(alloc, &mut control, b"stop now\n");
+    well
+}
+
+/// Whether the end is asked for while a session is open, which goes on until it is cut.
+fn is_stopped(alloc: Global, control: &mut UnixStream, client: &mut UnixStream) -> bool {
+    let well = begin(client)
+        && is_answered(alloc, control, b"stop\n", b"stopping\n\n")
+        && goes_on(client);
+    let stopped = is_answered(alloc, control, b"stop now\n", b"stopping\n\n");
+    well && stopped && is_cut(client)
+}
+
+pub fn stops_twice<R: Net + Files>(rt: &R, alloc: Global) -> bool {
+    let Ok(mut control) = UnixStream::connect(rt, "nbdq.stopped.control") else {
+        return false;
+    };
+    let Ok(mut client) = UnixStream::connect(rt, "nbdq.stopped") else {
+        return false;
+    };
+    is_stopped(alloc, &mut control, &mut client)
+}
+
+/// Whether one more client of the control socket is served, which stays.
+fn comes<R: Net + Files>(rt: &R, alloc: Global, clients: &mut Vec<UnixStream>) -> bool {
+    let Ok(mut client) = UnixStream::connect(rt, "nbdq.crowded.control") else {
+        return false;
+    };
+    let answered = is_answered(alloc, &mut client, b"sessions\n", b"\n");
+    clients.push(client).is_ok() && answered
+}
+
+/// Whether one more is cut off.
+fn is_refused<R: Net + Files>(rt: &R) -> bool {
+    match UnixStream::connect(rt, "nbdq.crowded.control") {
+        Ok(mut client) => is_cut(&mut client),
+        Err(_) => false,
+    }
 }
 
 /// Has as many clients of the control socket as may be, and one more.
-fn crowded<R: Net + Files>(rt: &R, alloc: Global) -> io::Result<bool> {
+pub fn crowds<R: Net + Files>(rt: &R, alloc: Global) -> bool {
     let mut clients = Vec::new(alloc);
     let mut well = true;
     for _ in 0..CLIENTS {
-        let mut client = UnixStream::connect(rt, "nbdq.crowded.control")?;
-        well = well && is_answered(alloc, &mut client, b"sessions\n", b"\n");
-        clients.push(client)?;
+        well = comes(rt, alloc, &mut clients) && well;
     }
-    let mut more = UnixStream::connect(rt, "nbdq.crowded.control")?;
-    well = well && is_cut(&mut more);
-    if let Some(last) = clients.last_mut() {
-        well = well && is_answered(alloc, last, b"stop now\n", b"stopping\n\n");
+    well = is_refused(rt) && well;
+    match clients.last_mut() {
+        Some(last) => is_answered(alloc, last, b"stop now\n", b"stopping\n\n") && well,
+        None => false,
     }
-    Ok(well)
-}
-
-/// A listener at a path where nothing stands.
-fn bound<R: Net + Files>(rt: &R, path: &str) -> io::Result<UnixListener> {
-    let _ = fs::remove_file(rt, path);
-    UnixListener::bind(rt, path)
 }
 
 #[test]
-fn looked_at_and_dropped(rt: HostRuntime) -> Result<(), Fail> {
-    let rt = &rt;
-    let alloc = rt.alloc();
-    let config = config_of(alloc, 4096).ok_or("a configuration")?;
-    let lent = &config;
-    let unix = bound(rt, "nbdq.looked")?;
-    let control = bound(rt, "nbdq.looked.control")?;
-    let (steps, well) = thread::join(
-        rt,
-        move || serve_on(rt, alloc, lent, None, Some(unix), Some(control), LONG_CREW),
-        move || looked_and_dropped(rt, alloc),
-    );
-    assert!(rt; well?);
-    assert_eq!(rt; steps, Ok(11));
-    Ok(())
+fn looked_at_and_dropped(rt: HostRuntime) {
+    let steps = served_and_asked(&rt, "nbdq.looked", "nbdq.looked.control", Client::Looks);
+    assert!(rt; steps == Some(11));
 }
 
 #[test]
-fn stopped(rt: HostRuntime) -> Result<(), Fail> {
-    let rt = &rt;
-    let alloc = rt.alloc();
-    let config = config_of(alloc, 4096).ok_or("a configuration")?;
-    let lent = &config;
-    let unix = bound(rt, "nbdq.stopped")?;
-    let control = bound(rt, "nbdq.stopped.control")?;
-    let (steps, well) = thread::join(
-        rt,
-        move || serve_on(rt, alloc, lent, None, Some(unix), Some(control), LONG_CREW),
-        move || stopped_twice(rt, alloc),
-    );
-    assert!(rt; well?);
-    assert!(rt; steps.is_ok());
-    Ok(())
+fn stopped(rt: HostRuntime) {
+    let steps = served_and_asked(&rt, "nbdq.stopped", "nbdq.stopped.control", Client::Stops);
+    assert!(rt; steps.is_some());
 }
 
 #[test]
-fn eight_clients_of_the_control_socket(rt: HostRuntime) -> Result<(), Fail> {
-    let rt = &rt;
-    let alloc = rt.alloc();
-    let config = config_of(alloc, 4096).ok_or("a configuration")?;
-    let lent = &config;
-    let unix = bound(rt, "nbdq.crowded")?;
-    let control = bound(rt, "nbdq.crowded.control")?;
-    let (steps, well) = thread::join(
-        rt,
-        move || serve_on(rt, alloc, lent, None, Some(unix), Some(control), LONG_CREW),
-        move || crowded(rt, alloc),
-    );
-    assert!(rt; well?);
-    assert_eq!(rt; steps, Ok(0));
-    Ok(())
+fn eight_clients_of_the_control_socket(rt: HostRuntime) {
+    let steps = served_and_asked(&rt, "nbdq.crowded", "nbdq.crowded.control", Client::Crowds);
+    assert!(rt; steps == Some(0));
 }

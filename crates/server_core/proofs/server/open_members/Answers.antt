@@ -10,15 +10,15 @@ use Rattle.server_core.proofs.server.open_members.Goals as goal
 pub loop-export-init : goal.loop-export-init
 loop-export-init g c = record {
   members = c.in_ok-members.ensures.items;
-  short = subst (All (λ (member : Standing). AreShort member.part.terms)) (sym c.in_ok-members.ensures.items) (λ k d lt. absurd (omega arith));
+  short = subst (All (λ (member : Standing). AreShort member.part.rates)) (sym c.in_ok-members.ensures.items) (λ k d lt. absurd (omega arith));
 }
 
 pub loop-export-preserved : goal.loop-export-preserved
 loop-export-preserved g c = record {
   members = opened_more c.args.inflight c.args.exports.now c.loop-export.export-index c.export-item.result c.loop-export.members.items c.push.new.self.items c.in_ok-member.member c.loop-export-test.true c.export-item.is c.loop-export.invariant.members c.in_ok-member.ensures.0 c.in_ok-push.ensures.items;
-  short = subst (All (λ (member : Standing). AreShort member.part.terms)) (sym c.in_ok-push.ensures.items)
-      (All-push (λ (member : Standing). AreShort member.part.terms) c.loop-export.members.items c.in_ok-member.member c.loop-export.invariant.short
-      (subst (λ (m : Standing). AreShort m.part.terms) (sym c.in_ok-member.ensures.0) c.in_ok-member.ensures.1));
+  short = subst (All (λ (member : Standing). AreShort member.part.rates)) (sym c.in_ok-push.ensures.items)
+      (All-push (λ (member : Standing). AreShort member.part.rates) c.loop-export.members.items c.in_ok-member.member c.loop-export.invariant.short
+      (subst (λ (m : Standing). AreShort m.part.rates) (sym c.in_ok-member.ensures.0) c.in_ok-member.ensures.1));
 }
 
 pub returns-clause-members : goal.returns-clause-members

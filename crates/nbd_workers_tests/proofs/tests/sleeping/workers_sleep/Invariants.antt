@@ -1,4 +1,4 @@
 use Rattle.nbd_workers_tests.proofs.tests.sleeping.workers_sleep.Given as goal
 
-abbrev pub ghosts-sleeping_workers : goal.ghosts-sleeping_workers
-ghosts-sleeping_workers g a = record { name = a.blank.name; parts = a.blank.parts }
+abbrev pub ghosts-used : goal.ghosts-used
+ghosts-used g a = record { name = a.blank.name; parts = a.blank.parts }

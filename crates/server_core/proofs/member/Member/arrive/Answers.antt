@@ -29,7 +29,7 @@ pub put_behind-requires : goal.put_behind-requires
 put_behind-requires g c =
     let i = c.self.inside in
     let A = g.row.I-Alloc.Denot in
-    let m0 : Kept = record { whole = i.cell.live; journal = i.cell.journal; room = i.cell.room; share = i.shares; interval = i.r_interval; waiting = i.waiting.items; waiting_room = deque_capacity i.waiting; out = i.out.items; out_room = vec_capacity i.out } in
+    let m0 : Kept = record { whole = i.cell.live; journal = i.cell.journal; room = i.cell.room; share = i.shares; waiting = i.waiting.items; waiting_room = deque_capacity i.waiting; out = i.out.items; out_room = vec_capacity i.out } in
     let j = c.enter.new.self.journal in
     let r = c.enter.new.self.room in
     let m : Kept = record m0 { journal = j; room = r } in
@@ -48,7 +48,7 @@ pub invariant_of-self : goal.invariant_of-self
 invariant_of-self g c =
     let i = c.self.inside in
     let A = g.row.I-Alloc.Denot in
-    let m0 : Kept = record { whole = i.cell.live; journal = i.cell.journal; room = i.cell.room; share = i.shares; interval = i.r_interval; waiting = i.waiting.items; waiting_room = deque_capacity i.waiting; out = i.out.items; out_room = vec_capacity i.out } in
+    let m0 : Kept = record { whole = i.cell.live; journal = i.cell.journal; room = i.cell.room; share = i.shares; waiting = i.waiting.items; waiting_room = deque_capacity i.waiting; out = i.out.items; out_room = vec_capacity i.out } in
     let j = c.enter.new.self.journal in
     let r = c.enter.new.self.room in
     let m : Kept = record m0 { journal = j; room = r } in
@@ -61,7 +61,7 @@ invariant_of-self g c =
     let tag = c.in-Ok-Accepted.limit_tag in
     let does = arrived_is i.cell.live new s t n tag q c.in-Ok-Accepted.field-0 c.in-Ok-Accepted.field-0-is c.in-Ok-Accepted.ensures.step in
     let small = c.nanoseconds.ensures.below in
-    let short = subst (λ (v : Standing). AreShort v.part.terms) (sym c.self.view_is) c.requires.short in
+    let short = subst (λ (v : Standing). AreShort v.part.rates) (sym c.self.view_is) c.requires.short in
     let range = subst (λ (v : Standing). TagsInRange v.part) (sym c.self.view_is) c.requires.in_range in
     let l_fits = tag_fits A i.cell.live new s t n tag q does range.last_l short.limit small in
     let p = c.admit-r.result.1 in
@@ -76,7 +76,7 @@ pub returns-in-Ok-Accepted-clause-arrives : goal.returns-in-Ok-Accepted-clause-a
 returns-in-Ok-Accepted-clause-arrives g c =
     let i = c.self.inside in
     let A = g.row.I-Alloc.Denot in
-    let m0 : Kept = record { whole = i.cell.live; journal = i.cell.journal; room = i.cell.room; share = i.shares; interval = i.r_interval; waiting = i.waiting.items; waiting_room = deque_capacity i.waiting; out = i.out.items; out_room = vec_capacity i.out } in
+    let m0 : Kept = record { whole = i.cell.live; journal = i.cell.journal; room = i.cell.room; share = i.shares; waiting = i.waiting.items; waiting_room = deque_capacity i.waiting; out = i.out.items; out_room = vec_capacity i.out } in
     let j = c.enter.new.self.journal in
     let r = c.enter.new.self.room in
     let m : Kept = record m0 { journal = j; room = r } in
@@ -89,7 +89,7 @@ returns-in-Ok-Accepted-clause-arrives g c =
     let tag = c.in-Ok-Accepted.limit_tag in
     let does = arrived_is i.cell.live new s t n tag q c.in-Ok-Accepted.field-0 c.in-Ok-Accepted.field-0-is c.in-Ok-Accepted.ensures.step in
     let small = c.nanoseconds.ensures.below in
-    let short = subst (λ (v : Standing). AreShort v.part.terms) (sym c.self.view_is) c.requires.short in
+    let short = subst (λ (v : Standing). AreShort v.part.rates) (sym c.self.view_is) c.requires.short in
     let range = subst (λ (v : Standing). TagsInRange v.part) (sym c.self.view_is) c.requires.in_range in
     let l_fits = tag_fits A i.cell.live new s t n tag q does range.last_l short.limit small in
     let p = c.admit-r.result.1 in
@@ -107,7 +107,7 @@ pub invariant_of-self-in-Ok-Answered : goal.invariant_of-self-in-Ok-Answered
 invariant_of-self-in-Ok-Answered g c =
     let i = c.self.inside in
     let A = g.row.I-Alloc.Denot in
-    let m0 : Kept = record { whole = i.cell.live; journal = i.cell.journal; room = i.cell.room; share = i.shares; interval = i.r_interval; waiting = i.waiting.items; waiting_room = deque_capacity i.waiting; out = i.out.items; out_room = vec_capacity i.out } in
+    let m0 : Kept = record { whole = i.cell.live; journal = i.cell.journal; room = i.cell.room; share = i.shares; waiting = i.waiting.items; waiting_room = deque_capacity i.waiting; out = i.out.items; out_room = vec_capacity i.out } in
     let j = c.enter.new.self.journal in
     let r = c.enter.new.self.room in
     let m : Kept = record m0 { journal = j; room = r } in
@@ -126,7 +126,7 @@ pub returns-in-Ok-Answered-clause-arrives : goal.returns-in-Ok-Answered-clause-a
 returns-in-Ok-Answered-clause-arrives g c =
     let i = c.self.inside in
     let A = g.row.I-Alloc.Denot in
-    let m0 : Kept = record { whole = i.cell.live; journal = i.cell.journal; room = i.cell.room; share = i.shares; interval = i.r_interval; waiting = i.waiting.items; waiting_room = deque_capacity i.waiting; out = i.out.items; out_room = vec_capacity i.out } in
+    let m0 : Kept = record { whole = i.cell.live; journal = i.cell.journal; room = i.cell.room; share = i.shares; waiting = i.waiting.items; waiting_room = deque_capacity i.waiting; out = i.out.items; out_room = vec_capacity i.out } in
     let j = c.enter.new.self.journal in
     let r = c.enter.new.self.room in
     let m : Kept = record m0 { journal = j; room = r } in
@@ -146,7 +146,7 @@ pub invariant_of-self-in-Err : goal.invariant_of-self-in-Err
 invariant_of-self-in-Err g c =
     let i = c.self.inside in
     let A = g.row.I-Alloc.Denot in
-    let m0 : Kept = record { whole = i.cell.live; journal = i.cell.journal; room = i.cell.room; share = i.shares; interval = i.r_interval; waiting = i.waiting.items; waiting_room = deque_capacity i.waiting; out = i.out.items; out_room = vec_capacity i.out } in
+    let m0 : Kept = record { whole = i.cell.live; journal = i.cell.journal; room = i.cell.room; share = i.shares; waiting = i.waiting.items; waiting_room = deque_capacity i.waiting; out = i.out.items; out_room = vec_capacity i.out } in
     let j = c.enter.new.self.journal in
     let r = c.enter.new.self.room in
     let m : Kept = record m0 { journal = j; room = r } in
@@ -164,7 +164,7 @@ pub returns-in-Err-clause-arrives : goal.returns-in-Err-clause-arrives
 returns-in-Err-clause-arrives g c =
     let i = c.self.inside in
     let A = g.row.I-Alloc.Denot in
-    let m0 : Kept = record { whole = i.cell.live; journal = i.cell.journal; room = i.cell.room; share = i.shares; interval = i.r_interval; waiting = i.waiting.items; waiting_room = deque_capacity i.waiting; out = i.out.items; out_room = vec_capacity i.out } in
+    let m0 : Kept = record { whole = i.cell.live; journal = i.cell.journal; room = i.cell.room; share = i.shares; waiting = i.waiting.items; waiting_room = deque_capacity i.waiting; out = i.out.items; out_room = vec_capacity i.out } in
     let j = c.enter.new.self.journal in
     let r = c.enter.new.self.room in
     let m : Kept = record m0 { journal = j; room = r } in
@@ -182,7 +182,7 @@ returns-in-Err-clause-arrives g c =
 pub enter-requires : goal.enter-requires
 enter-requires g c =
     let i = c.self.inside in
-    let m : Kept = record { whole = i.cell.live; journal = i.cell.journal; room = i.cell.room; share = i.shares; interval = i.r_interval; waiting = i.waiting.items; waiting_room = deque_capacity i.waiting; out = i.out.items; out_room = vec_capacity i.out } in
+    let m : Kept = record { whole = i.cell.live; journal = i.cell.journal; room = i.cell.room; share = i.shares; waiting = i.waiting.items; waiting_room = deque_capacity i.waiting; out = i.out.items; out_room = vec_capacity i.out } in
     reserved_in m c.args.session c.args.request c.args.kept c.self.invariant (subst (λ (v : Standing). IsReservedAt v c.args.session c.args.request c.args.kept) (sym c.self.view_is) c.requires.reserved)
 
 pub returns-in-Ok-Accepted-clause-journal : goal.returns-in-Ok-Accepted-clause-journal

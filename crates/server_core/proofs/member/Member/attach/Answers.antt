@@ -11,14 +11,14 @@ use Rattle.server_core.proofs.member.Member.attach.Goals as goal
 pub invariant_of-self : goal.invariant_of-self
 invariant_of-self g c =
     let i = c.self.inside in
-    let m : Kept = record { whole = i.cell.live; journal = i.cell.journal; room = i.cell.room; share = i.shares; interval = i.r_interval; waiting = i.waiting.items; waiting_room = deque_capacity i.waiting; out = i.out.items; out_room = vec_capacity i.out } in
+    let m : Kept = record { whole = i.cell.live; journal = i.cell.journal; room = i.cell.room; share = i.shares; waiting = i.waiting.items; waiting_room = deque_capacity i.waiting; out = i.out.items; out_room = vec_capacity i.out } in
     let new = c.attach.new.self in
     went_or_kept m new.live new.journal new.room Attach (attach_said c.attach.result) c.self.invariant c.attach.ensures.step c.attach.ensures.slots (keeps_attach g.row.I-Alloc.Denot i.cell.live.terms i.cell.live.state)
 
 pub returns-clause-step : goal.returns-clause-step
 returns-clause-step g c =
     let i = c.self.inside in
-    let m : Kept = record { whole = i.cell.live; journal = i.cell.journal; room = i.cell.room; share = i.shares; interval = i.r_interval; waiting = i.waiting.items; waiting_room = deque_capacity i.waiting; out = i.out.items; out_room = vec_capacity i.out } in
+    let m : Kept = record { whole = i.cell.live; journal = i.cell.journal; room = i.cell.room; share = i.shares; waiting = i.waiting.items; waiting_room = deque_capacity i.waiting; out = i.out.items; out_room = vec_capacity i.out } in
     let new = c.attach.new.self in
     let one = went_or m new.live new.journal new.room Attach (attach_said c.attach.result) c.self.invariant c.attach.ensures.step c.attach.ensures.slots (keeps_attach g.row.I-Alloc.Denot i.cell.live.terms i.cell.live.state) in
     subst (λ (v : Standing). WentOr v (standing_of (record m { whole = new.live; journal = new.journal; room = new.room })) Attach (attach_said c.attach.result)) c.self.view_is one
@@ -26,7 +26,7 @@ returns-clause-step g c =
 pub returns-clause-memory : goal.returns-clause-memory
 returns-clause-memory g c =
     let i = c.self.inside in
-    let m : Kept = record { whole = i.cell.live; journal = i.cell.journal; room = i.cell.room; share = i.shares; interval = i.r_interval; waiting = i.waiting.items; waiting_room = deque_capacity i.waiting; out = i.out.items; out_room = vec_capacity i.out } in
+    let m : Kept = record { whole = i.cell.live; journal = i.cell.journal; room = i.cell.room; share = i.shares; waiting = i.waiting.items; waiting_room = deque_capacity i.waiting; out = i.out.items; out_room = vec_capacity i.out } in
     subst (λ (v : Standing). WantsMemory v c.attach.result) c.self.view_is (wants m c.attach.result c.attach.ensures.no_memory)
 
 pub returns-clause-journal : goal.returns-clause-journal

@@ -9,5 +9,5 @@ use Rattle.server_core.proofs.member.Member.cell.Goals as goal
 pub returns-clause-live : goal.returns-clause-live
 returns-clause-live g c =
     let i = c.self.inside in
-    let m : Kept = record { whole = i.cell.live; journal = i.cell.journal; room = i.cell.room; share = i.shares; interval = i.r_interval; waiting = i.waiting.items; waiting_room = deque_capacity i.waiting; out = i.out.items; out_room = vec_capacity i.out } in
+    let m : Kept = record { whole = i.cell.live; journal = i.cell.journal; room = i.cell.room; share = i.shares; waiting = i.waiting.items; waiting_room = deque_capacity i.waiting; out = i.out.items; out_room = vec_capacity i.out } in
     sym (alone_back m c.self.invariant) ∙ ap (λ (v : Standing). alone_of v.part) c.self.view_is

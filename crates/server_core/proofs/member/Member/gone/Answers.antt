@@ -11,14 +11,14 @@ use Rattle.server_core.proofs.member.Member.gone.Goals as goal
 pub invariant_of-self : goal.invariant_of-self
 invariant_of-self g c =
     let i = c.self.inside in
-    let m : Kept = record { whole = i.cell.live; journal = i.cell.journal; room = i.cell.room; share = i.shares; interval = i.r_interval; waiting = i.waiting.items; waiting_room = deque_capacity i.waiting; out = i.out.items; out_room = vec_capacity i.out } in
+    let m : Kept = record { whole = i.cell.live; journal = i.cell.journal; room = i.cell.room; share = i.shares; waiting = i.waiting.items; waiting_room = deque_capacity i.waiting; out = i.out.items; out_room = vec_capacity i.out } in
     let new = c.gone.new.self in
     went_kept m new.live new.journal new.room (Gone c.args.session) (gone_said c.gone.result) c.self.invariant c.gone.ensures.step c.gone.ensures.slots (keeps_gone g.row.I-Alloc.Denot i.cell.live.terms i.cell.live.state c.args.session)
 
 pub returns-clause-went : goal.returns-clause-went
 returns-clause-went g c =
     let i = c.self.inside in
-    let m : Kept = record { whole = i.cell.live; journal = i.cell.journal; room = i.cell.room; share = i.shares; interval = i.r_interval; waiting = i.waiting.items; waiting_room = deque_capacity i.waiting; out = i.out.items; out_room = vec_capacity i.out } in
+    let m : Kept = record { whole = i.cell.live; journal = i.cell.journal; room = i.cell.room; share = i.shares; waiting = i.waiting.items; waiting_room = deque_capacity i.waiting; out = i.out.items; out_room = vec_capacity i.out } in
     let new = c.gone.new.self in
     let one = went m new.live new.journal new.room (Gone c.args.session) (gone_said c.gone.result) c.self.invariant c.gone.ensures.step c.gone.ensures.slots (keeps_gone g.row.I-Alloc.Denot i.cell.live.terms i.cell.live.state c.args.session) in
     subst (λ (v : Standing). Went v (standing_of (record m { whole = new.live; journal = new.journal; room = new.room })) (Gone c.args.session) (gone_said c.gone.result)) c.self.view_is one

@@ -11,14 +11,14 @@ use Rattle.server_core.proofs.member.Member.perform.Goals as goal
 pub returns-in_default-clause-none : goal.returns-in_default-clause-none
 returns-in_default-clause-none g c =
     let i = c.self.inside in
-    let m : Kept = record { whole = i.cell.live; journal = i.cell.journal; room = i.cell.room; share = i.shares; interval = i.r_interval; waiting = i.waiting.items; waiting_room = deque_capacity i.waiting; out = i.out.items; out_room = vec_capacity i.out } in
+    let m : Kept = record { whole = i.cell.live; journal = i.cell.journal; room = i.cell.room; share = i.shares; waiting = i.waiting.items; waiting_room = deque_capacity i.waiting; out = i.out.items; out_room = vec_capacity i.out } in
     let there = slot_is c.args.number i.cell.live.state.out i.cell.live.slots ∙ ap (λ (v : Standing). slot_in v.seats c.args.number) c.self.view_is in
     ((λ h. c.in_default.ensures.none.0 (there ∙ h)), ap (λ (cell : Cell). standing_of (record m { whole = cell.live; journal = cell.journal; room = cell.room })) c.in_default.ensures.none.1 ∙ c.self.view_is)
 
 pub invariant_of-self-2 : goal.invariant_of-self-2
 invariant_of-self-2 g c =
     let i = c.self.inside in
-    let m : Kept = record { whole = i.cell.live; journal = i.cell.journal; room = i.cell.room; share = i.shares; interval = i.r_interval; waiting = i.waiting.items; waiting_room = deque_capacity i.waiting; out = i.out.items; out_room = vec_capacity i.out } in
+    let m : Kept = record { whole = i.cell.live; journal = i.cell.journal; room = i.cell.room; share = i.shares; waiting = i.waiting.items; waiting_room = deque_capacity i.waiting; out = i.out.items; out_room = vec_capacity i.out } in
     let new = c.perform.new.self in
     let one = performs_kept g.row.I-Alloc.Denot m new.live new.journal new.room c.args.number c.in-Some.memory c.forget.new.out.items c.self.invariant c.in-Some.ensures.some.1 c.in-Some.ensures.slots c.forget.ensures.out in
     subst (λ n. IsMember (record m { whole = new.live; journal = new.journal; room = new.room; out = c.forget.new.out.items; out_room = n })) (sym c.forget.ensures.room) one
@@ -26,7 +26,7 @@ invariant_of-self-2 g c =
 pub returns-clause-some : goal.returns-clause-some
 returns-clause-some g c =
     let i = c.self.inside in
-    let m : Kept = record { whole = i.cell.live; journal = i.cell.journal; room = i.cell.room; share = i.shares; interval = i.r_interval; waiting = i.waiting.items; waiting_room = deque_capacity i.waiting; out = i.out.items; out_room = vec_capacity i.out } in
+    let m : Kept = record { whole = i.cell.live; journal = i.cell.journal; room = i.cell.room; share = i.shares; waiting = i.waiting.items; waiting_room = deque_capacity i.waiting; out = i.out.items; out_room = vec_capacity i.out } in
     let new = c.perform.new.self in
     let after : Standing = standing_of (record m { whole = new.live; journal = new.journal; room = new.room; out = c.forget.new.out.items }) in
     let there = slot_is c.args.number i.cell.live.state.out i.cell.live.slots ∙ ap (λ (v : Standing). slot_in v.seats c.args.number) c.self.view_is in

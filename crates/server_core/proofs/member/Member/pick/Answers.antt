@@ -49,7 +49,7 @@ push_reserved-requires g c =
 pub give_credit-requires-clause-waiting : goal.give_credit-requires-clause-waiting
 give_credit-requires-clause-waiting g c =
     let i = c.self.inside in
-    let m0 : Kept = record { whole = i.cell.live; journal = i.cell.journal; room = i.cell.room; share = i.shares; interval = i.r_interval; waiting = i.waiting.items; waiting_room = deque_capacity i.waiting; out = i.out.items; out_room = vec_capacity i.out } in
+    let m0 : Kept = record { whole = i.cell.live; journal = i.cell.journal; room = i.cell.room; share = i.shares; waiting = i.waiting.items; waiting_room = deque_capacity i.waiting; out = i.out.items; out_room = vec_capacity i.out } in
     let j = c.pick.new.self.journal in
     let r = c.pick.new.self.room in
     let m : Kept = record m0 { journal = j; room = r } in
@@ -61,7 +61,7 @@ give_credit-requires-clause-waiting g c =
 pub invariant_of-self-2 : goal.invariant_of-self-2
 invariant_of-self-2 g c =
     let i = c.self.inside in
-    let m0 : Kept = record { whole = i.cell.live; journal = i.cell.journal; room = i.cell.room; share = i.shares; interval = i.r_interval; waiting = i.waiting.items; waiting_room = deque_capacity i.waiting; out = i.out.items; out_room = vec_capacity i.out } in
+    let m0 : Kept = record { whole = i.cell.live; journal = i.cell.journal; room = i.cell.room; share = i.shares; waiting = i.waiting.items; waiting_room = deque_capacity i.waiting; out = i.out.items; out_room = vec_capacity i.out } in
     let j = c.pick.new.self.journal in
     let r = c.pick.new.self.room in
     let m : Kept = record m0 { journal = j; room = r } in
@@ -75,7 +75,7 @@ invariant_of-self-2 g c =
 pub returns-clause-picked : goal.returns-clause-picked
 returns-clause-picked g c =
     let i = c.self.inside in
-    let m0 : Kept = record { whole = i.cell.live; journal = i.cell.journal; room = i.cell.room; share = i.shares; interval = i.r_interval; waiting = i.waiting.items; waiting_room = deque_capacity i.waiting; out = i.out.items; out_room = vec_capacity i.out } in
+    let m0 : Kept = record { whole = i.cell.live; journal = i.cell.journal; room = i.cell.room; share = i.shares; waiting = i.waiting.items; waiting_room = deque_capacity i.waiting; out = i.out.items; out_room = vec_capacity i.out } in
     let j = c.pick.new.self.journal in
     let r = c.pick.new.self.room in
     let m : Kept = record m0 { journal = j; room = r } in
@@ -86,7 +86,7 @@ returns-clause-picked g c =
     let numbered = subst (λ (v : Standing). IsNumbered (v.part.out ++ v.part.waiting)) (sym c.self.view_is) c.requires.numbered in
     let one = picks g.row.I-Alloc.Denot m c.args.phase c.pick.new.self.live c.in-Some-pick.picked.number c.in-Some-pick.picked.slot room c.in-Some.tags c.pop_front.new.self.items h pick numbered in
     let seat : Seat = record { number = c.in-Some-pick.picked.number; slot = c.in-Some-pick.picked.slot } in
-    let last : Kept = record { whole = c.pick.new.self.live; journal = j; room = r; share = c.give_credit.new.shares; interval = i.r_interval; waiting = c.give_credit.new.waiting.items; waiting_room = room; out = c.push_reserved.new.self.items; out_room = vec_capacity c.push_reserved.new.self } in
+    let last : Kept = record { whole = c.pick.new.self.live; journal = j; room = r; share = c.give_credit.new.shares; waiting = c.give_credit.new.waiting.items; waiting_room = room; out = c.push_reserved.new.self.items; out_room = vec_capacity c.push_reserved.new.self } in
     let two : Picks (standing_of m0) (standing_of last) c.args.phase seat = let o = subst (λ (k : Kept). Picks (standing_of m) (standing_of k) c.args.phase seat) same one in record { standing = o.standing; number = o.number; held = o.held } in
     subst (λ (v : Standing). Picks v (standing_of last) c.args.phase seat) c.self.view_is two
 

@@ -12,7 +12,7 @@ use Rattle.server_core.proofs.member.Member.shift.Goals as goal
 pub shift_all-requires : goal.shift_all-requires
 shift_all-requires g c =
     let i = c.self.inside in
-    let m : Kept = record { whole = i.cell.live; journal = i.cell.journal; room = i.cell.room; share = i.shares; interval = i.r_interval; waiting = i.waiting.items; waiting_room = deque_capacity i.waiting; out = i.out.items; out_room = vec_capacity i.out } in
+    let m : Kept = record { whole = i.cell.live; journal = i.cell.journal; room = i.cell.room; share = i.shares; waiting = i.waiting.items; waiting_room = deque_capacity i.waiting; out = i.out.items; out_room = vec_capacity i.out } in
     let fits = c.ranges.delta in
     let range = subst (λ (v : Standing). TagsInRange (part_shifted c.args.delta v.part)) (sym c.self.view_is) c.requires in
     rw to_z-of_z (shift_in_range m c.args.delta c.self.invariant range)
@@ -20,7 +20,7 @@ shift_all-requires g c =
 pub shift-requires : goal.shift-requires
 shift-requires g c =
     let i = c.self.inside in
-    let m : Kept = record { whole = i.cell.live; journal = i.cell.journal; room = i.cell.room; share = i.shares; interval = i.r_interval; waiting = i.waiting.items; waiting_room = deque_capacity i.waiting; out = i.out.items; out_room = vec_capacity i.out } in
+    let m : Kept = record { whole = i.cell.live; journal = i.cell.journal; room = i.cell.room; share = i.shares; waiting = i.waiting.items; waiting_room = deque_capacity i.waiting; out = i.out.items; out_room = vec_capacity i.out } in
     let fits = c.ranges.delta in
     let range = subst (λ (v : Standing). TagsInRange (part_shifted c.args.delta v.part)) (sym c.self.view_is) c.requires in
     let n : deque_len i.waiting ≡ length i.waiting.items = search rules in
@@ -30,7 +30,7 @@ shift-requires g c =
 pub returns : goal.returns
 returns g c =
     let i = c.self.inside in
-    let m : Kept = record { whole = i.cell.live; journal = i.cell.journal; room = i.cell.room; share = i.shares; interval = i.r_interval; waiting = i.waiting.items; waiting_room = deque_capacity i.waiting; out = i.out.items; out_room = vec_capacity i.out } in
+    let m : Kept = record { whole = i.cell.live; journal = i.cell.journal; room = i.cell.room; share = i.shares; waiting = i.waiting.items; waiting_room = deque_capacity i.waiting; out = i.out.items; out_room = vec_capacity i.out } in
     let fits = c.ranges.delta in
     let n : deque_len i.waiting ≡ length i.waiting.items = search rules in
     let some : (length i.waiting.items == 0) ≡ false = ap (λ k. k == 0) (sym n) ∙ sym c.is_empty.ensures ∙ c.if-is_empty.false in

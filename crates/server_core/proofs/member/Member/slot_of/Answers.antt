@@ -16,5 +16,5 @@ returns-clause-slot g c =
 pub returns-clause-out : goal.returns-clause-out
 returns-clause-out g c =
     let i = c.self.inside in
-    let m : Kept = record { whole = i.cell.live; journal = i.cell.journal; room = i.cell.room; share = i.shares; interval = i.r_interval; waiting = i.waiting.items; waiting_room = deque_capacity i.waiting; out = i.out.items; out_room = vec_capacity i.out } in
+    let m : Kept = record { whole = i.cell.live; journal = i.cell.journal; room = i.cell.room; share = i.shares; waiting = i.waiting.items; waiting_room = deque_capacity i.waiting; out = i.out.items; out_room = vec_capacity i.out } in
     ap is_some (c.slot_of.ensures ∙ ap (λ (w : Whole). slot_at w c.args.number) c.live.ensures) ∙ member_out m c.args.number c.self.invariant ∙ ap (λ (v : Standing). is_some (find (λ (entry : Entry). entry.number == c.args.number) v.part.out)) c.self.view_is

@@ -17,7 +17,7 @@ use Rattle.server_core.specs.Here.{arrived as told_arrived}
 use Rattle.server_core.specs.Way.{way_of}
 use Rattle.server_core.proofs.Changed.{before_way}
 use Rattle.server_core.proofs.Performed.{all_seats}
-use Rattle.server_core.proofs.Accepting.{stepped_no_memory, stepped_from, journals_way, absent_arrive, same_read, few_members, part_range, terms_short, stepped_refused, kept_refused, seats_refused, back_told, falls, way_range, found_same, length_way, slot_was, same_first, first_in_range, kept_accepted, stepped_accepted, seats_accepted}
+use Rattle.server_core.proofs.Accepting.{stepped_no_memory, stepped_from, journals_way, absent_arrive, same_read, few_members, part_range, rates_short, stepped_refused, kept_refused, seats_refused, back_told, falls, way_range, found_same, length_way, slot_was, same_first, first_in_range, kept_accepted, stepped_accepted, seats_accepted}
 use Rattle.server_core.specs.Journals.{CellMoves}
 use Rattle.server_core.proofs.Served.{kept_logged, parts_back, same_seats}
 use Rattle.server_core.proofs.Journals.{absent, moves, arrival_moves, journals_set, set_twice}
@@ -85,7 +85,7 @@ arrive-requires-clause-short g c =
     let d = c.index_mut-member-then-not-admits.result.now in
     let d_at = c.index_mut-member-then-not-admits.ensures.value in
     let d_is : d ≡ m = same_read ms e m d lt at d_at in
-    terms_short ms slots asked i.latest i.inflight i.served e d kept0 lt d_at
+    rates_short ms slots asked i.latest i.inflight i.served e d kept0 lt d_at
 
 pub invariant_of-self-then-not-admits : goal.invariant_of-self-then-not-admits
 invariant_of-self-then-not-admits g c =
@@ -332,7 +332,7 @@ arrive-said-requires-clause-short g c =
     let way = c.make_way.new.members.items in
     let d = c.index_mut-member-2.result.now in
     let d_is : d ≡ m = found_same t n ms way e m d lt at c.waiting-waiting.ensures c.make_way.ensures.members c.index_mut-member-2.ensures.value in
-    subst (λ (x : Standing). AreShort x.part.terms) (sym d_is) (terms_short ms slots asked i.latest i.inflight i.served e m kept0 lt at)
+    subst (λ (x : Standing). AreShort x.part.rates) (sym d_is) (rates_short ms slots asked i.latest i.inflight i.served e m kept0 lt at)
 
 pub put_first-requires-clause-was : goal.put_first-requires-clause-was
 put_first-requires-clause-was g c =

@@ -23,7 +23,7 @@ invariant_of-result g c =
     subst (λ (ms : List Standing). IsServed ms (g.E.Eligibility.contents c.in_ok-eligible.eligible) (g.E.Eligibility.asked c.in_ok-eligible.eligible) c.zero.result c.inflight-inflight.result 0) (sym members)
     (subst (λ n. IsServed (opened c.inflight-inflight.result xs) (g.E.Eligibility.contents c.in_ok-eligible.eligible) (g.E.Eligibility.asked c.in_ok-eligible.eligible) n c.inflight-inflight.result 0) (sym c.zero.ensures)
     (kept_new c.inflight-inflight.result (g.E.Eligibility.asked c.in_ok-eligible.eligible) xs (g.E.Eligibility.contents c.in_ok-eligible.eligible) few
-    (subst (All (λ (m : Standing). AreShort m.part.terms)) members c.in_ok-members.ensures.short) c.in_ok-eligible.ensures.contents c.in_ok-eligible.ensures.asked))
+    (subst (All (λ (m : Standing). AreShort m.part.rates)) members c.in_ok-members.ensures.short) c.in_ok-eligible.ensures.contents c.in_ok-eligible.ensures.asked))
 
 pub returns : goal.returns
 returns g c =

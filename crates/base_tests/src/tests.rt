@@ -1,0 +1,3 @@
+mod keys;
+mod memory;
+mod slots;

@@ -1,0 +1,2 @@
+mod soonest;
+mod walks;

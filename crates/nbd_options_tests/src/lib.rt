@@ -1,0 +1,5 @@
+//! Tests of the haggling of options.
+#![tactic(auto)]
+
+#[cfg(test)]
+mod tests;

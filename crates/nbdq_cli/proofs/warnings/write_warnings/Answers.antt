@@ -1,0 +1,30 @@
+use Rattle.std.proofs.Common.{◌≡◌, Some, get_or, arith}
+use Rattle.std.specs.Io.KnownBytes.{Appends}
+use Rattle.std.proofs.lemmas.Grind.{common_steps}
+use Rattle.nbdq_cli.specs.Warned.{depth_line, reserved_in, reserved_line}
+use Rattle.nbdq_cli.proofs.ReportLemmas.{written_first, written_more, written_last}
+use Rattle.nbdq_cli.proofs.warnings.write_warnings.Goals as goal
+
+pub loop-at-init : goal.loop-at-init
+loop-at-init g c =
+    let offer = c.args.config.now in
+    let old = Some c.args.text.now.items in
+    let new = Some c.write_reserved.new.text.items in
+    let line : Appends old new (reserved_line (reserved_in offer.exports)) = rw (← c.reserved_in.ensures) c.in_ok-write_reserved.ensures in
+    written_first depth_line (reserved_line (reserved_in offer.exports)) offer.exports old new line
+
+pub loop-at-preserved : goal.loop-at-preserved
+loop-at-preserved g c =
+    let offer = c.args.config.now in
+    let at = c.loop-at.at in
+    let export = c.index-exports-at.result in
+    let here : get_or c.exports-exports.result.now at export ≡ export = grind (arith, common_steps) in
+    written_more depth_line (reserved_line (reserved_in offer.exports)) offer.exports at export
+    (Some c.args.text.now.items) (Some c.loop-at.text.items) (Some c.write_export.new.text.items)
+    c.loop-at.invariant (rw c.exports-exports.ensures.value at c.loop-at-test.true) (rw c.exports-exports.ensures.value at here) (c.in_ok-write_export.ensures)
+
+pub returns : goal.returns
+returns g c =
+    let offer = c.args.config.now in
+    written_last depth_line (reserved_line (reserved_in offer.exports)) offer.exports c.loop-at.at (Some c.args.text.now.items) (Some c.loop-at.text.items)
+    c.loop-at.invariant (rw c.exports-exports.ensures.value at c.loop-at-test.false)
