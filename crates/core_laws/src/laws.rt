@@ -16,7 +16,8 @@ use std::alloc::Allocator;
 /// alone: whatever order the events take, and whatever the others do.
 pub fn projection<A: Allocator>()
     ensures told { (run : Run A) → IsToldAsAlone run.setup run.events (answers_in run) }
-    ensures last { (run : Run A) → EndsAsAlone run.setup run.events (answers_in run) (table_in run) }
+    ensures last { (run : Run A)
+        → EndsAsAlone run.setup run.events (answers_in run) (table_in run) }
 {}
 
 /// Two runs that agree on an export's terms and own steps tell it the same and leave it the same.
@@ -38,7 +39,8 @@ pub fn locality<A: Allocator>()
 /// A queue refusal counts the waiting requests of its own export alone, at any table, and so at each place of a run.
 pub fn queue_refusal<A: Allocator>()
     ensures step { (setup : Setup) (table : Table) → QueueCountsItsOwn A setup table }
-    ensures run { (run : Run A) → QueuesCountTheirOwn run.setup run.events (answers_in run) run.marks }
+    ensures run { (run : Run A)
+        → QueuesCountTheirOwn run.setup run.events (answers_in run) run.marks }
 {}
 
 /// No choice by weight precedes its request's limit tag, at any table, and so at each place of a run.
@@ -54,7 +56,8 @@ pub fn weight_waits_for_its_limit<A: Allocator>()
 pub fn reservations_first<A: Allocator>()
     ensures step { (setup : Setup) (table : Table) (t : ℕ) (memory : Bool)
         → ReservationBeforeWeight A setup table t memory }
-    ensures run { (run : Run A) → ReservationsBeforeWeights run.setup run.events (answers_in run) run.marks }
+    ensures run { (run : Run A)
+        → ReservationsBeforeWeights run.setup run.events (answers_in run) run.marks }
 {}
 
 /// An export's limit tags follow from the moments of its own accepted arrivals: that of the k-th is the greatest, over the
@@ -76,7 +79,8 @@ pub fn heads_suffice<A: Allocator>()
 pub fn choice_count<A: Allocator>()
     ensures none { (run : Run A) → ChoosesNoneBefore run.setup run.events (answers_in run) }
     ensures limit { (run : Run A) → ChoosesByLimit run.setup run.events (answers_in run) }
-    ensures reservation { (run : Run A) → ChoosesByReservation run.setup run.events (answers_in run) }
+    ensures reservation { (run : Run A)
+        → ChoosesByReservation run.setup run.events (answers_in run) }
 {}
 
 /// Where exports e and f wait side by side from one place of a run to a later one, f's first request is within its limit at
@@ -86,12 +90,16 @@ pub fn choice_count<A: Allocator>()
 /// `ratio_between` say it from a choice of f to a later choice of f, where f has to wait and to be due only between the two.
 /// Nothing is said of time, of how long a request takes, or of an export that begins to wait in between.
 pub fn shares<A: Allocator>()
-    ensures least { (run : Run A) → WeightsTakeTheLeast run.setup run.events (answers_in run) run.marks }
+    ensures least { (run : Run A)
+        → WeightsTakeTheLeast run.setup run.events (answers_in run) run.marks }
     ensures bound { (run : Run A) → SharesByWeight run.setup run.events (answers_in run) run.marks }
-    ensures tags { (run : Run A) → RisesByItsChoices run.setup run.events (answers_in run) run.marks }
+    ensures tags { (run : Run A)
+        → RisesByItsChoices run.setup run.events (answers_in run) run.marks }
     ensures ratio { (run : Run A) → SharesByRatio run.setup run.events (answers_in run) run.marks }
-    ensures between { (run : Run A) → SharesBetween run.setup run.events (answers_in run) run.marks }
-    ensures ratio_between { (run : Run A) → RatioBetween run.setup run.events (answers_in run) run.marks }
+    ensures between { (run : Run A)
+        → SharesBetween run.setup run.events (answers_in run) run.marks }
+    ensures ratio_between { (run : Run A)
+        → RatioBetween run.setup run.events (answers_in run) run.marks }
 {}
 
 /// Where the events that found no memory are taken out of a run with their marks, every other answer stays, and the last

@@ -184,7 +184,8 @@ fn step<E: Eligibility>(
     ensures asked { E.asked index.new ≤ asked.new }
     ensures held { held.new.items ≡ after op held.old.items }
     ensures latest { asked.new ≡ latest op asked.old }
-    ensures said { OnOk result (answers.new.items ≡ answers.old.items ++ said op held.old.items asked.old) }
+    ensures said { OnOk result (answers.new.items ≡ answers.old.items
+        ++ said op held.old.items asked.old) }
 {
     match op {
         Op::Enter(export, tags) => enter(index, held, export, tags),

@@ -118,7 +118,8 @@ impl<I: Image> Base<I> {
     pub(crate) fn add(&mut self, step: Step<I::Alloc>, left: usize) -> Result<usize, Step<I::Alloc>>
         requires { IsLogged self.old.terms self.old.inflight self.old.state (kept_step step) }
         ensures ok { IfOk result (λ more. Follows self.old self.new (kept_step step)) }
-        ensures err { IfErr result (λ back. (back ≡ step) × (whole_of self.new ≡ whole_of self.old)) }
+        ensures err { IfErr result (λ back. (back ≡ step)
+            × (whole_of self.new ≡ whole_of self.old)) }
     {
         if left > 0 && self.queued() == 0 {
             return self.make(step, left);
@@ -129,7 +130,8 @@ impl<I: Image> Base<I> {
     // Makes a step where none is queued.
     fn make(&mut self, step: Step<I::Alloc>, left: usize) -> Result<usize, Step<I::Alloc>>
         requires first { length self.old.queue ≡ 0 }
-        requires logged { IsLogged self.old.terms self.old.inflight self.old.state (kept_step step) }
+        requires logged { IsLogged self.old.terms self.old.inflight self.old.state
+            (kept_step step) }
         ensures ok { IfOk result (λ more. Follows self.old self.new (kept_step step)) }
         ensures err { IfErr result (λ back. (back ≡ step) × (self.new ≡ self.old)) }
     {
@@ -144,7 +146,8 @@ impl<I: Image> Base<I> {
     fn put_off(&mut self, step: Step<I::Alloc>) -> Result<usize, Step<I::Alloc>>
         requires { IsLogged self.old.terms self.old.inflight self.old.state (kept_step step) }
         ensures ok { IfOk result (λ more. Follows self.old self.new (kept_step step)) }
-        ensures err { IfErr result (λ back. (back ≡ step) × (whole_of self.new ≡ whole_of self.old)) }
+        ensures err { IfErr result (λ back. (back ≡ step)
+            × (whole_of self.new ≡ whole_of self.old)) }
     {
         let bytes = payload_of(&step);
         if let Err(_) = self.make_place(bytes) {

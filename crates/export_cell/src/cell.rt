@@ -126,8 +126,10 @@ impl<I: Image> ExportCell<I> {
 
     /// Opens a session and gives its number. The oldest steps of the log go into the base, as many as have to.
     pub fn attach(&mut self) -> Result<u64, NotAttached>
-        ensures step { DoesOr {A = I.Alloc} self.old.live self.new.live Step.Attach (attach_said result) }
-        ensures journal { JournalMove {A = I.Alloc} self.old.live.terms Step.Attach (attach_said result) self.old.journal self.new.journal }
+        ensures step { DoesOr {A = I.Alloc} self.old.live self.new.live Step.Attach
+            (attach_said result) }
+        ensures journal { JournalMove {A = I.Alloc} self.old.live.terms Step.Attach
+            (attach_said result) self.old.journal self.new.journal }
         ensures no_memory { IsErrOf result NotAttached.NoMemory → MayAttach self.old.live (Ok tt) }
         ensures slots { self.new.live.slots ≡ self.old.live.slots }
     {
@@ -148,8 +150,10 @@ impl<I: Image> ExportCell<I> {
 
     /// The rates are others from now on. The oldest steps of the log go into the base, as many as have to.
     pub fn retune(&mut self, rates: Rates) -> Result<(), NotRetuned>
-        ensures step { DoesOr {A = I.Alloc} self.old.live self.new.live (Step.Retune rates) (retuned_said result) }
-        ensures journal { JournalMove {A = I.Alloc} self.old.live.terms (Step.Retune rates) (retuned_said result) self.old.journal self.new.journal }
+        ensures step { DoesOr {A = I.Alloc} self.old.live self.new.live (Step.Retune rates)
+            (retuned_said result) }
+        ensures journal { JournalMove {A = I.Alloc} self.old.live.terms (Step.Retune rates)
+            (retuned_said result) self.old.journal self.new.journal }
         ensures no_memory { IsErrOf result NotRetuned.NoMemory → MayRetune self.old.live (Ok tt) }
         ensures slots { self.new.live.slots ≡ self.old.live.slots }
     {
@@ -174,9 +178,12 @@ impl<I: Image> ExportCell<I> {
         moment: Moment,
         request: Request<I::Alloc>,
     ) -> Result<Arrived, NotArrived<I::Alloc>>
-        ensures step { DoesOr {A = I.Alloc} self.old.live self.new.live (Step.Arrive session moment request) (arrived_said result) }
-        ensures journal { JournalMove {A = I.Alloc} self.old.live.terms (Step.Arrive session moment request) (arrived_said result) self.old.journal self.new.journal }
-        ensures no_memory { IfErr result (λ e. e.fault ≡ ArriveFault.NoMemory → MayArrive self.old.live session (Ok tt)) }
+        ensures step { DoesOr {A = I.Alloc} self.old.live self.new.live
+            (Step.Arrive session moment request) (arrived_said result) }
+        ensures journal { JournalMove {A = I.Alloc} self.old.live.terms (Step.Arrive session moment
+            request) (arrived_said result) self.old.journal self.new.journal }
+        ensures no_memory { IfErr result (λ e. e.fault ≡ ArriveFault.NoMemory
+            → MayArrive self.old.live session (Ok tt)) }
         ensures back { IfErr result (λ e. e.request ≡ request) }
         ensures slots { self.new.live.slots ≡ self.old.live.slots }
     {
@@ -205,7 +212,8 @@ impl<I: Image> ExportCell<I> {
     ) -> Result<Option<Request<I::Alloc>>, NoMemory>
         ensures live { self.new.live ≡ self.old.live }
         ensures reserved { IfOk result (λ kept. IsReserved self.new session request.now kept) }
-        ensures journal { IfOk result (λ kept. self.new.journal ≡ reserved self.old.live.terms kept self.old.journal) }
+        ensures journal { IfOk result (λ kept.
+            self.new.journal ≡ reserved self.old.live.terms kept self.old.journal) }
         ensures no_memory { OnErr result (MayArrive self.old.live session (Ok tt)
             × IsAdvanced self.old.live.terms (surplus (length request.now.payload) self.old.journal.log) self.old.journal self.new.journal) }
     {
@@ -230,9 +238,11 @@ impl<I: Image> ExportCell<I> {
         kept: Option<Request<I::Alloc>>,
     ) -> Result<Arrived, NotArrivedAlone<I::Alloc>>
         requires { IsReserved self.old session request kept }
-        ensures step { Does {A = I.Alloc} self.old.live self.new.live (Step.Arrive session moment request) (arrived_said_alone result) }
+        ensures step { Does {A = I.Alloc} self.old.live self.new.live
+            (Step.Arrive session moment request) (arrived_said_alone result) }
         ensures entered { is_ok result ≡ is_some kept }
-        ensures journal { self.new.journal ≡ noted_as {A = I.Alloc} (arrived_said_alone result) (Step.Arrive session moment request) self.old.journal }
+        ensures journal { self.new.journal ≡ noted_as {A = I.Alloc} (arrived_said_alone result)
+            (Step.Arrive session moment request) self.old.journal }
         ensures back { IfErr result (λ e. e.request ≡ request) }
         ensures slots { self.new.live.slots ≡ self.old.live.slots }
     {
@@ -258,7 +268,8 @@ impl<I: Image> ExportCell<I> {
     pub fn pick(&mut self) -> Option<Picked>
         requires { length self.old.live.state.out < self.old.live.inflight }
         ensures step { Does {A = I.Alloc} self.old.live self.new.live Step.Pick (pick_said result) }
-        ensures journal { JournalMove {A = I.Alloc} self.old.live.terms Step.Pick (Some (pick_said result)) self.old.journal self.new.journal }
+        ensures journal { JournalMove {A = I.Alloc} self.old.live.terms Step.Pick
+            (Some (pick_said result)) self.old.journal self.new.journal }
         ensures slots { self.new.live.slots ≡ slots_picked self.old.live.slots result }
     {
         let Some(picked) = self.live.pick() else {
@@ -277,8 +288,10 @@ impl<I: Image> ExportCell<I> {
             × Does {A = I.Alloc} self.old.live self.new.live (Step.Perform number memory) (Performed memory)) }
         ensures journal { IfSome result (λ memory.
             JournalMove {A = I.Alloc} self.old.live.terms (Step.Perform number memory) (Some (Performed memory)) self.old.journal self.new.journal) }
-        ensures none { IfNone result ((slot_at self.old.live number ≢ Some slot) × (self.new ≡ self.old)) }
-        ensures slots { OnSome result (self.new.live.slots ≡ slots_without self.old.live.state.out self.old.live.slots number) }
+        ensures none { IfNone result ((slot_at self.old.live number ≢ Some slot)
+            × (self.new ≡ self.old)) }
+        ensures slots { OnSome result (self.new.live.slots
+            ≡ slots_without self.old.live.state.out self.old.live.slots number) }
     {
         let Some(memory) = self.live.perform(slot, number) else {
             return None;
@@ -290,8 +303,10 @@ impl<I: Image> ExportCell<I> {
 
     /// The oldest reply of the session is taken. It takes no memory.
     pub fn take(&mut self, session: u64) -> Result<Taken<I::Alloc>, NotOpen>
-        ensures step { Does {A = I.Alloc} self.old.live self.new.live (Step.Take session) (take_said result) }
-        ensures journal { JournalMove {A = I.Alloc} self.old.live.terms (Step.Take session) (Some (take_said result)) self.old.journal self.new.journal }
+        ensures step { Does {A = I.Alloc} self.old.live self.new.live (Step.Take session)
+            (take_said result) }
+        ensures journal { JournalMove {A = I.Alloc} self.old.live.terms (Step.Take session)
+            (Some (take_said result)) self.old.journal self.new.journal }
         ensures slots { self.new.live.slots ≡ self.old.live.slots }
     {
         match self.live.take(session) {
@@ -307,8 +322,10 @@ impl<I: Image> ExportCell<I> {
 
     /// Nothing more arrives on the session. It takes no memory.
     pub fn leave(&mut self, session: u64) -> Result<(), NotOpen>
-        ensures step { Does {A = I.Alloc} self.old.live self.new.live (Step.Leave session) (leave_said result) }
-        ensures journal { JournalMove {A = I.Alloc} self.old.live.terms (Step.Leave session) (Some (leave_said result)) self.old.journal self.new.journal }
+        ensures step { Does {A = I.Alloc} self.old.live self.new.live (Step.Leave session)
+            (leave_said result) }
+        ensures journal { JournalMove {A = I.Alloc} self.old.live.terms (Step.Leave session)
+            (Some (leave_said result)) self.old.journal self.new.journal }
         ensures slots { self.new.live.slots ≡ self.old.live.slots }
     {
         if let Err(refused) = self.live.leave(session) {
@@ -320,8 +337,10 @@ impl<I: Image> ExportCell<I> {
 
     /// The session is dropped with its replies; its requests are still served. It takes no memory.
     pub fn gone(&mut self, session: u64) -> Result<(), NotOpen>
-        ensures step { Does {A = I.Alloc} self.old.live self.new.live (Step.Gone session) (gone_said result) }
-        ensures journal { JournalMove {A = I.Alloc} self.old.live.terms (Step.Gone session) (Some (gone_said result)) self.old.journal self.new.journal }
+        ensures step { Does {A = I.Alloc} self.old.live self.new.live (Step.Gone session)
+            (gone_said result) }
+        ensures journal { JournalMove {A = I.Alloc} self.old.live.terms (Step.Gone session)
+            (Some (gone_said result)) self.old.journal self.new.journal }
         ensures slots { self.new.live.slots ≡ self.old.live.slots }
     {
         if let Err(refused) = self.live.gone(session) {

@@ -28,7 +28,8 @@ pub(crate) fn widen<T, A: Allocator>(list: &mut VecDeque<T, A>, more: usize) -> 
     ensures items { list.new.items ≡ list.old.items }
     ensures room { OnOk result (length list.new.items + more ≤ deque_capacity list.new) }
     ensures capacity { deque_capacity list.old ≤ deque_capacity list.new }
-    ensures doubles { OnOk result (deque_capacity list.old < length list.old.items + more → min (deque_capacity list.old * 2) 18446744073709551615 ≤ deque_capacity list.new) }
+    ensures doubles { OnOk result (deque_capacity list.old < length list.old.items + more
+        → min (deque_capacity list.old * 2) 18446744073709551615 ≤ deque_capacity list.new) }
 {
     let (room, len) = (list.capacity(), list.len());
     if more <= room - len {

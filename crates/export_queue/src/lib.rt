@@ -144,8 +144,10 @@ impl<T: Drop, A: Allocator + Copy> ExportQueue<T, A> {
     pub fn push(&mut self, item: T) -> Result<u64, T>
         requires { self.old.next < 2 ^ 63 }
         ensures variant { IsOk result ↔ (length self.old.waiting < self.old.depth) }
-        ensures ok { IfOk result (λ number. (number ≡ self.old.next) × (self.new ≡ after_push self.old item)) }
-        ensures full { IfErr result (λ back. (back ≡ item) × (self.new ≡ self.old) × (length self.old.waiting ≡ self.old.depth)) }
+        ensures ok { IfOk result (λ number. (number ≡ self.old.next)
+            × (self.new ≡ after_push self.old item)) }
+        ensures full { IfErr result (λ back. (back ≡ item) × (self.new ≡ self.old)
+            × (length self.old.waiting ≡ self.old.depth)) }
     {
         let number = self.picked + self.ring.len() as u64;
         if let Err(item) = put_behind(&mut self.ring, item) {
@@ -158,7 +160,8 @@ impl<T: Drop, A: Allocator + Copy> ExportQueue<T, A> {
     pub fn pick(&mut self) -> Option<Picked>
         requires { fin.len self.old.out < self.old.inflight }
         ensures number { number_of result ≡ first_number self.old.waiting }
-        ensures some { IfSome result (λ p. IsFree self.old p.slot × (self.new ≡ after_pick self.old p.slot)) }
+        ensures some { IfSome result (λ p. IsFree self.old p.slot
+            × (self.new ≡ after_pick self.old p.slot)) }
         ensures none { IfNone result (self.new ≡ self.old) }
         ensures fresh { IsFresh self.old }
     {

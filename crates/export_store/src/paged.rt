@@ -92,7 +92,8 @@ impl<A: Allocator + Copy> Paged<A> {
         ensures long { length (image_of self.new) ≡ length (image_of self.old) }
         ensures here { OnOk result (stored_page self.new number ≡ Some page) }
         ensures others { (k : ℕ) → k ≢ number → stored_page self.new k ≡ stored_page self.old k }
-        ensures held { OnOk result ((k : ℕ) → is_held self.new k ≡ (is_held self.old k || (k == number))) }
+        ensures held { OnOk result ((k : ℕ)
+            → is_held self.new k ≡ (is_held self.old k || (k == number))) }
         ensures stored { is_stored self.old number ≡ true → IsOk result }
         ensures no_memory { OnErr result (image_of self.new ≡ image_of self.old) }
     {
@@ -106,7 +107,8 @@ impl<A: Allocator + Copy> Paged<A> {
         requires { 4096 * number < length (image_of self.old) }
         ensures size { self.new.size ≡ self.old.size }
         ensures bytes { image_of self.new ≡ image_of self.old }
-        ensures held { OnOk result ((k : ℕ) → is_held self.new k ≡ (is_held self.old k || (k == number))) }
+        ensures held { OnOk result ((k : ℕ)
+            → is_held self.new k ≡ (is_held self.old k || (k == number))) }
         ensures stored { OnOk result (is_stored self.new number ≡ true) }
         ensures others { (k : ℕ) → k ≢ number → is_stored self.new k ≡ is_stored self.old k }
     {
@@ -135,8 +137,10 @@ impl<A: Allocator + Copy> Paged<A> {
         requires { offset + count ≤ length (image_of self.old) }
         ensures size { self.new.size ≡ self.old.size }
         ensures bytes { image_of self.new ≡ image_of self.old }
-        ensures held { OnOk result ((k : ℕ) → is_held self.new k ≡ (is_held self.old k || has_byte_of offset count k)) }
-        ensures stored { OnOk result ((k : ℕ) → has_byte_of offset count k ≡ true → is_stored self.new k ≡ true) }
+        ensures held { OnOk result ((k : ℕ)
+            → is_held self.new k ≡ (is_held self.old k || has_byte_of offset count k)) }
+        ensures stored { OnOk result ((k : ℕ) → has_byte_of offset count k ≡ true
+            → is_stored self.new k ≡ true) }
     {
         if count == 0 {
             return Ok(());
@@ -229,12 +233,14 @@ impl<A: Allocator + Copy> Paged<A> {
     ) -> Result<(), NoMemory>
         requires some { 0 < length piece.now }
         requires within { offset + length piece.now ≤ length (image_of self.old) }
-        requires stored { (k : ℕ) → has_byte_of offset (length piece.now) k ≡ true → is_stored self.old k ≡ true }
+        requires stored { (k : ℕ) → has_byte_of offset (length piece.now) k ≡ true
+            → is_stored self.old k ≡ true }
         requires ready { pages.items ≡ pages_after (page_of self.old) offset piece.now
             (offset / 4096) (div_ceil (offset + length piece.now) 4096 - offset / 4096) }
         ensures never_fails { IsOk result }
         ensures size { self.new.size ≡ self.old.size }
-        ensures written { image_of self.new ≡ overwritten (image_of self.old) offset (length piece.now) piece.now }
+        ensures written { image_of self.new
+            ≡ overwritten (image_of self.old) offset (length piece.now) piece.now }
         ensures held { (k : ℕ) → is_held self.new k ≡ is_held self.old k }
     {
         let mut number = self.end_of(offset, piece.len()).div_ceil(PAGE);
@@ -268,7 +274,8 @@ impl<A: Allocator + Copy> Paged<A> {
         requires whole { length page ≡ 4096 }
         requires within { offset + 4096 ≤ length (image_of self.old) }
         requires stored { is_stored self.old (offset / 4096) ≡ true }
-        ensures written { image_of self.new ≡ overwritten (image_of self.old) offset (length page) page }
+        ensures written { image_of self.new
+            ≡ overwritten (image_of self.old) offset (length page) page }
         ensures held { (k : ℕ) → is_held self.new k ≡ is_held self.old k }
     {
         let _end = self.end_of(offset, PAGE);
@@ -298,7 +305,8 @@ impl<A: Allocator + Copy> Paged<A> {
         requires within { offset + count ≤ length (image_of self.old) }
         ensures zeroed { OnOk result (image_of self.new
             ≡ overwritten (image_of self.old) offset count (replicate count 0)) }
-        ensures held { OnOk result ((k : ℕ) → is_held self.new k ≡ (is_held self.old k || has_byte_of offset count k)) }
+        ensures held { OnOk result ((k : ℕ)
+            → is_held self.new k ≡ (is_held self.old k || has_byte_of offset count k)) }
         ensures no_memory { OnErr result (image_of self.new ≡ image_of self.old) }
     {
         let empty = emptied_pages(&self.pages, self.size, offset, count);
@@ -318,7 +326,8 @@ impl<A: Allocator + Copy> Paged<A> {
     fn give_back(&mut self, offset: usize, count: usize)
         requires some { 0 < count }
         requires within { offset + count ≤ length (image_of self.old) }
-        ensures zeroed { image_of self.new ≡ overwritten (image_of self.old) offset count (replicate count 0) }
+        ensures zeroed { image_of self.new
+            ≡ overwritten (image_of self.old) offset count (replicate count 0) }
         ensures held { (k : ℕ) → is_held self.new k
             ≡ (is_held self.old k && not (lies_whole_in self.old.size offset count k)) }
     {
@@ -395,7 +404,8 @@ impl<A: Allocator + Copy> Image for Paged<A> {
             ≡ overwritten (image_of self.old) offset (length piece.old) piece.old) }
         ensures held { OnOk result ((k : ℕ) → is_held self.new k
             ≡ (is_held self.old k || has_byte_of offset (length piece.old) k)) }
-        ensures no_memory { OnErr result ((image_of self.new ≡ image_of self.old) × (piece.new ≡ piece.old)) }
+        ensures no_memory { OnErr result ((image_of self.new ≡ image_of self.old)
+            × (piece.new ≡ piece.old)) }
     {
         if offset % PAGE != 0 || !self.stores(offset / PAGE) {
             return self.write(offset, piece);

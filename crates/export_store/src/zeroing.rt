@@ -27,7 +27,8 @@ impl PageRange {
 /// The pages that lie whole in a range.
 pub(crate) fn whole_pages(size: usize, offset: usize, count: usize) -> PageRange
     requires { offset + count ≤ size }
-    ensures { (k : ℕ) → 4096 * k < size → is_between result.first result.end k ≡ lies_whole_in size offset count k }
+    ensures { (k : ℕ) → 4096 * k < size
+        → is_between result.first result.end k ≡ lies_whole_in size offset count k }
 {
     let end = offset + count;
     let last = if end == size {
@@ -43,7 +44,8 @@ pub(crate) fn whole_pages(size: usize, offset: usize, count: usize) -> PageRange
 
 // Whether a page at the edge of a range stays stored once the range is zero.
 fn stays<A: Allocator + Copy>(pages: &Table<A>, whole: PageRange, number: usize) -> bool
-    ensures { result ≡ (is_some (in_table pages.now number) && not (is_between whole.first whole.end number)) }
+    ensures { result
+        ≡ (is_some (in_table pages.now number) && not (is_between whole.first whole.end number)) }
 {
     pages.stores(number) && !whole.has(number)
 }

@@ -55,7 +55,8 @@ pub(crate) fn folded<A: Allocator>(keys: &mut Vec<Option<i128>, A>, offset: i128
     requires { AllKeysInRange (keys_less offset keys.old.items) }
     ensures near { IsNear result }
     ensures keys { keys_less result keys.new.items ≡ keys_less offset keys.old.items }
-    ensures order { (order places : List ℕ) → IsHeap keys.old.items order places → IsHeap keys.new.items order places }
+    ensures order { (order places : List ℕ) → IsHeap keys.old.items order places
+        → IsHeap keys.new.items order places }
 {
     if -FAR <= offset && offset <= FAR {
         return offset;

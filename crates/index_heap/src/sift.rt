@@ -68,7 +68,8 @@ fn sooner_child(order: &[usize], keys: &[Option<i128>], left: usize) -> usize
     requires left { left < length order.now }
     requires ids { (k : ℕ) → k < length order.now → slice_index_or order.now k 0 < length keys.now }
     ensures child { (result ≡ left) ⊎ ((result ≡ left + 1) × (left + 1 < length order.now)) }
-    ensures first { (result ≡ left) → left + 1 < length order.now → IsAfter keys.now order.now (left + 1) left }
+    ensures first { (result ≡ left) → left + 1 < length order.now
+        → IsAfter keys.now order.now (left + 1) left }
     ensures second { (result ≡ left + 1) → IsAfter keys.now order.now left (left + 1) }
 {
     let right = left + 1;
@@ -103,7 +104,8 @@ pub(crate) fn settle<A: Allocator>(
 )
     requires few { length order.old.items < 2 ^ 32 }
     requires id { id < length order.old.items }
-    requires loose { IsLoose keys.now order.old.items places.old.items (slice_index_or places.old.items id 0) }
+    requires loose { IsLoose keys.now order.old.items places.old.items
+        (slice_index_or places.old.items id 0) }
     ensures { IsHeap keys.now order.new.items places.new.items }
 {
     let at = places[id];

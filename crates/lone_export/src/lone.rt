@@ -76,7 +76,8 @@ impl<I: Image> Lone<I> {
 
     /// Nothing more arrives on the session.
     pub fn leave(&mut self, session: u64) -> Result<(), NotOpen>
-        ensures step { Does {A = I.Alloc} self.old self.new (Step.Leave session) (leave_said result) }
+        ensures step { Does {A = I.Alloc} self.old self.new (Step.Leave session)
+            (leave_said result) }
         ensures slots { self.new.slots ≡ self.old.slots }
     {
         if let Err(refused) = self.sessions.leave(session) {
@@ -140,7 +141,8 @@ impl<I: Image> Lone<I> {
         moment: Moment,
         request: Request<I::Alloc>,
     ) -> Result<Arrived, NotArrived<I::Alloc>>
-        ensures step { Does {A = I.Alloc} self.old self.new (Step.Arrive session moment request) (arrived_said result) }
+        ensures step { Does {A = I.Alloc} self.old self.new (Step.Arrive session moment request)
+            (arrived_said result) }
         ensures back { IfErr result (λ e. e.request ≡ request) }
         ensures slots { self.new.slots ≡ self.old.slots }
     {
@@ -173,8 +175,10 @@ impl<I: Image> Lone<I> {
     pub fn perform(&mut self, slot: usize, number: u64) -> Option<bool>
         ensures some { IfSome result (λ memory. (slot_at self.old number ≡ Some slot)
             × Does {A = I.Alloc} self.old self.new (Step.Perform number memory) (StepAnswer.Performed memory)) }
-        ensures none { IfNone result ((slot_at self.old number ≢ Some slot) × (self.new ≡ self.old)) }
-        ensures slots { OnSome result (self.new.slots ≡ slots_without self.old.state.out self.old.slots number) }
+        ensures none { IfNone result ((slot_at self.old number ≢ Some slot)
+            × (self.new ≡ self.old)) }
+        ensures slots { OnSome result (self.new.slots
+            ≡ slots_without self.old.state.out self.old.slots number) }
     {
         let Some(row) = self.queue.finish(slot, number) else {
             return None;
@@ -188,7 +192,8 @@ impl<I: Image> Lone<I> {
     ///
     /// It takes no memory.
     pub fn retune(&mut self, rates: Rates) -> Result<(), RetuneRefusal>
-        ensures step { Does {A = I.Alloc} self.old self.new (Step.Retune rates) (retune_said result) }
+        ensures step { Does {A = I.Alloc} self.old self.new (Step.Retune rates)
+            (retune_said result) }
         ensures slots { self.new.slots ≡ self.old.slots }
     {
         if let Err(refusal) = self.may_retune() {
@@ -243,8 +248,10 @@ fn answer<I: Image>(image: &mut I, sessions: &mut ReplyBox<I::Alloc>, row: Row<I
     requires owed { IsOwed sessions.old row.session }
     ensures request { IsRequest row.request }
     ensures done { OnTrue result (I.bytes image.new ≡ image_after (I.bytes image.old) row.request) }
-    ensures no_memory { OnFalse result ((I.bytes image.new ≡ I.bytes image.old) × IsTrue (may_want_memory row.request)) }
-    ensures replied { sessions.new ≡ after_put sessions.old row.session (reply_to result row.request.head.cookie (data_of (I.bytes image.old) row.request)) }
+    ensures no_memory { OnFalse result ((I.bytes image.new ≡ I.bytes image.old)
+        × IsTrue (may_want_memory row.request)) }
+    ensures replied { sessions.new ≡ after_put sessions.old row.session
+        (reply_to result row.request.head.cookie (data_of (I.bytes image.old) row.request)) }
 {
     let Row { session, request } = row;
     let cookie = request.head().cookie;
@@ -270,8 +277,10 @@ fn settle<A: Allocator + Copy>(
     done: Done<A>,
 )
     requires held { IsSome (item_held queue.old slot number) }
-    requires owed { (row : Row A) → item_held queue.old slot number ≡ Some row → IsOwed sessions.old row.session }
-    ensures { Settles queue.old sessions.old slot number done.memory done.content queue.new sessions.new }
+    requires owed { (row : Row A) → item_held queue.old slot number ≡ Some row
+        → IsOwed sessions.old row.session }
+    ensures { Settles queue.old sessions.old slot number done.memory done.content queue.new
+        sessions.new }
 {
     let Some(row) = queue.finish(slot, number) else {
         unreachable!();

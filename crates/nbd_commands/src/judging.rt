@@ -76,7 +76,8 @@ fn has_unknown_flag<A: Allocator>(request: &Request<A>) -> bool
 }
 
 fn is_change<A: Allocator>(request: &Request<A>) -> bool
-    ensures { result ≡ (is_write request.now || is_trim request.now || is_write_zeroes request.now) }
+    ensures { result
+        ≡ (is_write request.now || is_trim request.now || is_write_zeroes request.now) }
 {
     let kind = request.head().kind;
     kind == WRITE || kind == TRIM || kind == WRITE_ZEROES

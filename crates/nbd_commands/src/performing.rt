@@ -46,7 +46,8 @@ impl<A: Allocator> Done<A> {
 
 fn read<I: Image>(image: &I, offset: usize, count: usize) -> Done<I::Alloc>
     requires { offset + count ≤ length (I.bytes image.now) }
-    ensures done { OnTrue result.memory ((result.error ≡ 0) × (result.content ≡ range_of (I.bytes image.now) offset count)) }
+    ensures done { OnTrue result.memory ((result.error ≡ 0)
+        × (result.content ≡ range_of (I.bytes image.now) offset count)) }
     ensures no_memory { OnFalse result.memory ((result.error ≡ 12) × (result.content ≡ [])) }
 {
     match image.read(offset, count) {
@@ -130,7 +131,8 @@ fn write_owned<I: Image>(
     requires write { request.head.kind ≡ 1 }
     ensures done { IfOk result (λ content. (content ≡ data_of (I.bytes image.old) request)
         × (I.bytes image.new ≡ image_after (I.bytes image.old) request)) }
-    ensures no_memory { IfErr result (λ back. (back ≡ request) × (I.bytes image.new ≡ I.bytes image.old)) }
+    ensures no_memory { IfErr result (λ back. (back ≡ request)
+        × (I.bytes image.new ≡ I.bytes image.old)) }
 {
     let (head, mut payload) = request.into_parts();
     match image.put(head.offset as usize, &mut payload) {

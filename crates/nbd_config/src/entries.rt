@@ -96,7 +96,8 @@ pub fn export_in(table: &Table) -> Option<ExportSettings<'_>>
 }
 
 fn value_at<'a>(table: &'a Table, key: &str) -> Option<&'a Value>
-    ensures { option_map (λ value. view value.now) result ≡ get_member key.now (table_view table.now) }
+    ensures { option_map (λ value. view value.now) result
+        ≡ get_member key.now (table_view table.now) }
 {
     table.get(key)
 }

@@ -37,7 +37,8 @@ pub fn read_config<A: Allocator + Copy>(
 /// What a text that was not parsed comes to.
 fn unparsed(error: &Error) -> FileError
     ensures no_memory { IsMemory error.now → result ≡ FileError.NoMemory }
-    ensures refused { IfRefused (λ refusal. (refusal ≡ refused Place.Top Reason.NotToml) × (¬ IsMemory error.now)) result }
+    ensures refused { IfRefused (λ refusal. (refusal ≡ refused Place.Top Reason.NotToml)
+        × (¬ IsMemory error.now)) result }
 {
     if error.is_memory() {
         FileError::NoMemory
@@ -49,7 +50,8 @@ fn unparsed(error: &Error) -> FileError
 /// Reads a table, first its top level and then each export in order.
 fn config_of<A: Allocator + Copy>(alloc: A, table: &Table) -> Result<Config<A>, FileError>
     ensures read { IfOk result (λ config. configured (table_view table.now) ≡ Ok config) }
-    ensures refused { IfErr result (IfRefused (λ refusal. configured (table_view table.now) ≡ Err refusal)) }
+    ensures refused { IfErr result (IfRefused (λ refusal.
+        configured (table_view table.now) ≡ Err refusal)) }
 {
     if let Some(reason) = top_refusal(table) {
         return Err(refused(Place::Top, reason));
@@ -88,7 +90,8 @@ fn is_bad_count(values: &[Value]) -> bool
 /// Reads the exports in order, up to the first that is refused.
 fn exports_of<A: Allocator + Copy>(alloc: A, values: &[Value]) -> Result<ExportList<A>, FileError>
     ensures read { IfOk result (λ list. exports_behind [] (values_of values.now) ≡ Ok list) }
-    ensures refused { IfErr result (IfRefused (λ refusal. exports_behind [] (values_of values.now) ≡ Err refusal)) }
+    ensures refused { IfErr result (IfRefused (λ refusal.
+        exports_behind [] (values_of values.now) ≡ Err refusal)) }
 {
     let mut list = ExportList::new(alloc);
     for (at, value) in values.iter().enumerate() {
@@ -106,7 +109,8 @@ fn add_export<A: Allocator + Copy>(
     list: &mut ExportList<A>,
 ) -> Result<(), FileError>
     ensures added { OnOk result (IsNext list.old (view value.now) list.new) }
-    ensures refused { IfErr result (IfRefused (λ refusal. (next_export list.old (view value.now) ≡ Err refusal.reason) × (refusal.place ≡ Place.Export at))) }
+    ensures refused { IfErr result (IfRefused (λ refusal. (next_export list.old (view value.now)
+        ≡ Err refusal.reason) × (refusal.place ≡ Place.Export at))) }
 {
     let place = Place::Export(at);
     let settings = match said_by(at, value) {

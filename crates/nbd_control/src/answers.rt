@@ -74,7 +74,8 @@ fn put_line<A: Allocator>(answer: Answer, text: &mut Vec<u8, A>) -> Result<(), N
 
 /// Puts a refusal behind a text.
 fn put_refusal<A: Allocator>(cause: Refused, text: &mut Vec<u8, A>) -> Result<(), NoMemory>
-    ensures { OnOk result (text.new.items ≡ text.old.items ++ (codes "refused " ++ cause_text cause)) }
+    ensures { OnOk result (text.new.items ≡ text.old.items
+        ++ (codes "refused " ++ cause_text cause)) }
 {
     text.extend_from_slice(b"refused ")?;
     put_cause(cause, text)?;

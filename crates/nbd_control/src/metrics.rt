@@ -23,7 +23,8 @@ pub fn write_metrics<A: Allocator + Copy>(
     exports: &[ExportStats<'_>],
     text: &mut Vec<u8, A>,
 ) -> Result<(), NoMemory>
-    ensures ok { OnOk result (text.new.items ≡ text.old.items ++ metrics_text server.now exports.now) }
+    ensures ok { OnOk result (text.new.items ≡ text.old.items
+        ++ metrics_text server.now exports.now) }
     ensures err { OnErr result (text.new.items ≡ text.old.items) }
 {
     let mut answer = Vec::new(alloc);
@@ -51,7 +52,8 @@ fn put_server_metrics<A: Allocator>(
     server: &ServerStats,
     text: &mut Vec<u8, A>,
 ) -> Result<(), NoMemory>
-    ensures { OnOk result (text.new.items ≡ text.old.items ++ flat_map (server_metric server.now) figures.now) }
+    ensures { OnOk result (text.new.items ≡ text.old.items
+        ++ flat_map (server_metric server.now) figures.now) }
 {
     for &figure in figures {
         put_server_metric(figure, server, text)?;
@@ -97,7 +99,8 @@ fn put_export_metrics<A: Allocator>(
     exports: &[ExportStats<'_>],
     text: &mut Vec<u8, A>,
 ) -> Result<(), NoMemory>
-    ensures { OnOk result (text.new.items ≡ text.old.items ++ flat_map (export_metric exports.now) figures.now) }
+    ensures { OnOk result (text.new.items ≡ text.old.items
+        ++ flat_map (export_metric exports.now) figures.now) }
 {
     for &figure in figures {
         put_export_metric(figure, exports, text)?;

@@ -90,7 +90,8 @@ fn front_word(text: &str) -> (&str, &str)
 /// With this text behind the verb `stats`.
 fn stats<A: Allocator + Copy>(alloc: A, text: &str) -> Result<Command<A>, CommandError>
     ensures read { IfOk result (λ command. stats_said (fields_in text.now) ≡ Ok command) }
-    ensures refused { IfErr result (IfRefused (λ cause. stats_said {A = A} (fields_in text.now) ≡ Err cause)) }
+    ensures refused { IfErr result (IfRefused (λ cause.
+        stats_said {A = A} (fields_in text.now) ≡ Err cause)) }
 {
     let fields = fields_of(alloc, text.as_bytes())?;
     match fields.as_slice() {
@@ -104,7 +105,8 @@ fn stats<A: Allocator + Copy>(alloc: A, text: &str) -> Result<Command<A>, Comman
 /// With this text behind the verb `stop`.
 fn stop<A: Allocator + Copy>(alloc: A, text: &str) -> Result<Command<A>, CommandError>
     ensures read { IfOk result (λ command. stop_said (fields_in text.now) ≡ Ok command) }
-    ensures refused { IfErr result (IfRefused (λ cause. stop_said {A = A} (fields_in text.now) ≡ Err cause)) }
+    ensures refused { IfErr result (IfRefused (λ cause.
+        stop_said {A = A} (fields_in text.now) ≡ Err cause)) }
 {
     let fields = fields_of(alloc, text.as_bytes())?;
     match fields.as_slice() {
@@ -118,7 +120,8 @@ fn stop<A: Allocator + Copy>(alloc: A, text: &str) -> Result<Command<A>, Command
 /// With this text behind the verb `sessions`.
 fn sessions<A: Allocator + Copy>(alloc: A, text: &str) -> Result<Command<A>, CommandError>
     ensures read { IfOk result (λ command. sessions_said (fields_in text.now) ≡ Ok command) }
-    ensures refused { IfErr result (IfRefused (λ cause. sessions_said {A = A} (fields_in text.now) ≡ Err cause)) }
+    ensures refused { IfErr result (IfRefused (λ cause.
+        sessions_said {A = A} (fields_in text.now) ≡ Err cause)) }
 {
     let fields = fields_of(alloc, text.as_bytes())?;
     match fields.as_slice() {
@@ -195,8 +198,10 @@ fn quoted_name<A: Allocator + Copy>(
     text: &str,
 ) -> Result<(Name<A>, &str), CommandError>
     requires { starts_string text.now ≡ true }
-    ensures read { IfOk result (λ named. quoted_name (quoted text.now) ≡ Ok (named.0, named.1.now)) }
-    ensures refused { IfErr result (IfRefused (λ cause. quoted_name (quoted text.now) ≡ Err cause)) }
+    ensures read { IfOk result (λ named.
+        quoted_name (quoted text.now) ≡ Ok (named.0, named.1.now)) }
+    ensures refused { IfErr result (IfRefused (λ cause.
+        quoted_name (quoted text.now) ≡ Err cause)) }
 {
     match quoted(heap, text) {
         Ok((name, rest)) => {
@@ -226,7 +231,8 @@ fn ends_field(text: &str) -> bool
 /// A reservation, a limit and a weight.
 fn rates<A: Allocator + Copy>(alloc: A, text: &str) -> Result<Rates, CommandError>
     ensures read { IfOk result (λ rates. rates_said (fields_in text.now) ≡ Ok rates) }
-    ensures refused { IfErr result (IfRefused (λ cause. rates_said (fields_in text.now) ≡ Err cause)) }
+    ensures refused { IfErr result (IfRefused (λ cause.
+        rates_said (fields_in text.now) ≡ Err cause)) }
 {
     let fields = fields_of(alloc, text.as_bytes())?;
     match rates_said(&fields) {
@@ -251,7 +257,8 @@ fn rates_said(fields: &[&[u8]]) -> Result<Rates, Refused>
 /// The number of a session.
 fn session<A: Allocator + Copy>(alloc: A, text: &str) -> Result<u64, CommandError>
     ensures read { IfOk result (λ session. session_said (fields_in text.now) ≡ Ok session) }
-    ensures refused { IfErr result (IfRefused (λ cause. session_said (fields_in text.now) ≡ Err cause)) }
+    ensures refused { IfErr result (IfRefused (λ cause.
+        session_said (fields_in text.now) ≡ Err cause)) }
 {
     let fields = fields_of(alloc, text.as_bytes())?;
     match session_said(&fields) {

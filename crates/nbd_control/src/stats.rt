@@ -65,7 +65,8 @@ pub fn write_stats<A: Allocator + Copy>(
     exports: &[ExportStats<'_>],
     text: &mut Vec<u8, A>,
 ) -> Result<(), NoMemory>
-    ensures ok { OnOk result (text.new.items ≡ text.old.items ++ stats_text server.now exports.now) }
+    ensures ok { OnOk result (text.new.items ≡ text.old.items
+        ++ stats_text server.now exports.now) }
     ensures err { OnErr result (text.new.items ≡ text.old.items) }
 {
     let mut answer = Vec::new(alloc);
@@ -103,7 +104,8 @@ fn put_server_fields<A: Allocator>(
     server: &ServerStats,
     text: &mut Vec<u8, A>,
 ) -> Result<(), NoMemory>
-    ensures { OnOk result (text.new.items ≡ text.old.items ++ flat_map (server_field server.now) figures.now) }
+    ensures { OnOk result (text.new.items ≡ text.old.items
+        ++ flat_map (server_field server.now) figures.now) }
 {
     for &figure in figures {
         put_field(figure.row(), figure.reading(server), text)?;
@@ -141,7 +143,8 @@ fn put_export_fields<A: Allocator>(
     export: &ExportStats<'_>,
     text: &mut Vec<u8, A>,
 ) -> Result<(), NoMemory>
-    ensures { OnOk result (text.new.items ≡ text.old.items ++ flat_map (export_field export.now) figures.now) }
+    ensures { OnOk result (text.new.items ≡ text.old.items
+        ++ flat_map (export_field export.now) figures.now) }
 {
     for &figure in figures {
         put_field(figure.row(), figure.reading(export), text)?;

@@ -50,7 +50,8 @@ pub enum Next {
 /// What comes after an option.
 pub fn next_for<A: Allocator>(exports: &[Export<A>], number: u32, content: &[u8]) -> Next
     requires { length exports.now ≤ 64 }
-    ensures value { result ≡ next_after exports.now (record { number = number; content = content.now }) }
+    ensures value { result
+        ≡ next_after exports.now (record { number = number; content = content.now }) }
     ensures within { IsWithin exports.now result }
 {
     if number == EXPORT_NAME {
@@ -79,7 +80,8 @@ pub fn replies_for<A: Allocator + Copy>(
     number: u32,
     content: &[u8],
 ) -> Result<Vec<OptionReply<A>, A>, NoMemory>
-    ensures { IfOk result (λ v. v.items ≡ replies_to exports.now (record { number = number; content = content.now })) }
+    ensures { IfOk result (λ v.
+        v.items ≡ replies_to exports.now (record { number = number; content = content.now })) }
 {
     if number == EXPORT_NAME {
         return Ok(Vec::new(alloc));
@@ -130,7 +132,8 @@ fn inform<A: Allocator + Copy>(
     number: u32,
     content: &[u8],
 ) -> Result<Vec<OptionReply<A>, A>, NoMemory>
-    ensures { IfOk result (λ v. v.items ≡ informed exports.now (record { number = number; content = content.now })) }
+    ensures { IfOk result (λ v.
+        v.items ≡ informed exports.now (record { number = number; content = content.now })) }
 {
     if !is_shaped(content) {
         return bare(alloc, number, INVALID);
@@ -191,7 +194,8 @@ fn add_asked<A: Allocator + Copy>(
     rest: &[u8],
 ) -> Result<(), NoMemory>
     requires { length front.now + length rest.now < 2 ^ 32 }
-    ensures { OnOk result (replies.new.items ≡ replies.old.items ++ where_asked asked (reply number 3 (front.now ++ rest.now) ∷ [])) }
+    ensures { OnOk result (replies.new.items ≡ replies.old.items
+        ++ where_asked asked (reply number 3 (front.now ++ rest.now) ∷ [])) }
 {
     if asked {
         return add(alloc, replies, number, INFORMATION, front, rest);
@@ -207,7 +211,8 @@ fn describe<A: Allocator + Copy>(
     number: u32,
     export: &Export<A>,
 ) -> Result<(), NoMemory>
-    ensures { OnOk result (replies.new.items ≡ replies.old.items ++ where_asked asked (description_information number export.now.description)) }
+    ensures { OnOk result (replies.new.items ≡ replies.old.items
+        ++ where_asked asked (description_information number export.now.description)) }
 {
     if let Some(text) = export.description() {
         return add_asked(alloc, replies, asked, number, &[0, 2], text);
@@ -217,7 +222,8 @@ fn describe<A: Allocator + Copy>(
 
 /// The data of EXPORT: the type, the size and the transmission flags.
 fn export_payload<A: Allocator>(export: &Export<A>) -> [u8; 12]
-    ensures { result ≡ to_be_bytes w16 0 ++ (to_be_bytes w64 export.now.size ++ to_be_bytes w16 export.now.flags) }
+    ensures { result ≡ to_be_bytes w16 0
+        ++ (to_be_bytes w64 export.now.size ++ to_be_bytes w16 export.now.flags) }
 {
     let mut bytes = [0; 12];
     bytes[2..10].copy_from_slice(&export.size().to_be_bytes());
@@ -248,7 +254,8 @@ fn add<A: Allocator + Copy>(
     rest: &[u8],
 ) -> Result<(), NoMemory>
     requires { length front.now + length rest.now < 2 ^ 32 }
-    ensures { OnOk result (replies.new.items ≡ replies.old.items ++ reply option kind (front.now ++ rest.now) ∷ []) }
+    ensures { OnOk result (replies.new.items ≡ replies.old.items
+        ++ reply option kind (front.now ++ rest.now) ∷ []) }
 {
     let mut content = Vec::from_slice(alloc, front)?;
     content.extend_from_slice(rest)?;

@@ -57,13 +57,16 @@ impl<'a, A: Allocator + Copy> Haggle<'a, A> {
 
     /// The number of an option and the length of its data in bytes. An option whose head is refused isn't counted.
     pub fn head(&mut self, bytes: &[u8; 16]) -> Result<(u32, u32), HeadFault>
-        ensures ok { IfOk result (λ h. (bytes.now ≡ option_head_text h.0 h.1) × (head_fault self.old.seen bytes.now ≡ None)) }
+        ensures ok { IfOk result (λ h. (bytes.now ≡ option_head_text h.0 h.1)
+            × (head_fault self.old.seen bytes.now ≡ None)) }
         ensures err { IfErr result (λ e. head_fault self.old.seen bytes.now ≡ Some e) }
-        ensures counted { OnOk result (self.new ≡ record { table = self.old.table; seen = self.old.seen + 1 }) }
+        ensures counted { OnOk result (self.new
+            ≡ record { table = self.old.table; seen = self.old.seen + 1 }) }
         ensures kept { OnErr result (self.new ≡ self.old) }
 
         // what these say of the bytes
-        ensures within { IfOk result (λ h. (h.0 < 2 ^ 32) × (h.1 ≤ 65536) × (self.old.seen < 1000)) }
+        ensures within { IfOk result (λ h. (h.0 < 2 ^ 32) × (h.1 ≤ 65536)
+            × (self.old.seen < 1000)) }
         ensures bad_magic { IsErrOf result HeadFault.BadMagic → take 8 bytes.now ≢ option_magic }
         ensures too_many { IsErrOf result HeadFault.TooMany
             → ((number : ℕ) × (count : ℕ) × (bytes.now ≡ option_head_text number count) × (number < 2 ^ 32) × (count < 2 ^ 32) × (1000 ≤ self.old.seen)) }
@@ -85,7 +88,8 @@ impl<'a, A: Allocator + Copy> Haggle<'a, A> {
 
     /// What comes after an option. This takes no memory, so that a session can be asked for before a reply is made.
     pub fn next(&self, number: u32, content: &[u8]) -> Next
-        ensures value { result ≡ next_after self.now.table (record { number = number; content = content.now }) }
+        ensures value { result
+            ≡ next_after self.now.table (record { number = number; content = content.now }) }
         ensures within { IsWithin self.now.table result }
     {
         next_for(self.table.exports(), number, content)
@@ -98,8 +102,10 @@ impl<'a, A: Allocator + Copy> Haggle<'a, A> {
         number: u32,
         content: &[u8],
     ) -> Result<(Vec<OptionReply<A>, A>, Next), NoMemory>
-        ensures replies { IfOk result (λ r. r.0.items ≡ replies_to self.old.table (record { number = number; content = content.now })) }
-        ensures next { IfOk result (λ r. r.1 ≡ next_after self.old.table (record { number = number; content = content.now })) }
+        ensures replies { IfOk result (λ r. r.0.items
+            ≡ replies_to self.old.table (record { number = number; content = content.now })) }
+        ensures next { IfOk result (λ r.
+            r.1 ≡ next_after self.old.table (record { number = number; content = content.now })) }
         ensures within { IfOk result (λ r. IsWithin self.old.table r.1) }
         ensures kept { self.new ≡ self.old }
     {

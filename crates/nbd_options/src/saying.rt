@@ -78,8 +78,10 @@ pub fn said<A: Allocator + Copy>(
     attached: Attached,
 ) -> Result<(Vec<u8, A>, Option<HaggleEnd>), NoMemory>
     requires { IsWithin table.now next }
-    ensures text { IfOk result (λ r. r.0.items ≡ (said_by table.now no_zeroes replies.now next attached).text) }
-    ensures end { IfOk result (λ r. r.1 ≡ (said_by table.now no_zeroes replies.now next attached).end) }
+    ensures text { IfOk result (λ r.
+        r.0.items ≡ (said_by table.now no_zeroes replies.now next attached).text) }
+    ensures end { IfOk result (λ r.
+        r.1 ≡ (said_by table.now no_zeroes replies.now next attached).end) }
 {
     match next {
         Next::Go(export) => said_by_go(alloc, replies, export, attached),
@@ -120,7 +122,8 @@ fn said_by_name<A: Allocator + Copy>(
     attached: Attached,
 ) -> Result<(Vec<u8, A>, Option<HaggleEnd>), NoMemory>
     requires { export < length table.now }
-    ensures text { IfOk result (λ r. r.0.items ≡ (said_by_name table.now no_zeroes export attached).text) }
+    ensures text { IfOk result (λ r.
+        r.0.items ≡ (said_by_name table.now no_zeroes export attached).text) }
     ensures end { IfOk result (λ r. r.1 ≡ (said_by_name table.now no_zeroes export attached).end) }
 {
     match attached {

@@ -129,7 +129,12 @@ impl<A: Allocator + Copy> ExportTable<A> {
         requires short { length name.now ≤ 255 }
         requires described { ForSome (option_copied description) (λ d. length d ≤ 4096) }
         requires few { length self.old < 64 }
-        ensures ok { OnOk result (self.new ≡ self.old ++ record { name = name.now; description = option_copied description.entry; size = size; flags = flags } ∷ []) }
+        ensures ok { OnOk result (self.new ≡ self.old ++ record {
+          name = name.now;
+          description = option_copied description.entry;
+          size = size;
+          flags = flags;
+        } ∷ []) }
         ensures err { OnErr result (self.new ≡ self.old) }
     {
         let export = Export {

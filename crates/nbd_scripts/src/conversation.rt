@@ -28,7 +28,13 @@ pub fn talk_script<A: Allocator + Copy, R: Read, W: Write>(
     input: &mut Counted<R>,
     output: &mut Counted<W>,
 ) -> Outcome
-    ensures told { TellsTalk (record { unread = R.remaining input.old.inner; left = R.remaining input.new.inner; old = W.contents output.old.inner; new = W.contents output.new.inner }) result }
+    ensures told { TellsTalk
+        (record {
+          unread = R.remaining input.old.inner;
+          left = R.remaining input.new.inner;
+          old = W.contents output.old.inner;
+          new = W.contents output.new.inner;
+        }) result }
     ensures reads { CountsRead result input.old.failures input.new.failures }
     ensures writes { CountsWrite result output.old.failures output.new.failures }
 {
@@ -49,12 +55,14 @@ fn converse<A: Allocator + Copy, W: Write>(
     body: &[u8],
     output: &mut Counted<W>,
 ) -> Outcome
-    ensures done { result ≡ Outcome.Done → Prints config.now.exports body.now (W.contents output.old.inner) (W.contents output.new.inner) }
+    ensures done { result ≡ Outcome.Done → Prints config.now.exports body.now
+        (W.contents output.old.inner) (W.contents output.new.inner) }
     ensures refused { result ≡ Outcome.Refused → IsErr (decode_of (digits_of body.now))
         × Appends (W.contents output.old.inner) (W.contents output.new.inner) (codes "hex refused\n") }
     ensures read { result ≢ Outcome.ReadFailed }
     ensures counted { CountsWrite result output.old.failures output.new.failures }
-    ensures no_memory { result ≡ Outcome.NoMemory → W.contents output.new.inner ≡ W.contents output.old.inner }
+    ensures no_memory { result ≡ Outcome.NoMemory
+        → W.contents output.new.inner ≡ W.contents output.old.inner }
     ensures write_failed { result ≡ Outcome.WriteFailed → CutShort
         (λ all. Prints config.now.exports body.now (W.contents output.old.inner) all ⊎ (IsErr (decode_of (digits_of body.now)) × Appends (W.contents output.old.inner) all (codes "hex refused\n")))
         (W.contents output.old.inner) (W.contents output.new.inner) }
@@ -85,7 +93,8 @@ fn refuse_hex<W: Write>(error: &FromHexError, output: &mut Counted<W>) -> Outcom
     ensures counted { CountsWrite result output.old.failures output.new.failures }
     ensures refused { result ≡ Outcome.Refused → (error.now ≢ FromHexError.OutOfMemory)
         × Appends (W.contents output.old.inner) (W.contents output.new.inner) (codes "hex refused\n") }
-    ensures no_memory { result ≡ Outcome.NoMemory → W.contents output.new.inner ≡ W.contents output.old.inner }
+    ensures no_memory { result ≡ Outcome.NoMemory
+        → W.contents output.new.inner ≡ W.contents output.old.inner }
     ensures write_failed { result ≡ Outcome.WriteFailed → (error.now ≢ FromHexError.OutOfMemory)
         × WritesPart (W.contents output.old.inner) (W.contents output.new.inner) (codes "hex refused\n") }
 {

@@ -220,7 +220,8 @@ fn head_read(
     offset: &[u8],
     length: &[u8],
 ) -> Result<RequestHead, LineFault>
-    ensures { result ≡ ok_or (head_read cookie.now kind.now flags.now offset.now length.now) LineFault.Form }
+    ensures { result
+        ≡ ok_or (head_read cookie.now kind.now flags.now offset.now length.now) LineFault.Form }
 {
     Ok(RequestHead {
         flags: half_word(flags)?,
@@ -237,7 +238,8 @@ fn with_payload<A: Allocator + Copy>(
     head: RequestHead,
     fields: &[&[u8]],
 ) -> Result<Request<A>, LineFault>
-    ensures read { IfOk result (λ request. (request.head ≡ head) × (payload_of head (texts_of fields.now) ≡ Some request.payload)) }
+    ensures read { IfOk result (λ request. (request.head ≡ head)
+        × (payload_of head (texts_of fields.now) ≡ Some request.payload)) }
     ensures missed { IfErr result (IsMissed (payload_of head (texts_of fields.now))) }
 {
     match fields {
@@ -256,8 +258,10 @@ fn brings_payload(head: RequestHead) -> bool
 
 /// A request without a payload, if it has none.
 fn bare_request<A: Allocator + Copy>(head: RequestHead) -> Result<Request<A>, LineFault>
-    ensures whole { IfOk result (λ request. (request ≡ record { head = head; payload = [] }) × (brings_payload head ≡ false)) }
-    ensures refused { IfErr result (λ fault. (fault ≡ LineFault.Form) × (brings_payload head ≡ true)) }
+    ensures whole { IfOk result (λ request. (request ≡ record { head = head; payload = [] })
+        × (brings_payload head ≡ false)) }
+    ensures refused { IfErr result (λ fault. (fault ≡ LineFault.Form)
+        × (brings_payload head ≡ true)) }
 {
     if brings_payload(head) {
         return Err(LineFault::Form);
@@ -271,7 +275,8 @@ fn write_request<A: Allocator + Copy>(
     head: RequestHead,
     digits: &[u8],
 ) -> Result<Request<A>, LineFault>
-    ensures whole { IfOk result (λ request. (request.head ≡ head) × (payload_of head (digits.now ∷ []) ≡ Some request.payload)) }
+    ensures whole { IfOk result (λ request. (request.head ≡ head)
+        × (payload_of head (digits.now ∷ []) ≡ Some request.payload)) }
     ensures missed { IfErr result (IsMissed (payload_of head (digits.now ∷ []))) }
 {
     if !brings_payload(head) || head.length > MAX_PAYLOAD {

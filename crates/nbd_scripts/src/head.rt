@@ -66,7 +66,8 @@ impl<A: Allocator + Copy> Draft<A> {
 
     /// Takes one line. One without fields, or that begins with `#`, is passed over.
     fn line(&mut self, alloc: A, line: &[u8]) -> Result<(), LineFault>
-        ensures taken { OnOk result (plan_after (plan_of self.old) line.now ≡ Ok (plan_of self.new)) }
+        ensures taken { OnOk result (plan_after (plan_of self.old) line.now
+            ≡ Ok (plan_of self.new)) }
         ensures refused { IfErr result (IsRefused (plan_after (plan_of self.old) line.now)) }
     {
         if is_comment(line) {
@@ -79,8 +80,10 @@ impl<A: Allocator + Copy> Draft<A> {
     /// Takes a line by its fields.
     #[tactic(auto, unfolding(crate::specs::Head::fields_said))]
     fn fields(&mut self, fields: &[&[u8]]) -> Result<(), LineFault>
-        ensures taken { OnOk result (fields_said (plan_of self.old) (texts_of fields.now) ≡ Ok (plan_of self.new)) }
-        ensures refused { IfErr result (IsRefused (fields_said (plan_of self.old) (texts_of fields.now))) }
+        ensures taken { OnOk result (fields_said (plan_of self.old) (texts_of fields.now)
+            ≡ Ok (plan_of self.new)) }
+        ensures refused { IfErr result
+            (IsRefused (fields_said (plan_of self.old) (texts_of fields.now))) }
     {
         match fields {
             [] => Ok(()),
@@ -99,8 +102,10 @@ impl<A: Allocator + Copy> Draft<A> {
     /// Takes the fields behind `inflight`.
     #[tactic(auto, unfolding(crate::specs::Head::inflight_line))]
     fn inflight(&mut self, fields: &[&[u8]]) -> Result<(), LineFault>
-        ensures taken { OnOk result (inflight_line (plan_of self.old) (texts_of fields.now) ≡ Ok (plan_of self.new)) }
-        ensures refused { IfErr result (IsRefused (inflight_line (plan_of self.old) (texts_of fields.now))) }
+        ensures taken { OnOk result (inflight_line (plan_of self.old) (texts_of fields.now)
+            ≡ Ok (plan_of self.new)) }
+        ensures refused { IfErr result
+            (IsRefused (inflight_line (plan_of self.old) (texts_of fields.now))) }
     {
         let count = number(only(fields)?)?;
         if self.inflight.is_some() {
@@ -116,8 +121,10 @@ impl<A: Allocator + Copy> Draft<A> {
     /// Takes the fields behind `export`.
     #[tactic(auto, unfolding(crate::specs::Head::export_line))]
     fn export(&mut self, fields: &[&[u8]]) -> Result<(), LineFault>
-        ensures taken { OnOk result (export_line (plan_of self.old) (texts_of fields.now) ≡ Ok (plan_of self.new)) }
-        ensures refused { IfErr result (IsRefused (export_line (plan_of self.old) (texts_of fields.now))) }
+        ensures taken { OnOk result (export_line (plan_of self.old) (texts_of fields.now)
+            ≡ Ok (plan_of self.new)) }
+        ensures refused { IfErr result
+            (IsRefused (export_line (plan_of self.old) (texts_of fields.now))) }
     {
         match fields {
             [name, size, settings @ ..] => {
@@ -131,7 +138,8 @@ impl<A: Allocator + Copy> Draft<A> {
 
     fn config(self) -> Result<Config<A>, Refusal>
         ensures made { IfOk result (λ config. offered (plan_of self) ≡ Ok config) }
-        ensures refused { IfErr result (λ refusal. offered (plan_of self) ≡ Err (LineFault.Value refusal)) }
+        ensures refused { IfErr result (λ refusal.
+            offered (plan_of self) ≡ Err (LineFault.Value refusal)) }
     {
         let Draft { exports, inflight } = self;
         Config::new(exports, inflight.unwrap_or(DEFAULT_INFLIGHT))

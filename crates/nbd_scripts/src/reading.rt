@@ -17,10 +17,13 @@ pub fn read_whole<A: Allocator + Copy, R: Read>(
     alloc: A,
     input: &mut Counted<R>,
 ) -> Result<Vec<u8, A>, Outcome>
-    ensures whole { IfOk result (λ text. IsWhole (R.remaining input.old.inner) (R.remaining input.new.inner) text.items) }
+    ensures whole { IfOk result (λ text.
+        IsWhole (R.remaining input.old.inner) (R.remaining input.new.inner) text.items) }
     ensures kept { OnOk result (input.new.failures ≡ input.old.failures) }
-    ensures failed { IfErr result (λ outcome. (outcome ≡ Outcome.NoMemory) ⊎ (outcome ≡ Outcome.ReadFailed)) }
-    ensures counted { IfErr result (λ outcome. CountsRead outcome input.old.failures input.new.failures) }
+    ensures failed { IfErr result (λ outcome.
+        (outcome ≡ Outcome.NoMemory) ⊎ (outcome ≡ Outcome.ReadFailed)) }
+    ensures counted { IfErr result (λ outcome.
+        CountsRead outcome input.old.failures input.new.failures) }
 {
     let Ok(mut piece) = room(alloc) else {
         return Err(Outcome::NoMemory);

@@ -19,7 +19,8 @@ pub fn refuse_line<A: Allocator, W: Write>(
     fault: LineFault,
     output: &mut Counted<W>,
 ) -> Outcome
-    ensures told { TellsRefusal line fault (W.contents output.old.inner) (W.contents output.new.inner) result }
+    ensures told { TellsRefusal line fault (W.contents output.old.inner)
+        (W.contents output.new.inner) result }
     ensures counted { CountsWrite result output.old.failures output.new.failures }
     ensures read { result ≢ Outcome.ReadFailed }
 {

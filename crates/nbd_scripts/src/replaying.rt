@@ -31,7 +31,13 @@ pub fn replay_script<A: Allocator + Copy, R: Read, W: Write>(
     input: &mut Counted<R>,
     output: &mut Counted<W>,
 ) -> Outcome
-    ensures told { TellsReplay A (record { unread = R.remaining input.old.inner; left = R.remaining input.new.inner; old = W.contents output.old.inner; new = W.contents output.new.inner }) result }
+    ensures told { TellsReplay A
+        (record {
+          unread = R.remaining input.old.inner;
+          left = R.remaining input.new.inner;
+          old = W.contents output.old.inner;
+          new = W.contents output.new.inner;
+        }) result }
     ensures reads { CountsRead result input.old.failures input.new.failures }
     ensures writes { CountsWrite result output.old.failures output.new.failures }
 {
@@ -55,9 +61,12 @@ fn replay<A: Allocator + Copy, W: Write>(
     lines: Vec<ReplayLine<A>, A>,
     output: &mut Counted<W>,
 ) -> Outcome
-    ensures done { result ≡ Outcome.Done → Replays {A = A} (setup_for config.now) lines.items (W.contents output.old.inner) (W.contents output.new.inner) }
-    ensures failed { (result ≡ Outcome.Done) ⊎ (result ≡ Outcome.NoMemory) ⊎ (result ≡ Outcome.WriteFailed) }
-    ensures no_memory { result ≡ Outcome.NoMemory → ReplaysFirst {A = A} (setup_for config.now) lines.items (W.contents output.old.inner) (W.contents output.new.inner) }
+    ensures done { result ≡ Outcome.Done → Replays {A = A} (setup_for config.now) lines.items
+        (W.contents output.old.inner) (W.contents output.new.inner) }
+    ensures failed { (result ≡ Outcome.Done) ⊎ (result ≡ Outcome.NoMemory)
+        ⊎ (result ≡ Outcome.WriteFailed) }
+    ensures no_memory { result ≡ Outcome.NoMemory → ReplaysFirst {A = A} (setup_for config.now)
+        lines.items (W.contents output.old.inner) (W.contents output.new.inner) }
     ensures write_failed { result ≡ Outcome.WriteFailed → CutShort
         (λ all. Replays {A = A} (setup_for config.now) lines.items (W.contents output.old.inner) all ⊎ ReplaysFirst {A = A} (setup_for config.now) lines.items (W.contents output.old.inner) all)
         (W.contents output.old.inner) (W.contents output.new.inner) }
@@ -85,7 +94,8 @@ fn tell_line<A: Allocator + Copy, W: Write>(
     text: &mut Vec<u8, A>,
     output: &mut Counted<W>,
 ) -> Outcome
-    ensures told { TellsLine {A = A} server.old line server.new (W.contents output.old.inner) (W.contents output.new.inner) result }
+    ensures told { TellsLine {A = A} server.old line server.new (W.contents output.old.inner)
+        (W.contents output.new.inner) result }
     ensures counted { CountsWrite result output.old.failures output.new.failures }
 {
     text.clear();
@@ -102,7 +112,8 @@ fn make_line<A: Allocator + Copy>(
     line: ReplayLine<A>,
     text: &mut Vec<u8, A>,
 ) -> Result<(), NoMemory>
-    ensures { OnOk result (IsMade {A = A} server.old line server.new (Some text.old.items) (Some text.new.items)) }
+    ensures { OnOk result
+        (IsMade {A = A} server.old line server.new (Some text.old.items) (Some text.new.items)) }
 {
     match line {
         ReplayLine::Event(event) => write_answer(alloc, server.event(event), text),
@@ -112,7 +123,8 @@ fn make_line<A: Allocator + Copy>(
 
 /// Writes the last line, how many steps were counted.
 fn write_steps<A: Allocator, W: Write>(alloc: A, steps: u128, output: &mut Counted<W>) -> Outcome
-    ensures told { Writes (steps_line steps) Outcome.Done (W.contents output.old.inner) (W.contents output.new.inner) result }
+    ensures told { Writes (steps_line steps) Outcome.Done (W.contents output.old.inner)
+        (W.contents output.new.inner) result }
     ensures counted { CountsWrite result output.old.failures output.new.failures }
 {
     let mut text = Vec::new(alloc);

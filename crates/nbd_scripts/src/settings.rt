@@ -18,8 +18,10 @@ pub fn export_said<'a>(
     size: &[u8],
     settings: &[&'a [u8]],
 ) -> Result<ExportSettings<'a>, LineFault>
-    ensures said { IfOk result (λ export. export_said name.now size.now (texts_of settings.now) ≡ Some (asked export)) }
-    ensures missed { IfErr result (λ fault. (fault ≡ LineFault.Form) × (export_said name.now size.now (texts_of settings.now) ≡ None)) }
+    ensures said { IfOk result (λ export.
+        export_said name.now size.now (texts_of settings.now) ≡ Some (asked export)) }
+    ensures missed { IfErr result (λ fault. (fault ≡ LineFault.Form)
+        × (export_said name.now size.now (texts_of settings.now) ≡ None)) }
 {
     let Some(digits) = size.strip_prefix(b"size=") else {
         return Err(LineFault::Form);
@@ -58,8 +60,10 @@ impl<'a> Written<'a> {
 
     /// The settings that these fields write.
     fn all(fields: &[&'a [u8]]) -> Result<Written<'a>, LineFault>
-        ensures said { IfOk result (λ written. with_settings no_settings (texts_of fields.now) ≡ Some (settings_of written)) }
-        ensures missed { IfErr result (λ fault. (fault ≡ LineFault.Form) × (with_settings no_settings (texts_of fields.now) ≡ None)) }
+        ensures said { IfOk result (λ written.
+            with_settings no_settings (texts_of fields.now) ≡ Some (settings_of written)) }
+        ensures missed { IfErr result (λ fault. (fault ≡ LineFault.Form)
+            × (with_settings no_settings (texts_of fields.now) ≡ None)) }
     {
         let mut written = Written::new();
         for &field in fields {
@@ -71,8 +75,10 @@ impl<'a> Written<'a> {
     /// Takes one setting: `ro`, or a key and a value.
     #[tactic(auto, unfolding(crate::specs::Settings::with_setting))]
     fn field(&mut self, field: &'a [u8]) -> Result<(), LineFault>
-        ensures taken { OnOk result (with_setting (settings_of self.old) field.now ≡ Some (settings_of self.new)) }
-        ensures refused { IfErr result (λ fault. (fault ≡ LineFault.Form) × (with_setting (settings_of self.old) field.now ≡ None)) }
+        ensures taken { OnOk result (with_setting (settings_of self.old) field.now
+            ≡ Some (settings_of self.new)) }
+        ensures refused { IfErr result (λ fault. (fault ≡ LineFault.Form)
+            × (with_setting (settings_of self.old) field.now ≡ None)) }
     {
         if field == b"ro".as_slice() {
             return once(&mut self.read_only, true);
@@ -86,8 +92,10 @@ impl<'a> Written<'a> {
     /// Takes the value of a key.
     #[tactic(auto, unfolding(crate::specs::Settings::with_value))]
     fn value(&mut self, key: &[u8], value: &'a [u8]) -> Result<(), LineFault>
-        ensures taken { OnOk result (with_value (settings_of self.old) key.now value.now ≡ Some (settings_of self.new)) }
-        ensures refused { IfErr result (λ fault. (fault ≡ LineFault.Form) × (with_value (settings_of self.old) key.now value.now ≡ None)) }
+        ensures taken { OnOk result (with_value (settings_of self.old) key.now value.now
+            ≡ Some (settings_of self.new)) }
+        ensures refused { IfErr result (λ fault. (fault ≡ LineFault.Form)
+            × (with_value (settings_of self.old) key.now value.now ≡ None)) }
     {
         if key == b"desc".as_slice() {
             return once(&mut self.description, value);
@@ -151,7 +159,8 @@ fn once<T: Copy>(place: &mut Option<T>, value: T) -> Result<(), LineFault>
 /// Keeps a number that may be written once.
 fn number_once(place: &mut Option<u64>, digits: &[u8]) -> Result<(), LineFault>
     ensures kept { OnOk result (number_once place.old digits.now ≡ Some place.new) }
-    ensures missed { IfErr result (λ fault. (fault ≡ LineFault.Form) × (number_once place.old digits.now ≡ None)) }
+    ensures missed { IfErr result (λ fault. (fault ≡ LineFault.Form)
+        × (number_once place.old digits.now ≡ None)) }
 {
     once(place, number(digits)?)
 }

@@ -19,7 +19,8 @@ pub fn write_tags<A: Allocator + Copy>(
     export: u32,
     text: &mut Vec<u8, A>,
 ) -> Result<(), NoMemory>
-    ensures { OnOk result (text.new.items ≡ text.old.items ++ tags_text server.now.setup server.now.table export) }
+    ensures { OnOk result (text.new.items ≡ text.old.items
+        ++ tags_text server.now.setup server.now.table export) }
 {
     match server.tags(alloc, export) {
         Ok(told) => write_waiting(&told, text),

@@ -10,9 +10,11 @@ use std::io::Write;
 
 /// Writes a text, and answers `well` where all of it is written.
 pub fn tell_text<W: Write>(text: &[u8], well: Outcome, output: &mut Counted<W>) -> Outcome
-    ensures written { Writes text.now well (W.contents output.old.inner) (W.contents output.new.inner) result }
+    ensures written { Writes text.now well (W.contents output.old.inner)
+        (W.contents output.new.inner) result }
     ensures answer { (result ≡ well) ⊎ (result ≡ Outcome.WriteFailed) }
-    ensures failed { well ≢ Outcome.WriteFailed → result ≡ Outcome.WriteFailed → Rises output.old.failures output.new.failures }
+    ensures failed { well ≢ Outcome.WriteFailed → result ≡ Outcome.WriteFailed
+        → Rises output.old.failures output.new.failures }
     ensures kept { result ≢ Outcome.WriteFailed → output.new.failures ≡ output.old.failures }
 {
     match put(output, text) {

@@ -25,8 +25,10 @@ pub fn talk<A: Allocator + Copy, R: Read, W: Write>(
     ensures conversation { Converses IsTold (Talked config.now.exports)
         (R.remaining reader.old.inner) (R.remaining reader.new.inner)
         (W.contents writer.old.inner) (W.contents writer.new.inner) result }
-    ensures read_failed { IsErrOf result TalkFault.ReadFailed → Rises reader.old.failures reader.new.failures }
-    ensures write_failed { IsErrOf result TalkFault.WriteFailed → Rises writer.old.failures writer.new.failures }
+    ensures read_failed { IsErrOf result TalkFault.ReadFailed
+        → Rises reader.old.failures reader.new.failures }
+    ensures write_failed { IsErrOf result TalkFault.WriteFailed
+        → Rises writer.old.failures writer.new.failures }
     ensures read { OnOk result (reader.new.failures ≡ reader.old.failures) }
     ensures written { OnOk result (writer.new.failures ≡ writer.old.failures) }
 {

@@ -50,7 +50,8 @@ impl<R: Read> Read for Counted<R> {
 
     fn read(&mut self, buf: &mut [u8]) -> io::Result<usize>
         ensures bound { ReadsAtMost result buf.new }
-        ensures bytes { ReadConsumes (R.remaining self.old.inner) (R.remaining self.new.inner) result buf.new }
+        ensures bytes { ReadConsumes (R.remaining self.old.inner) (R.remaining self.new.inner)
+            result buf.new }
         ensures failed { OnErr result (Rises self.old.failures self.new.failures) }
         ensures kept { OnOk result (self.new.failures ≡ self.old.failures) }
     {
@@ -67,9 +68,11 @@ impl<W: Write> Write for Counted<W> {
 
     fn write(&mut self, buf: &[u8]) -> io::Result<usize>
         ensures bound { WritesAtMost result buf.now }
-        ensures bytes { WriteAppends (W.contents self.old.inner) (W.contents self.new.inner) result buf.now }
+        ensures bytes { WriteAppends (W.contents self.old.inner) (W.contents self.new.inner) result
+            buf.now }
         ensures failed { OnErr result (Rises self.old.failures self.new.failures) }
-        ensures idle { IfOk result (λ n. n ≡ 0 → 0 < length buf.now → Rises self.old.failures self.new.failures) }
+        ensures idle { IfOk result (λ n. n ≡ 0 → 0 < length buf.now
+            → Rises self.old.failures self.new.failures) }
         ensures kept { IfOk result (λ n. 0 < n → self.new.failures ≡ self.old.failures) }
         ensures empty { OnOk result (length buf.now ≡ 0 → self.new.failures ≡ self.old.failures) }
     {

@@ -61,8 +61,10 @@ impl<A: Allocator + Copy> Frames<A> {
     pub fn next<R: Read>(&mut self, reader: &mut Counted<R>) -> Frame<A>
         ensures next { self.old.ended ≡ None → Nexts self.old self.new (R.remaining reader.old.inner) (R.remaining reader.new.inner)
             reader.old.failures reader.new.failures result }
-        ensures ready { self.old.ended ≡ None → 0 < self.old.ready → IsWhole result × (reader.new ≡ reader.old) }
-        ensures again { (e : Ending) → self.old.ended ≡ Some e → (result ≡ Frame.Ended e) × (self.new ≡ self.old) × (reader.new ≡ reader.old) }
+        ensures ready { self.old.ended ≡ None → 0 < self.old.ready
+            → IsWhole result × (reader.new ≡ reader.old) }
+        ensures again { (e : Ending) → self.old.ended ≡ Some e
+            → (result ≡ Frame.Ended e) × (self.new ≡ self.old) × (reader.new ≡ reader.old) }
     {
         if let Some(ending) = self.ended {
             return Frame::Ended(ending);
@@ -123,7 +125,11 @@ impl<R: Read, A: Allocator + Copy> FrameReader<R, A> {
 
     /// Nothing was read yet.
     pub fn new(alloc: A, reader: Counted<R>) -> FrameReader<R, A>
-        ensures { result ≡ record { left = R.remaining reader.inner; failures = reader.failures; reading = record { kept = []; ready = 0; ended = None } } }
+        ensures { result ≡ record {
+          left = R.remaining reader.inner;
+          failures = reader.failures;
+          reading = record { kept = []; ready = 0; ended = None };
+        } }
     {
         FrameReader {
             reader,
@@ -140,7 +146,8 @@ impl<R: Read, A: Allocator + Copy> FrameReader<R, A> {
             self.old.failures self.new.failures result }
         ensures ready { self.old.reading.ended ≡ None → 0 < self.old.reading.ready
             → IsWhole result × (self.new.left ≡ self.old.left) × (self.new.failures ≡ self.old.failures) }
-        ensures again { (e : Ending) → self.old.reading.ended ≡ Some e → (result ≡ Frame.Ended e) × (self.new ≡ self.old) }
+        ensures again { (e : Ending) → self.old.reading.ended ≡ Some e
+            → (result ≡ Frame.Ended e) × (self.new ≡ self.old) }
     {
         self.frames.next(&mut self.reader)
     }

@@ -29,9 +29,12 @@ pub fn haggle<A: Allocator + Copy, R: Read, W: Write, T: Attach>(
     ensures conversation { Converses IsEntryTold (Handshake T.may table.now)
         (R.remaining reader.old.inner) (R.remaining reader.new.inner)
         (W.contents writer.old.inner) (W.contents writer.new.inner) result }
-    ensures read_failed { IsErrOf result TalkFault.ReadFailed → Rises reader.old.failures reader.new.failures }
-    ensures write_failed { IsErrOf result TalkFault.WriteFailed → Rises writer.old.failures writer.new.failures }
-    ensures kept { OnOk result ((reader.new.failures ≡ reader.old.failures) × (writer.new.failures ≡ writer.old.failures)) }
+    ensures read_failed { IsErrOf result TalkFault.ReadFailed
+        → Rises reader.old.failures reader.new.failures }
+    ensures write_failed { IsErrOf result TalkFault.WriteFailed
+        → Rises writer.old.failures writer.new.failures }
+    ensures kept { OnOk result ((reader.new.failures ≡ reader.old.failures)
+        × (writer.new.failures ≡ writer.old.failures)) }
 {
     put(writer, &greeting())?;
     let mut bytes = [0; 4];
@@ -66,9 +69,12 @@ fn options<A: Allocator + Copy, R: Read, W: Write, T: Attach>(
     ensures conversation { Converses IsEntryTold (HagglesOn T.may table.now bare 0)
         (R.remaining reader.old.inner) (R.remaining reader.new.inner)
         (W.contents writer.old.inner) (W.contents writer.new.inner) result }
-    ensures read_failed { IsErrOf result TalkFault.ReadFailed → Rises reader.old.failures reader.new.failures }
-    ensures write_failed { IsErrOf result TalkFault.WriteFailed → Rises writer.old.failures writer.new.failures }
-    ensures kept { OnOk result ((reader.new.failures ≡ reader.old.failures) × (writer.new.failures ≡ writer.old.failures)) }
+    ensures read_failed { IsErrOf result TalkFault.ReadFailed
+        → Rises reader.old.failures reader.new.failures }
+    ensures write_failed { IsErrOf result TalkFault.WriteFailed
+        → Rises writer.old.failures writer.new.failures }
+    ensures kept { OnOk result ((reader.new.failures ≡ reader.old.failures)
+        × (writer.new.failures ≡ writer.old.failures)) }
 {
     let mut haggle = Haggle::new(table);
     loop {
@@ -94,7 +100,8 @@ fn answer<A: Allocator + Copy, W: Write, T: Attach>(
 ) -> Result<Option<HaggleEnd>, TalkFault>
     ensures answered { Answers T.may table.now bare (record { number = number; content = content.now })
         (W.contents writer.old.inner) (W.contents writer.new.inner) result }
-    ensures failed { IsErrOf result TalkFault.WriteFailed → Rises writer.old.failures writer.new.failures }
+    ensures failed { IsErrOf result TalkFault.WriteFailed
+        → Rises writer.old.failures writer.new.failures }
     ensures kept { OnOk result (writer.new.failures ≡ writer.old.failures) }
 {
     let mut haggle = Haggle::new(table);

@@ -62,7 +62,8 @@ impl<A: Allocator + Copy> Intake<A> {
         requires well { IsBehindReady None self.old }
         ensures fetched { Fetches (R.remaining reader.old.inner) (R.remaining reader.new.inner) reader.old.failures reader.new.failures
             self.old.held ready.new.items self.new result }
-        ensures more { IfOk result (λ fault. fault ≡ None → ready.new.items ≡ [] → length self.old.held < length self.new.held) }
+        ensures more { IfOk result (λ fault. fault ≡ None → ready.new.items ≡ []
+            → length self.old.held < length self.new.held) }
     {
         match self.begun.take() {
             Some(write) => read_on(reader, buffer, write, &mut self.begun, ready),
@@ -149,7 +150,8 @@ fn take_in<A: Allocator + Copy>(
     requires none { ready.old.items ≡ [] }
     requires well { decoder.old.failed ≡ false }
     requires not_begun { begun.old ≡ None }
-    ensures taken { TakesIn decoder.old.held piece.now ready.new.items (taken_in begun.new decoder.new) result }
+    ensures taken { TakesIn decoder.old.held piece.now ready.new.items
+        (taken_in begun.new decoder.new) result }
     ensures intake { IsTakenIn begun.new decoder.new }
 {
     if decoder.rest() != 0 {

@@ -53,7 +53,8 @@ fn read_behind<A: Allocator + Copy, R: Read>(
     ensures came { IfOk result (λ count. Lengthens (R.remaining reader.old.inner) (R.remaining reader.new.inner)
         payload.now (payload.now ++ take count room.new) whole) }
     ensures kept { OnOk result (reader.new.failures ≡ reader.old.failures) }
-    ensures ended { IfErr result (EndsWithin (R.remaining reader.old.inner) (R.remaining reader.new.inner) reader.old.failures reader.new.failures) }
+    ensures ended { IfErr result (EndsWithin (R.remaining reader.old.inner)
+        (R.remaining reader.new.inner) reader.old.failures reader.new.failures) }
 {
     match reader.read(room) {
         Ok(0) => Err(Ending::Cut),
@@ -73,7 +74,8 @@ fn go_on<A: Allocator + Copy>(
     requires partly { IsPartly (record { head = head; payload = payload ++ piece.now }) }
     requires none { ready.old.items ≡ [] }
     requires not_begun { begun.old ≡ None }
-    ensures taken { TakesIn [] (head_text head ++ (payload ++ piece.now)) ready.new.items (taken_in begun.new nothing_held) result }
+    ensures taken { TakesIn [] (head_text head
+        ++ (payload ++ piece.now)) ready.new.items (taken_in begun.new nothing_held) result }
 {
     match payload.append(piece) {
         Ok(()) => keep(head, payload, begun, ready),
@@ -91,7 +93,8 @@ fn keep<A: Allocator + Copy>(
     requires partly { IsPartly (record { head = head; payload = payload }) }
     requires none { ready.old.items ≡ [] }
     requires not_begun { begun.old ≡ None }
-    ensures taken { TakesIn [] (head_text head ++ payload) ready.new.items (taken_in begun.new nothing_held) result }
+    ensures taken { TakesIn [] (head_text head
+        ++ payload) ready.new.items (taken_in begun.new nothing_held) result }
 {
     if payload.len() < head.length as usize {
         *begun = Some(BegunWrite::new(head, payload));

@@ -24,10 +24,12 @@ pub fn read_option<A: Allocator + Copy, R: Read>(
     haggle: &mut Haggle<'_, A>,
     reader: &mut Counted<R>,
 ) -> Result<Offer<A>, TalkFault>
-    ensures taken { TakesOption haggle.old.seen [] (R.remaining reader.old.inner) (R.remaining reader.new.inner) result }
+    ensures taken { TakesOption haggle.old.seen [] (R.remaining reader.old.inner)
+        (R.remaining reader.new.inner) result }
     ensures seen { IsSeen haggle.old.seen haggle.new.seen result }
     ensures table { haggle.new.table ≡ haggle.old.table }
-    ensures failed { IsErrOf result TalkFault.ReadFailed → Rises reader.old.failures reader.new.failures }
+    ensures failed { IsErrOf result TalkFault.ReadFailed
+        → Rises reader.old.failures reader.new.failures }
     ensures kept { IfOk result (λ _. reader.new.failures ≡ reader.old.failures) }
 {
     let mut bytes = [0; 16];
@@ -53,9 +55,11 @@ fn read_content<A: Allocator + Copy, R: Read>(
     reader: &mut Counted<R>,
 ) -> Result<Offer<A>, TalkFault>
     requires { count ≤ 65536 }
-    ensures taken { (seen : ℕ) → seen < 1000 → TakesOption seen (option_head_text number count) (R.remaining reader.old.inner) (R.remaining reader.new.inner) result }
+    ensures taken { (seen : ℕ) → seen < 1000 → TakesOption seen (option_head_text number count)
+        (R.remaining reader.old.inner) (R.remaining reader.new.inner) result }
     ensures seen { (seen : ℕ) → IsSeen seen (seen + 1) result }
-    ensures failed { IsErrOf result TalkFault.ReadFailed → Rises reader.old.failures reader.new.failures }
+    ensures failed { IsErrOf result TalkFault.ReadFailed
+        → Rises reader.old.failures reader.new.failures }
     ensures kept { IfOk result (λ _. reader.new.failures ≡ reader.old.failures) }
 {
     if count == 0 {

@@ -15,9 +15,11 @@ pub fn put_reply<A: Allocator, O: Write>(
     reply: &Reply<A>,
     writer: &mut Counted<O>,
 ) -> Result<(), WriteFailed>
-    ensures ok { OnOk result (Appends (O.contents writer.old.inner) (O.contents writer.new.inner) (reply_text reply.now)) }
+    ensures ok { OnOk result (Appends (O.contents writer.old.inner) (O.contents writer.new.inner)
+        (reply_text reply.now)) }
     ensures kept { OnOk result (writer.new.failures ≡ writer.old.failures) }
-    ensures part { OnErr result (WritesPart (O.contents writer.old.inner) (O.contents writer.new.inner) (reply_text reply.now)) }
+    ensures part { OnErr result (WritesPart (O.contents writer.old.inner)
+        (O.contents writer.new.inner) (reply_text reply.now)) }
     ensures failed { OnErr result (Rises writer.old.failures writer.new.failures) }
 {
     match put(writer, &write_reply_head(reply.error(), reply.cookie())) {

@@ -35,8 +35,10 @@ pub fn serve<I: Image>(
     request: Request<I::Alloc>,
 ) -> Result<Option<Reply<I::Alloc>>, NoMemory>
     requires { IsIdle lone.old }
-    ensures reply { IfOk result (λ o. IfSome o (λ r. r ≡ reply_of lone.old.terms lone.old.state.image request)) }
-    ensures state { IfOk result (λ o. OnSome o (lone.new ≡ record lone.old { state = behind lone.old.terms lone.old.state request })) }
+    ensures reply { IfOk result (λ o.
+        IfSome o (λ r. r ≡ reply_of lone.old.terms lone.old.state.image request)) }
+    ensures state { IfOk result (λ o. OnSome o (lone.new
+        ≡ record lone.old { state = behind lone.old.terms lone.old.state request })) }
     ensures fresh { IfOk result (λ o. OnSome o (lone.old.state.count < 2 ^ 56)) }
     ensures worn { IfOk result (λ o. IfNone o (2 ^ 56 ≤ lone.old.state.count)) }
 {

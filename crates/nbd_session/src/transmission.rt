@@ -32,8 +32,10 @@ pub fn transmit<A: Allocator + Copy, R: Read, W: Write>(
     ensures conversation { Converses IsTold (Serves (terms_of export.now) (opened (terms_of export.now)))
         (R.remaining reader.old.inner) (R.remaining reader.new.inner)
         (W.contents writer.old.inner) (W.contents writer.new.inner) result }
-    ensures read_failed { IsErrOf result TalkFault.ReadFailed → Rises reader.old.failures reader.new.failures }
-    ensures write_failed { IsErrOf result TalkFault.WriteFailed → Rises writer.old.failures writer.new.failures }
+    ensures read_failed { IsErrOf result TalkFault.ReadFailed
+        → Rises reader.old.failures reader.new.failures }
+    ensures write_failed { IsErrOf result TalkFault.WriteFailed
+        → Rises writer.old.failures writer.new.failures }
     ensures read { OnOk result (reader.new.failures ≡ reader.old.failures) }
     ensures written { OnOk result (writer.new.failures ≡ writer.old.failures) }
 {
@@ -56,8 +58,10 @@ fn requests<I: Image, R: Read, W: Write>(
     ensures conversation { Converses IsTold (Serves lone.old.terms (opened lone.old.terms))
         (R.remaining reader.old.inner) (R.remaining reader.new.inner)
         (W.contents writer.old.inner) (W.contents writer.new.inner) result }
-    ensures read_failed { IsErrOf result TalkFault.ReadFailed → Rises reader.old.failures reader.new.failures }
-    ensures write_failed { IsErrOf result TalkFault.WriteFailed → Rises writer.old.failures writer.new.failures }
+    ensures read_failed { IsErrOf result TalkFault.ReadFailed
+        → Rises reader.old.failures reader.new.failures }
+    ensures write_failed { IsErrOf result TalkFault.WriteFailed
+        → Rises writer.old.failures writer.new.failures }
     ensures read { OnOk result (reader.new.failures ≡ reader.old.failures) }
     ensures written { OnOk result (writer.new.failures ≡ writer.old.failures) }
 {
@@ -104,11 +108,14 @@ fn say<A: Allocator + Copy, W: Write>(
     reply: Reply<A>,
     writer: &mut Counted<W>,
 ) -> Result<(), TalkFault>
-    ensures said { OnOk result (Appends (W.contents writer.old.inner) (W.contents writer.new.inner) (reply_text reply)) }
+    ensures said { OnOk result
+        (Appends (W.contents writer.old.inner) (W.contents writer.new.inner) (reply_text reply)) }
     ensures kept { OnOk result (writer.new.failures ≡ writer.old.failures) }
-    ensures part { OnErr result (WritesPart (W.contents writer.old.inner) (W.contents writer.new.inner) (reply_text reply)) }
+    ensures part { OnErr result (WritesPart (W.contents writer.old.inner)
+        (W.contents writer.new.inner) (reply_text reply)) }
     ensures no_read { IsErrOf result TalkFault.ReadFailed → ⊥ }
-    ensures failed { IsErrOf result TalkFault.WriteFailed → Rises writer.old.failures writer.new.failures }
+    ensures failed { IsErrOf result TalkFault.WriteFailed
+        → Rises writer.old.failures writer.new.failures }
 {
     let mut text = Vec::new(alloc);
     write_reply(&reply, &mut text)?;

@@ -25,7 +25,8 @@ pub fn number(digits: &[u8]) -> Option<u64>
 fn with_digit(value: u64, digit: u8) -> Option<u64>
     ensures digit { OnSome result (is_ascii_digit digit ≡ true) }
     ensures value { IfSome result (λ next. next ≡ value * 10 + (digit - 48)) }
-    ensures none { IsNone result → is_ascii_digit digit ≡ true → 2 ^ 64 ≤ value * 10 + (digit - 48) }
+    ensures none { IsNone result → is_ascii_digit digit ≡ true
+        → 2 ^ 64 ≤ value * 10 + (digit - 48) }
 {
     if !digit.is_ascii_digit() {
         return None;

@@ -70,7 +70,8 @@ pub fn begin_write<A: Allocator + Copy>(
 
 /// The head of that WRITE.
 fn begun_head(bytes: &[u8], least: usize) -> Option<RequestHead>
-    ensures long { IfSome result (λ h. (28 ≤ length bytes.now) × IsLong least bytes.now (record { head = h; payload = drop 28 bytes.now })) }
+    ensures long { IfSome result (λ h. (28 ≤ length bytes.now)
+        × IsLong least bytes.now (record { head = h; payload = drop 28 bytes.now })) }
     ensures none { result ≡ None → NoneBegins least bytes.now }
 {
     if bytes.len() < HEAD {

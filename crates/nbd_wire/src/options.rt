@@ -13,8 +13,10 @@ const OPTION_REPLY_MAGIC: u64 = 0x0003_e889_0455_65a9;
 
 /// Reads the head of an option: its number, and the length of its data in bytes (NBD protocol, "Option haggling").
 pub fn read_option_head(bytes: &[u8; 16]) -> Result<(u32, u32), WireFault>
-    ensures spelled { IfOk result (λ h. (bytes.now ≡ option_head_text h.0 h.1) × (h.0 < 2 ^ 32) × (h.1 < 2 ^ 32)) }
-    ensures bad_magic { IsErr result → (take 8 bytes.now ≢ option_magic) × (result ≡ Err WireFault.BadMagic) }
+    ensures spelled { IfOk result (λ h. (bytes.now ≡ option_head_text h.0 h.1) × (h.0 < 2 ^ 32)
+        × (h.1 < 2 ^ 32)) }
+    ensures bad_magic { IsErr result
+        → (take 8 bytes.now ≢ option_magic) × (result ≡ Err WireFault.BadMagic) }
 {
     if u64_at(bytes, 0) != OPTION_MAGIC {
         return Err(WireFault::BadMagic);
@@ -56,7 +58,8 @@ pub fn write_option_reply<A: Allocator>(
     out: &mut Vec<u8, A>,
 ) -> Result<(), NoMemory>
     requires { length content.now < 2 ^ 32 }
-    ensures ok { OnOk result (out.new.items ≡ out.old.items ++ option_reply_text option kind content.now) }
+    ensures ok { OnOk result (out.new.items ≡ out.old.items
+        ++ option_reply_text option kind content.now) }
     ensures err { OnErr result (out.new.items ≡ out.old.items) }
 {
     let head = write_option_reply_head(option, kind, content.len() as u32);

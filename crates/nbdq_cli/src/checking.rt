@@ -22,11 +22,16 @@ pub fn check_text<A: Allocator + Copy, R: Read, W: Write>(
     input: &mut Counted<R>,
     output: &mut Counted<W>,
 ) -> Outcome
-    ensures done { result ≡ Outcome.Done → Checks (R.remaining input.old.inner) (R.remaining input.new.inner) (W.contents output.old.inner) (W.contents output.new.inner) result }
-    ensures refused { result ≡ Outcome.Refused → Checks (R.remaining input.old.inner) (R.remaining input.new.inner) (W.contents output.old.inner) (W.contents output.new.inner) result }
-    ensures no_memory { result ≡ Outcome.NoMemory → W.contents output.new.inner ≡ W.contents output.old.inner }
-    ensures read_failed { result ≡ Outcome.ReadFailed → W.contents output.new.inner ≡ W.contents output.old.inner }
-    ensures write_failed { result ≡ Outcome.WriteFailed → ChecksPart (R.remaining input.old.inner) (R.remaining input.new.inner) (W.contents output.old.inner) (W.contents output.new.inner) }
+    ensures done { result ≡ Outcome.Done → Checks (R.remaining input.old.inner) (R.remaining
+        input.new.inner) (W.contents output.old.inner) (W.contents output.new.inner) result }
+    ensures refused { result ≡ Outcome.Refused → Checks (R.remaining input.old.inner) (R.remaining
+        input.new.inner) (W.contents output.old.inner) (W.contents output.new.inner) result }
+    ensures no_memory { result ≡ Outcome.NoMemory
+        → W.contents output.new.inner ≡ W.contents output.old.inner }
+    ensures read_failed { result ≡ Outcome.ReadFailed
+        → W.contents output.new.inner ≡ W.contents output.old.inner }
+    ensures write_failed { result ≡ Outcome.WriteFailed → ChecksPart (R.remaining input.old.inner)
+        (R.remaining input.new.inner) (W.contents output.old.inner) (W.contents output.new.inner) }
     ensures reads { CountsRead result input.old.failures input.new.failures }
     ensures writes { CountsWrite result output.old.failures output.new.failures }
 {
@@ -45,15 +50,24 @@ pub fn read_offer<A: Allocator + Copy, R: Read, W: Write>(
     input: &mut Counted<R>,
     output: &mut Counted<W>,
 ) -> Result<Config<A>, Outcome>
-    ensures read { IfOk result (λ config. Configures (R.remaining input.old.inner) (R.remaining input.new.inner) (W.contents output.old.inner) (W.contents output.new.inner) config) }
-    ensures kept { OnOk result ((input.new.failures ≡ input.old.failures) × (output.new.failures ≡ output.old.failures)) }
-    ensures refused { IsErrOf result Outcome.Refused → Checks (R.remaining input.old.inner) (R.remaining input.new.inner) (W.contents output.old.inner) (W.contents output.new.inner) Outcome.Refused }
-    ensures no_memory { IsErrOf result Outcome.NoMemory → W.contents output.new.inner ≡ W.contents output.old.inner }
-    ensures read_failed { IsErrOf result Outcome.ReadFailed → W.contents output.new.inner ≡ W.contents output.old.inner }
-    ensures write_failed { IsErrOf result Outcome.WriteFailed → ChecksPart (R.remaining input.old.inner) (R.remaining input.new.inner) (W.contents output.old.inner) (W.contents output.new.inner) }
+    ensures read { IfOk result (λ config. Configures (R.remaining input.old.inner) (R.remaining
+        input.new.inner) (W.contents output.old.inner) (W.contents output.new.inner) config) }
+    ensures kept { OnOk result ((input.new.failures ≡ input.old.failures)
+        × (output.new.failures ≡ output.old.failures)) }
+    ensures refused { IsErrOf result Outcome.Refused
+        → Checks (R.remaining input.old.inner) (R.remaining input.new.inner)
+        (W.contents output.old.inner) (W.contents output.new.inner) Outcome.Refused }
+    ensures no_memory { IsErrOf result Outcome.NoMemory
+        → W.contents output.new.inner ≡ W.contents output.old.inner }
+    ensures read_failed { IsErrOf result Outcome.ReadFailed
+        → W.contents output.new.inner ≡ W.contents output.old.inner }
+    ensures write_failed { IsErrOf result Outcome.WriteFailed
+        → ChecksPart (R.remaining input.old.inner) (R.remaining input.new.inner)
+        (W.contents output.old.inner) (W.contents output.new.inner) }
     ensures undone { IsErrOf result Outcome.Done → ⊥ }
     ensures reads { IfErr result (λ went. CountsRead went input.old.failures input.new.failures) }
-    ensures writes { IfErr result (λ went. CountsWrite went output.old.failures output.new.failures) }
+    ensures writes { IfErr result (λ went.
+        CountsWrite went output.old.failures output.new.failures) }
 {
     let text = match read_whole(alloc, input) {
         Ok(text) => text,
@@ -72,7 +86,8 @@ fn tell_config<A: Allocator + Copy, W: Write>(
     config: &Config<A>,
     output: &mut Counted<W>,
 ) -> Outcome
-    ensures told { Writes (offer_text config.now) Outcome.Done (W.contents output.old.inner) (W.contents output.new.inner) result }
+    ensures told { Writes (offer_text config.now) Outcome.Done (W.contents output.old.inner)
+        (W.contents output.new.inner) result }
     ensures counted { CountsWrite result output.old.failures output.new.failures }
 {
     let mut text = Vec::new(alloc);
@@ -88,7 +103,8 @@ fn tell_refusal<A: Allocator, W: Write>(
     refusal: FileRefusal,
     output: &mut Counted<W>,
 ) -> Outcome
-    ensures told { Writes (refusal_line refusal) Outcome.Refused (W.contents output.old.inner) (W.contents output.new.inner) result }
+    ensures told { Writes (refusal_line refusal) Outcome.Refused (W.contents output.old.inner)
+        (W.contents output.new.inner) result }
     ensures counted { CountsWrite result output.old.failures output.new.failures }
 {
     let mut text = Vec::new(alloc);

@@ -126,7 +126,8 @@ fn check_sessions<S: AsStr>(
     matches: &ArgMatches<'_>,
     words: &[S],
 ) -> Result<(), Error>
-    ensures { FailsBy (number_faults (wants_number (sessions_said (subcommand_rows_of matches.now))) (map S.text words.now)) result }
+    ensures { FailsBy (number_faults (wants_number (sessions_said (subcommand_rows_of matches.now)))
+        (map S.text words.now)) result }
 {
     if wants_number(matches) {
         read_again(alloc, words)
@@ -166,7 +167,8 @@ fn is_no_word(text: Option<&str>) -> bool
 
 /// What a command and its options ask for.
 fn job_of(alloc: Global, matches: &ArgMatches<'_>) -> Result<Job, AllocError>
-    ensures { IfOk result (IsJob (subcommand_name_of matches.now) (option_map (λ said. said.1) (subcommand_rows_of matches.now))) }
+    ensures { IfOk result (IsJob (subcommand_name_of matches.now) (option_map (λ said.
+        said.1) (subcommand_rows_of matches.now))) }
 {
     match matches.subcommand() {
         Some(("check", _)) => Ok(Job::Task(Task::Check)),
@@ -216,7 +218,8 @@ fn sessions_of(text: Option<&str>) -> Sessions
 }
 
 fn kept(alloc: Global, word: Option<&str>) -> Result<Option<String>, AllocError>
-    ensures { IfOk result (λ kept. option_map string_bytes kept ≡ option_map (λ text. text.now) word.entry) }
+    ensures { IfOk result (λ kept.
+        option_map string_bytes kept ≡ option_map (λ text. text.now) word.entry) }
 {
     match word {
         Some(word) => Ok(Some(String::from_str(alloc, word)?)),
@@ -251,7 +254,8 @@ fn with_serve<'a>(
     program: Command<'a>,
     sessions: ValueParser<'a>,
 ) -> Result<Command<'a>, AllocError>
-    ensures { IfOk result (λ command. app_of command ≡ with_subcommand (app_of program.entry) (serve_command sessions.entry).top) }
+    ensures { IfOk result (λ command. app_of command
+        ≡ with_subcommand (app_of program.entry) (serve_command sessions.entry).top) }
 {
     let serve = new_command(alloc, "serve", SERVE)
         .arg(option(alloc, "tcp", "ADDR", TCP))?
@@ -264,7 +268,8 @@ fn with_serve<'a>(
 
 /// The program with its command `control`.
 fn with_control<'a>(alloc: Global, program: Command<'a>) -> Result<Command<'a>, AllocError>
-    ensures { IfOk result (λ command. app_of command ≡ with_subcommand (app_of program.entry) control_command.top) }
+    ensures { IfOk result (λ command.
+        app_of command ≡ with_subcommand (app_of program.entry) control_command.top) }
 {
     let control = new_command(alloc, "control", CONTROL).arg(option(
         alloc, "unix", "PATH", CONTROLLED,

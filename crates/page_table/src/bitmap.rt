@@ -61,7 +61,8 @@ impl<A: Allocator + Copy> Bitmap<A> {
     /// The numbers from the first on before an end are members from now on, or aren't.
     pub(crate) fn put(&mut self, first: usize, end: usize, member: bool)
         requires { end ≤ 16384 }
-        ensures { (k : ℕ) → is_set self.new k ≡ (if is_between first end k then member else is_set self.old k) }
+        ensures { (k : ℕ)
+            → is_set self.new k ≡ (if is_between first end k then member else is_set self.old k) }
     {
         bits::put(self.words.as_mut_slice(), first, end, member);
     }

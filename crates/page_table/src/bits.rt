@@ -59,7 +59,8 @@ fn put_some(words: &mut [u64], next: usize, end: usize, member: bool) -> usize
     requires within { end ≤ 64 * length words.old }
     ensures more { next < result }
     ensures upto { result ≤ end }
-    ensures put { (k : ℕ) → is_set words.new k ≡ (if is_between next result k then member else is_set words.old k) }
+    ensures put { (k : ℕ)
+        → is_set words.new k ≡ (if is_between next result k then member else is_set words.old k) }
 {
     if next % 64 != 0 || end - next < 64 {
         put_one(words, next, member);
@@ -72,7 +73,8 @@ fn put_some(words: &mut [u64], next: usize, end: usize, member: bool) -> usize
 /// The numbers from the first on before an end are members from now on, or aren't.
 pub(crate) fn put(words: &mut [u64], first: usize, end: usize, member: bool)
     requires { end ≤ 64 * length words.old }
-    ensures { (k : ℕ) → is_set words.new k ≡ (if is_between first end k then member else is_set words.old k) }
+    ensures { (k : ℕ)
+        → is_set words.new k ≡ (if is_between first end k then member else is_set words.old k) }
 {
     let mut next = first;
     while next < end {

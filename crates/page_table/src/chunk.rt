@@ -110,7 +110,8 @@ impl<A: Allocator + Copy> Chunk<A> {
         requires { place < 256 }
         ensures here { in_place self.new place ≡ Some page }
         ensures others { (k : ℕ) → k ≢ place → in_place self.new k ≡ in_place self.old k }
-        ensures taken { taken self.new ≡ taken self.old + (if is_some (in_place self.old place) then 0 else 1) }
+        ensures taken { taken self.new
+            ≡ taken self.old + (if is_some (in_place self.old place) then 0 else 1) }
     {
         self.holes.fill(place);
         match mem::replace(&mut self.pages[place], Some(page)) {
@@ -131,7 +132,8 @@ impl<A: Allocator + Copy> Chunk<A> {
         requires place { place < 256 }
         requires there { slice_index_or self.now.pages place None ≡ Some page.now }
         requires within { start + count ≤ 4096 }
-        ensures { IfOk result (λ after. Some after ≡ cleared start count (in_place self.now place)) }
+        ensures { IfOk result (λ after.
+            Some after ≡ cleared start count (in_place self.now place)) }
     {
         let zeros: Page<A> = Page::zeros();
         let part = &zeros.as_slice()[..count];
@@ -181,7 +183,8 @@ impl<A: Allocator + Copy> Chunk<A> {
     /// No page is stored from the first place on before an end from now on. The pages are swept out.
     pub(crate) fn remove(&mut self, first: usize, end: usize, swept: &mut Swept<A>)
         requires { end ≤ 256 }
-        ensures { (k : ℕ) → in_place self.new k ≡ (if is_between first end k then None else in_place self.old k) }
+        ensures { (k : ℕ)
+            → in_place self.new k ≡ (if is_between first end k then None else in_place self.old k) }
     {
         for place in first..end {
             self.remove_one(place, swept);

@@ -35,8 +35,10 @@ fn make_bitmap<A: Allocator + Copy>(
 ) -> Result<(), NoMemory>
     ensures same { (k : ℕ) → is_marked bitmaps.new.entries k ≡ is_marked bitmaps.old.entries k }
     ensures there { OnOk result (IsSome (bitmap_of bitmaps.new.entries number)) }
-    ensures others { (q : ℕ) → q ≢ number → bitmap_of bitmaps.new.entries q ≡ bitmap_of bitmaps.old.entries q }
-    ensures stays { IsSome (bitmap_of bitmaps.old.entries number) → bitmap_of bitmaps.new.entries number ≡ bitmap_of bitmaps.old.entries number }
+    ensures others { (q : ℕ) → q ≢ number
+        → bitmap_of bitmaps.new.entries q ≡ bitmap_of bitmaps.old.entries q }
+    ensures stays { IsSome (bitmap_of bitmaps.old.entries number)
+        → bitmap_of bitmaps.new.entries number ≡ bitmap_of bitmaps.old.entries number }
 {
     if bitmaps.contains_key(&number) {
         return Ok(());
@@ -54,8 +56,10 @@ fn make_bitmaps<A: Allocator + Copy>(
     end: usize,
 ) -> Result<(), NoMemory>
     ensures same { (k : ℕ) → is_marked bitmaps.new.entries k ≡ is_marked bitmaps.old.entries k }
-    ensures there { OnOk result ((q : ℕ) → first ≤ q → q < end → IsSome (bitmap_of bitmaps.new.entries q)) }
-    ensures others { (q : ℕ) → is_between first end q ≡ false → bitmap_of bitmaps.new.entries q ≡ bitmap_of bitmaps.old.entries q }
+    ensures there { OnOk result ((q : ℕ) → first ≤ q → q < end
+        → IsSome (bitmap_of bitmaps.new.entries q)) }
+    ensures others { (q : ℕ) → is_between first end q ≡ false
+        → bitmap_of bitmaps.new.entries q ≡ bitmap_of bitmaps.old.entries q }
 {
     for number in first..end {
         make_bitmap(bitmaps, alloc, number)?;
@@ -67,7 +71,8 @@ fn make_bitmaps<A: Allocator + Copy>(
 fn drop_empty<A: Allocator + Copy>(bitmaps: &mut BTreeMap<usize, Bitmap<A>, A>, number: usize)
     ensures same { (k : ℕ) → is_marked bitmaps.new.entries k ≡ is_marked bitmaps.old.entries k }
     ensures used { IfSome (bitmap_of bitmaps.new.entries number) (λ words. any_set words ≡ true) }
-    ensures others { (q : ℕ) → q ≢ number → bitmap_of bitmaps.new.entries q ≡ bitmap_of bitmaps.old.entries q }
+    ensures others { (q : ℕ) → q ≢ number
+        → bitmap_of bitmaps.new.entries q ≡ bitmap_of bitmaps.old.entries q }
 {
     let Some(bitmap) = bitmaps.get(&number) else {
         return;
@@ -85,8 +90,10 @@ fn drop_all_empty<A: Allocator + Copy>(
     end: usize,
 )
     ensures same { (k : ℕ) → is_marked bitmaps.new.entries k ≡ is_marked bitmaps.old.entries k }
-    ensures used { (q : ℕ) → first ≤ q → q < end → IfSome (bitmap_of bitmaps.new.entries q) (λ words. any_set words ≡ true) }
-    ensures others { (q : ℕ) → is_between first end q ≡ false → bitmap_of bitmaps.new.entries q ≡ bitmap_of bitmaps.old.entries q }
+    ensures used { (q : ℕ) → first ≤ q → q < end
+        → IfSome (bitmap_of bitmaps.new.entries q) (λ words. any_set words ≡ true) }
+    ensures others { (q : ℕ) → is_between first end q ≡ false
+        → bitmap_of bitmaps.new.entries q ≡ bitmap_of bitmaps.old.entries q }
 {
     for number in first..end {
         drop_empty(bitmaps, number);
@@ -106,7 +113,8 @@ fn put_in<A: Allocator + Copy>(
     ensures here { (k : ℕ) → k / 16384 ≡ bitmap
         → is_marked bitmaps.new.entries k ≡ (if is_between first end k then member else is_marked bitmaps.old.entries k) }
     ensures there { IsSome (bitmap_of bitmaps.new.entries bitmap) }
-    ensures others { (q : ℕ) → q ≢ bitmap → bitmap_of bitmaps.new.entries q ≡ bitmap_of bitmaps.old.entries q }
+    ensures others { (q : ℕ) → q ≢ bitmap
+        → bitmap_of bitmaps.new.entries q ≡ bitmap_of bitmaps.old.entries q }
 {
     let begin = bitmap * BITMAP;
     let upto = (end - begin).min(BITMAP);
@@ -122,8 +130,10 @@ fn put_all<A: Allocator + Copy>(
     first: usize,
     end: usize,
 )
-    requires { (q : ℕ) → first / 16384 ≤ q → q < div_ceil end 16384 → IsSome (bitmap_of bitmaps.old.entries q) }
-    ensures put { (k : ℕ) → is_marked bitmaps.new.entries k ≡ (if is_between first end k then true else is_marked bitmaps.old.entries k) }
+    requires { (q : ℕ) → first / 16384 ≤ q → q < div_ceil end 16384
+        → IsSome (bitmap_of bitmaps.old.entries q) }
+    ensures put { (k : ℕ) → is_marked bitmaps.new.entries k
+        ≡ (if is_between first end k then true else is_marked bitmaps.old.entries k) }
     ensures others { (q : ℕ) → is_between (first / 16384) (div_ceil end 16384) q ≡ false
         → bitmap_of bitmaps.new.entries q ≡ bitmap_of bitmaps.old.entries q }
 {
@@ -153,7 +163,8 @@ impl<A: Allocator + Copy> HeldZeros<A> {
 
     /// The pages from a number on before an end are from now on. It has all its memory before one more is.
     pub fn add(&mut self, alloc: A, first: usize, end: usize) -> Result<(), NoMemory>
-        ensures added { OnOk result ((k : ℕ) → is_marked self.new k ≡ (if is_between first end k then true else is_marked self.old k)) }
+        ensures added { OnOk result ((k : ℕ) → is_marked self.new k
+            ≡ (if is_between first end k then true else is_marked self.old k)) }
         ensures no_memory { OnErr result ((k : ℕ) → is_marked self.new k ≡ is_marked self.old k) }
     {
         if first >= end {
@@ -174,7 +185,8 @@ impl<A: Allocator + Copy> HeldZeros<A> {
         ensures begins { IfSome result (λ number. from ≤ number) }
         ensures ends { IfSome result (λ number. number < end) }
         ensures there { IfSome result (λ number. IsSome (bitmap_of self.now number)) }
-        ensures first { IfSome result (λ number. (q : ℕ) → from ≤ q → q < number → bitmap_of self.now q ≡ None) }
+        ensures first { IfSome result (λ number. (q : ℕ) → from ≤ q → q < number
+            → bitmap_of self.now q ≡ None) }
         ensures none { result ≡ None → (q : ℕ) → from ≤ q → q < end → bitmap_of self.now q ≡ None }
     {
         least_from(&self.bitmaps, from, end)
@@ -199,7 +211,8 @@ impl<A: Allocator + Copy> HeldZeros<A> {
 
     /// The pages from a number on before an end aren't any more. It looks at the bitmaps that are there alone.
     pub fn remove(&mut self, first: usize, end: usize)
-        ensures { (k : ℕ) → is_marked self.new k ≡ (if is_between first end k then false else is_marked self.old k) }
+        ensures { (k : ℕ) → is_marked self.new k
+            ≡ (if is_between first end k then false else is_marked self.old k) }
     {
         if first >= end {
             return;

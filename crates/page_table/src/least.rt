@@ -15,7 +15,8 @@ pub(crate) fn least_from<V, A: Allocator>(
     ensures begins { IfSome result (λ number. from ≤ number) }
     ensures ends { IfSome result (λ number. number < end) }
     ensures there { IfSome result (λ number. IsSome (get nat_cmp map.now number)) }
-    ensures first { IfSome result (λ number. (q : ℕ) → from ≤ q → q < number → get nat_cmp map.now q ≡ None) }
+    ensures first { IfSome result (λ number. (q : ℕ) → from ≤ q → q < number
+        → get nat_cmp map.now q ≡ None) }
     ensures none { IfNone result ((q : ℕ) → from ≤ q → q < end → get nat_cmp map.now q ≡ None) }
 {
     match map.range(from..end).next() {

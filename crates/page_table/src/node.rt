@@ -84,7 +84,8 @@ impl<A: Allocator + Copy> Node<A> {
     /// `Chunk::remove`. The answer is how many places are taken then.
     pub(crate) fn remove(&mut self, first: usize, end: usize, swept: &mut Swept<A>) -> usize
         requires { end ≤ 256 }
-        ensures removed { (k : ℕ) → in_place self.new k ≡ (if is_between first end k then None else in_place self.old k) }
+        ensures removed { (k : ℕ)
+            → in_place self.new k ≡ (if is_between first end k then None else in_place self.old k) }
         ensures taken { result ≡ taken self.new }
     {
         let Some(chunk) = self.list.front_mut() else {

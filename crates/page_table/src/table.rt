@@ -43,7 +43,8 @@ fn remove_places<A: Allocator + Copy>(
     ensures here { (k : ℕ) → in_chunk (chunk_of chunks.new.entries number) k
         ≡ (if is_between first end k then None else in_chunk (chunk_of chunks.old.entries number) k) }
     ensures left { IfSome (chunk_of chunks.new.entries number) (λ chunk. result ≡ taken chunk) }
-    ensures others { (q : ℕ) → q ≢ number → chunk_of chunks.new.entries q ≡ chunk_of chunks.old.entries q }
+    ensures others { (q : ℕ) → q ≢ number
+        → chunk_of chunks.new.entries q ≡ chunk_of chunks.old.entries q }
 {
     let Some(node) = chunks.get_mut(&number) else {
         unreachable!();
@@ -58,7 +59,8 @@ fn remove_chunk<A: Allocator + Copy>(
     swept: &mut Swept<A>,
 )
     ensures here { chunk_of chunks.new.entries number ≡ None }
-    ensures others { (q : ℕ) → q ≢ number → chunk_of chunks.new.entries q ≡ chunk_of chunks.old.entries q }
+    ensures others { (q : ℕ) → q ≢ number
+        → chunk_of chunks.new.entries q ≡ chunk_of chunks.old.entries q }
 {
     if let Some(node) = chunks.remove(&number) {
         node.leave(swept);
@@ -142,7 +144,8 @@ impl<A: Allocator + Copy> Table<A> {
         ensures begins { IfSome result (λ number. from ≤ number) }
         ensures ends { IfSome result (λ number. number < end) }
         ensures there { IfSome result (λ number. IsSome (chunk_of self.now number)) }
-        ensures first { IfSome result (λ number. (q : ℕ) → from ≤ q → q < number → chunk_of self.now q ≡ None) }
+        ensures first { IfSome result (λ number. (q : ℕ) → from ≤ q → q < number
+            → chunk_of self.now q ≡ None) }
         ensures none { result ≡ None → (q : ℕ) → from ≤ q → q < end → chunk_of self.now q ≡ None }
     {
         least_from(&self.chunks, from, end)
@@ -172,7 +175,8 @@ impl<A: Allocator + Copy> Table<A> {
 
     /// Pages are stored no longer from a number on before an end, and are swept out. It looks at the chunks that are there alone.
     pub fn remove(&mut self, first: usize, end: usize, swept: &mut Swept<A>)
-        ensures { (k : ℕ) → in_table self.new k ≡ (if is_between first end k then None else in_table self.old k) }
+        ensures { (k : ℕ)
+            → in_table self.new k ≡ (if is_between first end k then None else in_table self.old k) }
     {
         if first >= end {
             return;

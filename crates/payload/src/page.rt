@@ -112,7 +112,8 @@ impl<A: Allocator + Copy> Page<A> {
     /// A page with other bytes in place of those from the start on.
     pub fn with(&self, alloc: A, start: usize, part: &[u8]) -> Result<Page<A>, NoMemory>
         requires { start + length part.now ≤ 4096 }
-        ensures bytes { IfOk result (λ page. page ≡ overwritten self.now start (length part.now) part.now) }
+        ensures bytes { IfOk result (λ page.
+            page ≡ overwritten self.now start (length part.now) part.now) }
         ensures whole { IfOk result (λ page. length page ≡ 4096) }
     {
         let mut bytes = Vec::from_slice(alloc, self.as_slice())?;

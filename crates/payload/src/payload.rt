@@ -86,7 +86,8 @@ impl<A: Allocator> Payload<A> {
         requires whole { AreWhole pages.items }
         requires ordered { start ≤ end }
         requires within { end ≤ length (concat pages.items) }
-        ensures { IfOk result (λ payload. payload ≡ range_of (concat pages.items) start (end - start)) }
+        ensures { IfOk result (λ payload.
+            payload ≡ range_of (concat pages.items) start (end - start)) }
     {
         let pages = Arc::new(alloc, pages)?;
         Ok(Payload {
@@ -219,7 +220,8 @@ impl<A: Allocator + Copy> Payload<A> {
     ) -> Result<Page<A>, NoMemory>
         requires fits { start + count ≤ 4096 }
         requires within { from + count ≤ length self.now }
-        ensures bytes { IfOk result (λ new. new ≡ overwritten page.now start count (range_of self.now from count)) }
+        ensures bytes { IfOk result (λ new.
+            new ≡ overwritten page.now start count (range_of self.now from count)) }
         ensures whole { IfOk result (λ new. length new ≡ 4096) }
     {
         if count == PAGE {
@@ -243,7 +245,8 @@ impl<A: Allocator + Copy> Payload<A> {
     ) -> Result<Page<A>, NoMemory>
         requires fits { start + count ≤ 4096 }
         requires within { from + count ≤ length self.now }
-        ensures bytes { IfOk result (λ new. new ≡ overwritten page.now start count (range_of self.now from count)) }
+        ensures bytes { IfOk result (λ new.
+            new ≡ overwritten page.now start count (range_of self.now from count)) }
         ensures whole { IfOk result (λ new. length new ≡ 4096) }
     {
         // No place is past the greatest usize, since the length is one.

@@ -155,7 +155,8 @@ impl<A: Allocator + Copy> ReplyBox<A> {
     /// than 2^63 sessions were opened before.
     pub fn attach(&mut self) -> Result<u64, AttachFault>
         requires { length self.old.sessions < 2 ^ 63 }
-        ensures ok { IfOk result (λ n. (is_full self.old ≡ false) × (n ≡ length self.old.sessions) × (self.new ≡ after_attach self.old)) }
+        ensures ok { IfOk result (λ n. (is_full self.old ≡ false) × (n ≡ length self.old.sessions)
+            × (self.new ≡ after_attach self.old)) }
         ensures err { IfErr result (λ e. (e ≡ attach_fault self.old) × (self.new ≡ self.old)) }
     {
         if self.is_full() {

@@ -76,7 +76,8 @@ pub(crate) fn put_behind<A: Allocator>(
     outbox: &mut HeapCircularBuffer<Reply<A>, A>,
     reply: Reply<A>,
 )
-    ensures { outbox.new ≡ buffer (keep_last outbox.old.capacity (outbox.old.items ++ reply ∷ [])) outbox.old.capacity }
+    ensures { outbox.new ≡ buffer (keep_last outbox.old.capacity (outbox.old.items ++ reply ∷ []))
+        outbox.old.capacity }
 {
     if outbox.is_empty() {
         outbox.push_front(reply);

@@ -145,9 +145,12 @@ impl<I: Image, E: Eligibility<Alloc = I::Alloc>> Server<I, E> {
 
     /// The request that is in service under this number is done.
     fn perform_number(&mut self, export: u32, number: u64) -> Answer<I::Alloc>
-        ensures step { Stepped {A = I.Alloc} self.old (event.Perform export number) self.new result }
-        ensures journals { EventMoves {A = I.Alloc} self.old (event.Perform export number) self.new result }
-        ensures seats { EventSeats {A = I.Alloc} self.old (event.Perform export number) self.new result }
+        ensures step { Stepped {A = I.Alloc} self.old (event.Perform export number) self.new
+            result }
+        ensures journals { EventMoves {A = I.Alloc} self.old (event.Perform export number) self.new
+            result }
+        ensures seats { EventSeats {A = I.Alloc} self.old (event.Perform export number) self.new
+            result }
     {
         let Some(ticket) = self.find(export, number) else {
             return Answer::NotOut;

@@ -65,7 +65,8 @@ impl<I: Image> Member<I> {
         inflight: usize,
     ) -> Result<Self, NoMemory>
         requires { IsWithin 4096 inflight }
-        ensures { IfOk result (λ member. (member ≡ opening_standing inflight (terms_of config.now)) × AreShort (terms_of config.now).rates) }
+        ensures { IfOk result (λ member. (member ≡ opening_standing inflight (terms_of config.now))
+            × AreShort (terms_of config.now).rates) }
     {
         let Some(tuning) = Tuning::new(config.reservation(), config.limit(), config.weight()) else {
             unreachable!();
@@ -83,8 +84,10 @@ impl<I: Image> Member<I> {
 
     /// Nothing more arrives on the session.
     pub(crate) fn leave(&mut self, session: u64) -> Result<(), NotOpen>
-        ensures went { Went {A = I.Alloc} self.old self.new (Step.Leave session) (leave_said result) }
-        ensures journal { JournalMove {A = I.Alloc} self.old.part.terms (Step.Leave session) (Some (leave_said result)) self.old.journal self.new.journal }
+        ensures went { Went {A = I.Alloc} self.old self.new (Step.Leave session)
+            (leave_said result) }
+        ensures journal { JournalMove {A = I.Alloc} self.old.part.terms (Step.Leave session)
+            (Some (leave_said result)) self.old.journal self.new.journal }
     {
         self.cell.leave(session)
     }
@@ -92,7 +95,8 @@ impl<I: Image> Member<I> {
     /// The session is dropped with its replies.
     pub(crate) fn gone(&mut self, session: u64) -> Result<(), NotOpen>
         ensures went { Went {A = I.Alloc} self.old self.new (Step.Gone session) (gone_said result) }
-        ensures journal { JournalMove {A = I.Alloc} self.old.part.terms (Step.Gone session) (Some (gone_said result)) self.old.journal self.new.journal }
+        ensures journal { JournalMove {A = I.Alloc} self.old.part.terms (Step.Gone session)
+            (Some (gone_said result)) self.old.journal self.new.journal }
     {
         self.cell.gone(session)
     }
@@ -100,7 +104,8 @@ impl<I: Image> Member<I> {
     /// The oldest reply of the session is taken.
     pub(crate) fn take(&mut self, session: u64) -> Result<Taken<I::Alloc>, NotOpen>
         ensures went { Went {A = I.Alloc} self.old self.new (Step.Take session) (take_said result) }
-        ensures journal { JournalMove {A = I.Alloc} self.old.part.terms (Step.Take session) (Some (take_said result)) self.old.journal self.new.journal }
+        ensures journal { JournalMove {A = I.Alloc} self.old.part.terms (Step.Take session)
+            (Some (take_said result)) self.old.journal self.new.journal }
     {
         self.cell.take(session)
     }
@@ -109,7 +114,8 @@ impl<I: Image> Member<I> {
     pub(crate) fn attach(&mut self) -> Result<u64, NotAttached>
         ensures step { WentOr {A = I.Alloc} self.old self.new Step.Attach (attach_said result) }
         ensures memory { WantsMemory self.old result }
-        ensures journal { JournalMove {A = I.Alloc} self.old.part.terms Step.Attach (attach_said result) self.old.journal self.new.journal }
+        ensures journal { JournalMove {A = I.Alloc} self.old.part.terms Step.Attach
+            (attach_said result) self.old.journal self.new.journal }
     {
         self.cell.attach()
     }
@@ -118,7 +124,8 @@ impl<I: Image> Member<I> {
     pub(crate) fn retune(&mut self, rates: Rates) -> Result<(), NotRetuned>
         ensures retunes { Retunes self.old self.new rates result }
         ensures short { AreShort self.old.part.rates → AreShort self.new.part.rates }
-        ensures journal { JournalMove {A = I.Alloc} self.old.part.terms (Step.Retune rates) (retuned_said result) self.old.journal self.new.journal }
+        ensures journal { JournalMove {A = I.Alloc} self.old.part.terms (Step.Retune rates)
+            (retuned_said result) self.old.journal self.new.journal }
     {
         if let Err(refused) = self.cell.retune(rates) {
             return Err(refused);
@@ -166,7 +173,8 @@ impl<I: Image> Member<I> {
     /// The slot in which the request of this number is in service.
     pub(crate) fn slot_of(&self, number: u64) -> Option<usize>
         ensures slot { result ≡ slot_in self.now.seats number }
-        ensures out { is_some result ≡ is_some (find (λ entry. entry.number == number) self.now.part.out) }
+        ensures out { is_some result
+            ≡ is_some (find (λ entry. entry.number == number) self.now.part.out) }
     {
         self.cell.live().slot_of(number)
     }
@@ -230,7 +238,8 @@ impl<I: Image> Member<I> {
     ) -> Result<Option<Request<I::Alloc>>, NoMemory>
         ensures standing { self.new ≡ logged_as self.new self.old }
         ensures reserved { IfOk result (λ kept. IsReservedAt self.new session request.now kept) }
-        ensures journal { IfOk result (λ kept. self.new.journal ≡ reserved self.old.part.terms kept self.old.journal) }
+        ensures journal { IfOk result (λ kept.
+            self.new.journal ≡ reserved self.old.part.terms kept self.old.journal) }
         ensures no_memory { OnErr result (IsLetIn self.old session
             × IsAdvanced self.old.part.terms (surplus (length request.now.payload) self.old.journal.log) self.old.journal self.new.journal) }
     {
@@ -251,7 +260,8 @@ impl<I: Image> Member<I> {
         requires reserved { IsReservedAt self.old session request kept }
         ensures arrives { Arrives {A = I.Alloc} self.old self.new session moment request result }
         ensures entered { is_ok result ≡ is_some kept }
-        ensures journal { self.new.journal ≡ noted_as {A = I.Alloc} (arrived_said result) (Step.Arrive session moment request) self.old.journal }
+        ensures journal { self.new.journal ≡ noted_as {A = I.Alloc} (arrived_said result)
+            (Step.Arrive session moment request) self.old.journal }
         ensures back { IfErr result (λ e. e.request ≡ request) }
     {
         // Asked for what its contract tells: a moment is below 2^62.
@@ -292,8 +302,10 @@ impl<I: Image> Member<I> {
         requires room { length self.old.part.out < self.old.inflight }
         requires numbered { IsNumbered (self.old.part.out ++ self.old.part.waiting) }
         requires in_range { TagsInRange (part_picked phase self.old.part) }
-        ensures picked { IfSome result (λ picked. Picks self.old self.new phase (record { number = picked.number; slot = picked.slot })) }
-        ensures journal { IfSome result (λ picked. JournalMove {A = I.Alloc} self.old.part.terms Step.Pick (Some (StepAnswer.Picked picked.number)) self.old.journal self.new.journal) }
+        ensures picked { IfSome result (λ picked.
+            Picks self.old self.new phase (record { number = picked.number; slot = picked.slot })) }
+        ensures journal { IfSome result (λ picked. JournalMove {A = I.Alloc} self.old.part.terms
+            Step.Pick (Some (StepAnswer.Picked picked.number)) self.old.journal self.new.journal) }
         ensures some { IsSome result }
     {
         let Some(tags) = self.waiting.pop_front() else {
@@ -313,10 +325,12 @@ impl<I: Image> Member<I> {
     /// The request that is in service in `slot` under `number` is done, and its reply goes to its session. The answer
     /// tells whether memory was there for it; None where the slot doesn't hold that number.
     pub(crate) fn perform(&mut self, slot: usize, number: u64) -> Option<bool>
-        ensures some { IfSome result (λ memory. (slot_in self.old.seats number ≡ Some slot) × Performs I.Alloc self.old self.new number memory) }
+        ensures some { IfSome result (λ memory. (slot_in self.old.seats number ≡ Some slot)
+            × Performs I.Alloc self.old self.new number memory) }
         ensures journal { IfSome result (λ memory.
             JournalMove {A = I.Alloc} self.old.part.terms (Step.Perform number memory) (Some (Performed memory)) self.old.journal self.new.journal) }
-        ensures none { IfNone result ((slot_in self.old.seats number ≢ Some slot) × (self.new ≡ self.old)) }
+        ensures none { IfNone result ((slot_in self.old.seats number ≢ Some slot)
+            × (self.new ≡ self.old)) }
     {
         let Some(memory) = self.cell.perform(slot, number) else {
             return None;

@@ -25,15 +25,24 @@ pub fn run<I: Image, E: Eligibility<Alloc = I::Alloc>>(
     config: &Config<I::Alloc>,
     events: Vec<Event<I::Alloc>, I::Alloc>,
 ) -> Result<Vec<Answer<I::Alloc>, I::Alloc>, NoMemory>
-    ensures answers { IfOk result (λ answers. IsAnswered (setup_for config.now) events.items answers.items) }
-    ensures alone { IfOk result (λ answers. IsAlone (setup_for config.now) events.items answers.items) }
-    ensures queue { IfOk result (λ answers. CountsItsOwn (setup_for config.now) events.items answers.items) }
-    ensures weight { IfOk result (λ answers. WaitsForLimits (setup_for config.now) events.items answers.items) }
-    ensures reserved { IfOk result (λ answers. ReservedFirst (setup_for config.now) events.items answers.items) }
-    ensures tags { IfOk result (λ answers. HasUnrolledTags (setup_for config.now) events.items answers.items) }
-    ensures counts { IfOk result (λ answers. KeepsToRates (setup_for config.now) events.items answers.items) }
-    ensures shares { IfOk result (λ answers. KeepsToWeights (setup_for config.now) events.items answers.items) }
-    ensures between { IfOk result (λ answers. KeepsToWeightsBetween (setup_for config.now) events.items answers.items) }
+    ensures answers { IfOk result (λ answers.
+        IsAnswered (setup_for config.now) events.items answers.items) }
+    ensures alone { IfOk result (λ answers.
+        IsAlone (setup_for config.now) events.items answers.items) }
+    ensures queue { IfOk result (λ answers.
+        CountsItsOwn (setup_for config.now) events.items answers.items) }
+    ensures weight { IfOk result (λ answers.
+        WaitsForLimits (setup_for config.now) events.items answers.items) }
+    ensures reserved { IfOk result (λ answers.
+        ReservedFirst (setup_for config.now) events.items answers.items) }
+    ensures tags { IfOk result (λ answers.
+        HasUnrolledTags (setup_for config.now) events.items answers.items) }
+    ensures counts { IfOk result (λ answers.
+        KeepsToRates (setup_for config.now) events.items answers.items) }
+    ensures shares { IfOk result (λ answers.
+        KeepsToWeights (setup_for config.now) events.items answers.items) }
+    ensures between { IfOk result (λ answers.
+        KeepsToWeightsBetween (setup_for config.now) events.items answers.items) }
 {
     let answers = answer_each::<I, E>(alloc, config, events)?;
     // What the definition promises of every run, it promises of this one.

@@ -65,7 +65,8 @@ fn open_members<I: Image>(
     inflight: usize,
 ) -> Result<Vec<Member<I>, I::Alloc>, NoMemory>
     requires { IsWithin 4096 inflight }
-    ensures members { IfOk result (λ made. made.items ≡ map (λ export. opening_standing inflight (terms_of export)) exports.now) }
+    ensures members { IfOk result (λ made.
+        made.items ≡ map (λ export. opening_standing inflight (terms_of export)) exports.now) }
     ensures short { IfOk result (λ made. All (λ member. AreShort member.part.rates) made.items) }
 {
     let mut members = Vec::with_capacity(alloc, exports.len())?;
@@ -221,8 +222,10 @@ impl<I: Image, E: Eligibility<Alloc = I::Alloc>> Server<I, E> {
 
     /// The tags of an export's requests that wait, each with its number, in the order of their numbers.
     pub fn tags(&self, alloc: I::Alloc, export: u32) -> Result<Vec<(u64, Tags), I::Alloc>, NoTags>
-        ensures told { IfOk result (λ told. (export < length self.now.setup.exports) × (told.items ≡ waiting_tags export self.now.table)) }
-        ensures refused { IfErr result (λ e. e ≡ NoTags.NoExport ↔ (length self.now.setup.exports ≤ export)) }
+        ensures told { IfOk result (λ told. (export < length self.now.setup.exports)
+            × (told.items ≡ waiting_tags export self.now.table)) }
+        ensures refused { IfErr result (λ e. e ≡ NoTags.NoExport
+            ↔ (length self.now.setup.exports ≤ export)) }
     {
         if export as usize >= self.members.len() {
             return Err(NoTags::NoExport);
@@ -268,9 +271,12 @@ impl<I: Image, E: Eligibility<Alloc = I::Alloc>> Server<I, E> {
 
     /// Nothing more arrives on a session that is open. It takes no memory.
     pub fn leave(&mut self, session: SessionId) -> Result<(), SessionRefusal>
-        ensures step { Stepped {A = I.Alloc} self.old (event.Leave session.export session.number) self.new (leave_says result) }
-        ensures journals { EventMoves {A = I.Alloc} self.old (event.Leave session.export session.number) self.new (leave_says result) }
-        ensures counted { counted_steps self.new ≡ counted_steps self.old + rise {A = I.Alloc} (leave_says result) }
+        ensures step { Stepped {A = I.Alloc} self.old (event.Leave session.export session.number)
+            self.new (leave_says result) }
+        ensures journals { EventMoves {A = I.Alloc} self.old
+            (event.Leave session.export session.number) self.new (leave_says result) }
+        ensures counted { counted_steps self.new
+            ≡ counted_steps self.old + rise {A = I.Alloc} (leave_says result) }
         ensures seats { self.new.seats ≡ self.old.seats }
     {
         if session.export as usize >= self.members.len() {
@@ -282,9 +288,12 @@ impl<I: Image, E: Eligibility<Alloc = I::Alloc>> Server<I, E> {
 
     /// A session that isn't gone is dropped with its replies; its requests are still served. It takes no memory.
     pub fn gone(&mut self, session: SessionId) -> Result<(), SessionRefusal>
-        ensures step { Stepped {A = I.Alloc} self.old (event.Gone session.export session.number) self.new (gone_says result) }
-        ensures journals { EventMoves {A = I.Alloc} self.old (event.Gone session.export session.number) self.new (gone_says result) }
-        ensures counted { counted_steps self.new ≡ counted_steps self.old + rise {A = I.Alloc} (gone_says result) }
+        ensures step { Stepped {A = I.Alloc} self.old (event.Gone session.export session.number)
+            self.new (gone_says result) }
+        ensures journals { EventMoves {A = I.Alloc} self.old
+            (event.Gone session.export session.number) self.new (gone_says result) }
+        ensures counted { counted_steps self.new
+            ≡ counted_steps self.old + rise {A = I.Alloc} (gone_says result) }
         ensures seats { self.new.seats ≡ self.old.seats }
     {
         if session.export as usize >= self.members.len() {
@@ -296,9 +305,12 @@ impl<I: Image, E: Eligibility<Alloc = I::Alloc>> Server<I, E> {
 
     /// The oldest reply of a session that isn't gone is taken. It takes no memory.
     pub fn take_reply(&mut self, session: SessionId) -> Result<Taken<I::Alloc>, SessionRefusal>
-        ensures step { Stepped {A = I.Alloc} self.old (event.Take session.export session.number) self.new (take_says result) }
-        ensures journals { EventMoves {A = I.Alloc} self.old (event.Take session.export session.number) self.new (take_says result) }
-        ensures counted { counted_steps self.new ≡ counted_steps self.old + rise {A = I.Alloc} (take_says result) }
+        ensures step { Stepped {A = I.Alloc} self.old (event.Take session.export session.number)
+            self.new (take_says result) }
+        ensures journals { EventMoves {A = I.Alloc} self.old
+            (event.Take session.export session.number) self.new (take_says result) }
+        ensures counted { counted_steps self.new
+            ≡ counted_steps self.old + rise {A = I.Alloc} (take_says result) }
         ensures seats { self.new.seats ≡ self.old.seats }
     {
         if session.export as usize >= self.members.len() {
@@ -311,9 +323,12 @@ impl<I: Image, E: Eligibility<Alloc = I::Alloc>> Server<I, E> {
     /// Opens a session of an export. The oldest steps of its log go into its base, as many as have to; without memory some
     /// of these.
     pub fn attach(&mut self, export: u32) -> Result<SessionId, NotAttached>
-        ensures step { Stepped {A = I.Alloc} self.old (event.Attach export) self.new (attach_says result) }
-        ensures journals { EventMoves {A = I.Alloc} self.old (event.Attach export) self.new (attach_says result) }
-        ensures counted { counted_steps self.new ≡ counted_steps self.old + rise {A = I.Alloc} (attach_says result) }
+        ensures step { Stepped {A = I.Alloc} self.old (event.Attach export) self.new
+            (attach_says result) }
+        ensures journals { EventMoves {A = I.Alloc} self.old (event.Attach export) self.new
+            (attach_says result) }
+        ensures counted { counted_steps self.new
+            ≡ counted_steps self.old + rise {A = I.Alloc} (attach_says result) }
         ensures seats { self.new.seats ≡ self.old.seats }
         ensures export { IfOk result (λ session. session.export ≡ export) }
     {
@@ -328,9 +343,12 @@ impl<I: Image, E: Eligibility<Alloc = I::Alloc>> Server<I, E> {
     /// does the last R tag where the new rates have a reservation. The oldest steps of its log go into its base, as many as
     /// have to; without memory some of these.
     pub fn retune(&mut self, export: u32, rates: Rates) -> Result<(), NotRetuned>
-        ensures step { Stepped {A = I.Alloc} self.old (event.Retune export rates) self.new (retune_says result) }
-        ensures journals { EventMoves {A = I.Alloc} self.old (event.Retune export rates) self.new (retune_says result) }
-        ensures counted { counted_steps self.new ≡ counted_steps self.old + rise {A = I.Alloc} (retune_says result) }
+        ensures step { Stepped {A = I.Alloc} self.old (event.Retune export rates) self.new
+            (retune_says result) }
+        ensures journals { EventMoves {A = I.Alloc} self.old (event.Retune export rates) self.new
+            (retune_says result) }
+        ensures counted { counted_steps self.new
+            ≡ counted_steps self.old + rise {A = I.Alloc} (retune_says result) }
         ensures seats { self.new.seats ≡ self.old.seats }
     {
         if export as usize >= self.members.len() {
@@ -342,8 +360,10 @@ impl<I: Image, E: Eligibility<Alloc = I::Alloc>> Server<I, E> {
 
     /// The request that is in service under this number, where one is. It takes no memory.
     pub fn find(&self, export: u32, number: u64) -> Option<Ticket>
-        ensures ticket { IfSome result (λ ticket. (ticket.export ≡ export) × (ticket.number ≡ number) × Holds self.now ticket) }
-        ensures out { is_some result ≡ is_some (find (is_out_row export number) self.now.table.rows) }
+        ensures ticket { IfSome result (λ ticket. (ticket.export ≡ export)
+            × (ticket.number ≡ number) × Holds self.now ticket) }
+        ensures out { is_some result
+            ≡ is_some (find (is_out_row export number) self.now.table.rows) }
     {
         if export as usize >= self.members.len() {
             return None;
@@ -364,9 +384,12 @@ impl<I: Image, E: Eligibility<Alloc = I::Alloc>> Server<I, E> {
         ensures some { IfSome result (λ memory. Holds self.old ticket
             × Stepped {A = I.Alloc} self.old (event.Perform ticket.export ticket.number) self.new (answer.Performed memory)) }
         ensures none { IfNone result ((Holds self.old ticket → ⊥) × (self.new ≡ self.old)) }
-        ensures journals { EventMoves {A = I.Alloc} self.old (event.Perform ticket.export ticket.number) self.new (perform_says result) }
-        ensures counted { counted_steps self.new ≡ counted_steps self.old + rise {A = I.Alloc} (perform_says result) }
-        ensures seats { OnSome result (self.new.seats ≡ change_at (seats_without ticket.number) ticket.export self.old.seats) }
+        ensures journals { EventMoves {A = I.Alloc} self.old
+            (event.Perform ticket.export ticket.number) self.new (perform_says result) }
+        ensures counted { counted_steps self.new
+            ≡ counted_steps self.old + rise {A = I.Alloc} (perform_says result) }
+        ensures seats { OnSome result (self.new.seats
+            ≡ change_at (seats_without ticket.number) ticket.export self.old.seats) }
     {
         if ticket.export as usize >= self.members.len() {
             return None;
@@ -390,9 +413,12 @@ impl<I: Image, E: Eligibility<Alloc = I::Alloc>> Server<I, E> {
         moment: Moment,
         request: Request<I::Alloc>,
     ) -> Result<Arrived, NotArrived<I::Alloc>>
-        ensures step { Stepped {A = I.Alloc} self.old (event.Arrive session.export session.number moment request) self.new (arrive_says result) }
-        ensures journals { EventMoves {A = I.Alloc} self.old (event.Arrive session.export session.number moment request) self.new (arrive_says result) }
-        ensures counted { counted_steps self.new ≡ counted_steps self.old + rise {A = I.Alloc} (arrive_says result) }
+        ensures step { Stepped {A = I.Alloc} self.old (event.Arrive session.export session.number
+            moment request) self.new (arrive_says result) }
+        ensures journals { EventMoves {A = I.Alloc} self.old (event.Arrive session.export
+            session.number moment request) self.new (arrive_says result) }
+        ensures counted { counted_steps self.new
+            ≡ counted_steps self.old + rise {A = I.Alloc} (arrive_says result) }
         ensures seats { self.new.seats ≡ self.old.seats }
         ensures back { IfErr result (λ e. e.request ≡ request) }
     {
@@ -423,9 +449,12 @@ impl<I: Image, E: Eligibility<Alloc = I::Alloc>> Server<I, E> {
     /// Chooses the request that is served next: none where as many are in service as may be, or nothing is due (mClock,
     /// request scheduling). It takes no memory.
     pub fn dispatch(&mut self, moment: Moment) -> Option<Chosen>
-        ensures step { Stepped {A = I.Alloc} self.old (event.Dispatch moment) self.new (dispatch_says result) }
-        ensures journals { EventMoves {A = I.Alloc} self.old (event.Dispatch moment) self.new (dispatch_says result) }
-        ensures counted { counted_steps self.new ≡ counted_steps self.old + rise {A = I.Alloc} (dispatch_says result) }
+        ensures step { Stepped {A = I.Alloc} self.old (event.Dispatch moment) self.new
+            (dispatch_says result) }
+        ensures journals { EventMoves {A = I.Alloc} self.old (event.Dispatch moment) self.new
+            (dispatch_says result) }
+        ensures counted { counted_steps self.new
+            ≡ counted_steps self.old + rise {A = I.Alloc} (dispatch_says result) }
         ensures ticket { IfSome result (λ chosen. Holds self.new chosen.ticket) }
         ensures seats { self.new.seats ≡ seats_chosen result self.old.seats }
     {

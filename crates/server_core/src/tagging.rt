@@ -80,10 +80,14 @@ pub(crate) fn give_credit<A: Allocator>(
     shares: &mut ShareClock,
     phase: Phase,
 )
-    requires waiting { AllTagsInRange (waiting_credited (credit_due phase shares.old.r_interval) waiting.old.items) }
-    requires last { IsOptionInRange (share_credited_by (credit_due phase shares.old.r_interval) shares.old).last_r }
-    ensures waiting { waiting.new.items ≡ waiting_credited (credit_due phase shares.old.r_interval) waiting.old.items }
-    ensures shares { shares.new ≡ share_credited_by (credit_due phase shares.old.r_interval) shares.old }
+    requires waiting { AllTagsInRange
+        (waiting_credited (credit_due phase shares.old.r_interval) waiting.old.items) }
+    requires last { IsOptionInRange
+        (share_credited_by (credit_due phase shares.old.r_interval) shares.old).last_r }
+    ensures waiting { waiting.new.items
+        ≡ waiting_credited (credit_due phase shares.old.r_interval) waiting.old.items }
+    ensures shares { shares.new
+        ≡ share_credited_by (credit_due phase shares.old.r_interval) shares.old }
     ensures capacity { deque_capacity waiting.old ≤ deque_capacity waiting.new }
 {
     match (phase, shares.r_interval()) {

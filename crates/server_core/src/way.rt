@@ -44,8 +44,10 @@ fn clear_way<I: Image, E: Eligibility>(members: &mut [Member<I>], eligible: &mut
     requires slots { E.contents eligible.old ≡ heads (parts members.old) }
     requires falls { IsFallInRange (least_first_p (parts members.old)) (pos at) }
     requires before { AllParts TagsInRange (parts members.old) }
-    requires after { AllParts TagsInRange (parts_for (least_first_p (parts members.old)) (pos at) (parts members.old)) }
-    ensures members { members.new ≡ lowered_to (least_first_p (parts members.old)) (pos at) members.old }
+    requires after { AllParts TagsInRange
+        (parts_for (least_first_p (parts members.old)) (pos at) (parts members.old)) }
+    ensures members { members.new
+        ≡ lowered_to (least_first_p (parts members.old)) (pos at) members.old }
     ensures slots { E.contents eligible.new ≡ heads (parts members.new) }
     ensures asked { E.asked eligible.new ≤ E.asked eligible.old }
 {

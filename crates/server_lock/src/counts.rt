@@ -35,80 +35,60 @@ impl ExportCounts {
         written_bytes: 0,
     };
 
-    /// Behind a turn of the export.
-    pub fn counted(self, event: &EventTrace, answer: &AnswerTrace) -> ExportCounts
-        ensures { result ≡ counted self event.now answer.now }
+    /// A turn of the export was made.
+    pub fn count(&mut self, event: &EventTrace, answer: &AnswerTrace)
+        ensures { self.new ≡ counted self.old event.now answer.now }
     {
         match answer {
-            AnswerTrace::Accepted { .. } => self.with_arrival(event),
-            AnswerTrace::Answered(_) => self.with_error(),
-            AnswerTrace::Picked { phase, .. } => self.with_choice(*phase),
-            AnswerTrace::Performed { memory } => self.with_performed(*memory),
-            _ => self,
+            AnswerTrace::Accepted { .. } => self.count_arrival(event),
+            AnswerTrace::Answered(_) => self.count_error(),
+            AnswerTrace::Picked { phase, .. } => self.count_choice(*phase),
+            AnswerTrace::Performed { memory } => self.count_performed(*memory),
+            _ => {}
         }
     }
 
-    fn with_arrival(self, event: &EventTrace) -> ExportCounts
-        ensures { result ≡ with_arrival self event.now }
+    fn count_arrival(&mut self, event: &EventTrace)
+        ensures { self.new ≡ with_arrival self.old event.now }
     {
         match event {
-            EventTrace::Arrive { head, .. } => self.with_data(*head),
-            _ => self,
+            EventTrace::Arrive { head, .. } => self.count_data(*head),
+            _ => {}
         }
     }
 
-    fn with_data(self, head: RequestHead) -> ExportCounts
-        ensures { result ≡ with_data self head }
+    fn count_data(&mut self, head: RequestHead)
+        ensures { self.new ≡ with_data self.old head }
     {
         let bytes = u64::from(head.length);
         match head.kind {
-            READ => ExportCounts {
-                read_bytes: raised(self.read_bytes, bytes),
-                ..self
-            },
-            WRITE => ExportCounts {
-                written_bytes: raised(self.written_bytes, bytes),
-                ..self
-            },
-            _ => self,
+            READ => self.read_bytes = raised(self.read_bytes, bytes),
+            WRITE => self.written_bytes = raised(self.written_bytes, bytes),
+            _ => {}
         }
     }
 
-    fn with_choice(self, phase: Phase) -> ExportCounts
-        ensures { result ≡ with_choice self phase }
+    fn count_choice(&mut self, phase: Phase)
+        ensures { self.new ≡ with_choice self.old phase }
     {
         match phase {
-            Phase::Reservation => ExportCounts {
-                by_reservation: raised(self.by_reservation, 1),
-                ..self
-            },
-            Phase::Weight => ExportCounts {
-                by_weight: raised(self.by_weight, 1),
-                ..self
-            },
+            Phase::Reservation => self.by_reservation = raised(self.by_reservation, 1),
+            Phase::Weight => self.by_weight = raised(self.by_weight, 1),
         }
     }
 
-    fn with_error(self) -> ExportCounts
-        ensures { result ≡ with_error self }
+    fn count_error(&mut self)
+        ensures { self.new ≡ with_error self.old }
     {
-        ExportCounts {
-            errors: raised(self.errors, 1),
-            ..self
-        }
+        self.errors = raised(self.errors, 1);
     }
 
-    fn with_performed(self, memory: bool) -> ExportCounts
-        ensures { result ≡ with_performed self memory }
+    fn count_performed(&mut self, memory: bool)
+        ensures { self.new ≡ with_performed self.old memory }
     {
-        let performed = ExportCounts {
-            performed: raised(self.performed, 1),
-            ..self
-        };
-        if memory {
-            performed
-        } else {
-            performed.with_error()
+        self.performed = raised(self.performed, 1);
+        if !memory {
+            self.count_error();
         }
     }
 }

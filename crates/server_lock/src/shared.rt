@@ -122,7 +122,8 @@ impl<L: Ledger, I: Image, E: Eligibility<Alloc = I::Alloc>> Shared<L, I, E> {
         pass: &mut Pass<L>,
         export: u32,
     ) -> Result<SessionId, NotAttached>
-        ensures pass { pass.new ≡ noted {A = I.Alloc} pass.old (event.Attach export) (attach_says result) }
+        ensures pass { pass.new
+            ≡ noted {A = I.Alloc} pass.old (event.Attach export) (attach_says result) }
         ensures export { IfOk result (λ session. session.export ≡ export) }
     {
         turns::turn_attach(&mut *self.hold(rt), pass, export)
@@ -137,7 +138,8 @@ impl<L: Ledger, I: Image, E: Eligibility<Alloc = I::Alloc>> Shared<L, I, E> {
         moment: Moment,
         request: Request<I::Alloc>,
     ) -> Result<Arrived, NotArrived<I::Alloc>>
-        ensures pass { pass.new ≡ noted {A = I.Alloc} pass.old (event.Arrive session.export session.number moment request) (arrive_says result) }
+        ensures pass { pass.new ≡ noted {A = I.Alloc} pass.old
+            (event.Arrive session.export session.number moment request) (arrive_says result) }
         ensures back { IfErr result (λ e. e.request ≡ request) }
     {
         turns::turn_arrive(&mut *self.hold(rt), pass, session, moment, request)
@@ -150,7 +152,8 @@ impl<L: Ledger, I: Image, E: Eligibility<Alloc = I::Alloc>> Shared<L, I, E> {
         pass: &mut Pass<L>,
         moment: Moment,
     ) -> Option<Chosen>
-        ensures { pass.new ≡ chosen_by (noted {A = I.Alloc} pass.old (event.Dispatch moment) (dispatch_says result)) result }
+        ensures { pass.new ≡ chosen_by
+            (noted {A = I.Alloc} pass.old (event.Dispatch moment) (dispatch_says result)) result }
     {
         turns::turn_dispatch(&mut *self.hold(rt), pass, moment)
     }
@@ -158,7 +161,8 @@ impl<L: Ledger, I: Image, E: Eligibility<Alloc = I::Alloc>> Shared<L, I, E> {
     /// The request in service is done: whether memory was there for it, or None where the ticket is stale. Where the ticket
     /// is that of the pass's latest choice, the pass holds it no more.
     pub fn turn_perform<R: Wait>(&self, rt: &R, pass: &mut Pass<L>, ticket: Ticket) -> Option<bool>
-        ensures { pass.new ≡ without (noted {A = I.Alloc} pass.old (event.Perform ticket.export ticket.number) (perform_says result)) ticket }
+        ensures { pass.new ≡ without (noted {A = I.Alloc} pass.old
+            (event.Perform ticket.export ticket.number) (perform_says result)) ticket }
     {
         turns::turn_perform(&mut *self.hold(rt), pass, ticket)
     }
@@ -170,7 +174,8 @@ impl<L: Ledger, I: Image, E: Eligibility<Alloc = I::Alloc>> Shared<L, I, E> {
         pass: &mut Pass<L>,
         session: SessionId,
     ) -> Result<Taken<I::Alloc>, SessionRefusal>
-        ensures { pass.new ≡ noted {A = I.Alloc} pass.old (event.Take session.export session.number) (take_says result) }
+        ensures { pass.new ≡ noted {A = I.Alloc} pass.old (event.Take session.export session.number)
+            (take_says result) }
     {
         turns::turn_take(&mut *self.hold(rt), pass, session)
     }
@@ -182,7 +187,8 @@ impl<L: Ledger, I: Image, E: Eligibility<Alloc = I::Alloc>> Shared<L, I, E> {
         pass: &mut Pass<L>,
         session: SessionId,
     ) -> Result<(), SessionRefusal>
-        ensures { pass.new ≡ noted {A = I.Alloc} pass.old (event.Leave session.export session.number) (leave_says result) }
+        ensures { pass.new ≡ noted {A = I.Alloc} pass.old
+            (event.Leave session.export session.number) (leave_says result) }
     {
         turns::turn_leave(&mut *self.hold(rt), pass, session)
     }
@@ -194,7 +200,8 @@ impl<L: Ledger, I: Image, E: Eligibility<Alloc = I::Alloc>> Shared<L, I, E> {
         pass: &mut Pass<L>,
         session: SessionId,
     ) -> Result<(), SessionRefusal>
-        ensures { pass.new ≡ noted {A = I.Alloc} pass.old (event.Gone session.export session.number) (gone_says result) }
+        ensures { pass.new ≡ noted {A = I.Alloc} pass.old (event.Gone session.export session.number)
+            (gone_says result) }
     {
         turns::turn_gone(&mut *self.hold(rt), pass, session)
     }
@@ -207,7 +214,8 @@ impl<L: Ledger, I: Image, E: Eligibility<Alloc = I::Alloc>> Shared<L, I, E> {
         export: u32,
         rates: Rates,
     ) -> Result<(), NotRetuned>
-        ensures { pass.new ≡ noted {A = I.Alloc} pass.old (event.Retune export rates) (retune_says result) }
+        ensures { pass.new
+            ≡ noted {A = I.Alloc} pass.old (event.Retune export rates) (retune_says result) }
     {
         turns::turn_retune(&mut *self.hold(rt), pass, export, rates)
     }

@@ -1,7 +1,8 @@
 //! What is counted of each export beside the server, by the traces of the turns.
 ghost use Rattle.std.specs.Prelude.{◌≡◌, ◌%◌, ◌<◌, ◌++◌, ◌∷◌, [], length, map, option_map, replicate, slice_get, IfOk, OnErr};
+ghost use Rattle.std.specs.Int.{IsPowerOfTwo, IsNextPowerOfTwo};
 ghost use Rattle.nbd_measures.specs.Holds.{no_holds, noted};
-ghost use Rattle.server_lock.specs.Tally.{accepted_by, arrived, chosen, no_counts, noted_in, noted_turn, picked_by, wait_of};
+ghost use Rattle.server_lock.specs.Tally.{accepted_by, arrived, chosen, no_counts, noted_in, noted_turn, picked_by};
 
 use crate::counts::ExportCounts;
 use crate::trace::{AnswerTrace, EventTrace};
@@ -15,29 +16,38 @@ use tag_clock::Moment;
 #[derive(Drop)]
 pub struct ExportTally<A: Allocator> {
     counts: ExportCounts,
-    // The moments at which its latest requests arrived, each found by the request's number.
+    // The moments at which its latest requests arrived, each found by the last bits of the request's number.
     arrivals: Vec<u64, A>,
     waits: LatestWaits<A>,
 }
 
 impl<A: Allocator> Model for ExportTally<A> {
+    ghost use Rattle.std.specs.Prelude.{length};
+    ghost use Rattle.std.specs.Int.{IsPowerOfTwo};
     ghost use Rattle.server_lock.specs.Tally.{Known};
 
     ghost Value = { Known };
 
     ghost view = { λ t. record { counts = t.counts; arrivals = t.arrivals.items; waits = t.waits } };
+
+    ghost invariant = { λ t. IsPowerOfTwo (length t.arrivals.items) };
 }
 
 impl<A: Allocator + Copy> ExportTally<A> {
-    /// Of an export of which so many requests may wait or be in service.
+    /// Of an export of which so many requests may wait or be in service. Room is kept for the next power of two.
     pub fn new(alloc: A, requests: usize) -> Result<ExportTally<A>, NoMemory>
         ensures counts { IfOk result (λ tally. tally.counts ≡ no_counts) }
-        ensures arrivals { IfOk result (λ tally. tally.arrivals ≡ replicate requests 0) }
+        ensures room { IfOk result (λ tally. IsNextPowerOfTwo requests (length tally.arrivals)) }
+        ensures arrivals { IfOk result (λ tally.
+            tally.arrivals ≡ replicate (length tally.arrivals) 0) }
         ensures waits { IfOk result (λ tally. tally.waits ≡ []) }
     {
+        let Some(room) = requests.checked_next_power_of_two() else {
+            return Err(NoMemory);
+        };
         Ok(ExportTally {
             counts: ExportCounts::NOTHING,
-            arrivals: Vec::from_elem(alloc, 0u64, requests)?,
+            arrivals: Vec::from_elem(alloc, 0u64, room)?,
             waits: LatestWaits::new(alloc)?,
         })
     }
@@ -60,7 +70,7 @@ impl<A: Allocator + Copy> ExportTally<A> {
     fn note(&mut self, event: &EventTrace, answer: &AnswerTrace)
         ensures { self.new ≡ noted_turn self.old event.now answer.now }
     {
-        self.counts = self.counts.counted(event, answer);
+        self.counts.count(event, answer);
         match answer {
             AnswerTrace::Accepted { number, .. } => self.note_accepted(event, *number),
             AnswerTrace::Picked { number, .. } => self.note_picked(event, *number),
@@ -90,41 +100,27 @@ impl<A: Allocator + Copy> ExportTally<A> {
     fn note_arrival(&mut self, number: u64, moment: Moment)
         ensures { self.new ≡ arrived self.old number moment }
     {
-        let room = self.arrivals.len();
-        if room > 0 {
-            let at = place(number, room);
-            self.arrivals[at] = moment.nanoseconds();
-        }
+        let at = place(number, self.arrivals.len());
+        self.arrivals[at] = moment.nanoseconds();
     }
 
     /// It was chosen.
     fn note_choice(&mut self, number: u64, moment: Moment)
         ensures { self.new ≡ chosen self.old number moment }
     {
-        let wait = wait_of(self.arrivals.as_slice(), number, moment);
-        self.waits.note(wait);
+        let arrival = self.arrivals[place(number, self.arrivals.len())];
+        self.waits
+            .note(moment.nanoseconds().saturating_sub(arrival));
     }
 }
 
-/// How long a request has waited.
-fn wait_of(arrivals: &[u64], number: u64, moment: Moment) -> u64
-    ensures { result ≡ wait_of arrivals.now number moment }
-{
-    let room = arrivals.len();
-    if room == 0 {
-        return 0;
-    }
-    moment
-        .nanoseconds()
-        .saturating_sub(arrivals[place(number, room)])
-}
-
+/// A number's place among so many, by its last bits.
 fn place(number: u64, room: usize) -> usize
-    requires { 0 < room }
+    requires { IsPowerOfTwo room }
     ensures place { result ≡ number % room }
     ensures within { result < room }
 {
-    (number % room as u64) as usize
+    (number & (room as u64 - 1)) as usize
 }
 
 /// What is counted beside a server. Counting takes no memory.
@@ -156,7 +152,8 @@ impl<A: Allocator + Copy> Tally<A> {
 
     /// One more export, the next by number.
     pub fn add(&mut self, export: ExportTally<A>) -> Result<(), NoMemory>
-        ensures { IfOk result (λ _. self.new ≡ record self.old { exports = self.old.exports ++ export ∷ [] }) }
+        ensures { IfOk result (λ _.
+            self.new ≡ record self.old { exports = self.old.exports ++ export ∷ [] }) }
     {
         self.exports.push(export)?;
         Ok(())
@@ -185,7 +182,10 @@ impl<A: Allocator + Copy> Tally<A> {
 
     /// A turn was made that named this export, or chose it.
     pub(crate) fn note(&mut self, export: u32, event: &EventTrace, answer: &AnswerTrace)
-        ensures { self.new ≡ record self.old { exports = noted_in self.old.exports export event.now answer.now (slice_get self.old.exports export) } }
+        ensures { self.new ≡ record self.old {
+          exports = noted_in self.old.exports export event.now
+              answer.now (slice_get self.old.exports export);
+        } }
     {
         if let Some(tally) = self.exports.get_mut(export as usize) {
             tally.note(event, answer);

@@ -117,7 +117,8 @@ impl<L: Ledger> Pass<L> {
     /// A turn was made, which the server counted where its answer is that of a counted step.
     fn note(&mut self, book: &mut Book<L>, event: EventTrace, answer: AnswerTrace)
         ensures total { book.new.total ≡ book.old.total + rise_of_trace answer }
-        ensures score { self.new ≡ scored self.old (rise_of_trace answer) (record { event = event; answer = answer }) }
+        ensures score { self.new
+            ≡ scored self.old (rise_of_trace answer) (record { event = event; answer = answer }) }
     {
         book.add(&mut self.share, u64::from(answer.is_counted()));
         if self.turns < u64::MAX {
@@ -299,11 +300,14 @@ pub fn turn_attach<L: Ledger, I: Image, E: Eligibility<Alloc = I::Alloc>>(
     pass: &mut Pass<L>,
     export: u32,
 ) -> Result<SessionId, NotAttached>
-    ensures step { Stepped {A = I.Alloc} booked.old (event.Attach export) booked.new (attach_says result) }
-    ensures journals { EventMoves {A = I.Alloc} booked.old (event.Attach export) booked.new (attach_says result) }
+    ensures step { Stepped {A = I.Alloc} booked.old (event.Attach export) booked.new
+        (attach_says result) }
+    ensures journals { EventMoves {A = I.Alloc} booked.old (event.Attach export) booked.new
+        (attach_says result) }
     ensures seats { booked.new.seats ≡ booked.old.seats }
     ensures export { IfOk result (λ session. session.export ≡ export) }
-    ensures pass { pass.new ≡ noted {A = I.Alloc} pass.old (event.Attach export) (attach_says result) }
+    ensures pass { pass.new
+        ≡ noted {A = I.Alloc} pass.old (event.Attach export) (attach_says result) }
 {
     let answer = booked.server.attach(export);
     let told = told_attach::<I::Alloc>(&answer);
@@ -319,11 +323,14 @@ pub fn turn_arrive<L: Ledger, I: Image, E: Eligibility<Alloc = I::Alloc>>(
     moment: Moment,
     request: Request<I::Alloc>,
 ) -> Result<Arrived, NotArrived<I::Alloc>>
-    ensures step { Stepped {A = I.Alloc} booked.old (event.Arrive session.export session.number moment request) booked.new (arrive_says result) }
-    ensures journals { EventMoves {A = I.Alloc} booked.old (event.Arrive session.export session.number moment request) booked.new (arrive_says result) }
+    ensures step { Stepped {A = I.Alloc} booked.old (event.Arrive session.export session.number
+        moment request) booked.new (arrive_says result) }
+    ensures journals { EventMoves {A = I.Alloc} booked.old (event.Arrive session.export
+        session.number moment request) booked.new (arrive_says result) }
     ensures seats { booked.new.seats ≡ booked.old.seats }
     ensures back { IfErr result (λ e. e.request ≡ request) }
-    ensures pass { pass.new ≡ noted {A = I.Alloc} pass.old (event.Arrive session.export session.number moment request) (arrive_says result) }
+    ensures pass { pass.new ≡ noted {A = I.Alloc} pass.old
+        (event.Arrive session.export session.number moment request) (arrive_says result) }
 {
     let SessionId { export, number } = session;
     let head = request.head();
@@ -346,11 +353,14 @@ pub fn turn_dispatch<L: Ledger, I: Image, E: Eligibility<Alloc = I::Alloc>>(
     pass: &mut Pass<L>,
     moment: Moment,
 ) -> Option<Chosen>
-    ensures step { Stepped {A = I.Alloc} booked.old (event.Dispatch moment) booked.new (dispatch_says result) }
-    ensures journals { EventMoves {A = I.Alloc} booked.old (event.Dispatch moment) booked.new (dispatch_says result) }
+    ensures step { Stepped {A = I.Alloc} booked.old (event.Dispatch moment) booked.new
+        (dispatch_says result) }
+    ensures journals { EventMoves {A = I.Alloc} booked.old (event.Dispatch moment) booked.new
+        (dispatch_says result) }
     ensures ticket { IfSome result (λ chosen. Holds booked.new chosen.ticket) }
     ensures seats { booked.new.seats ≡ seats_chosen result booked.old.seats }
-    ensures pass { pass.new ≡ chosen_by (noted {A = I.Alloc} pass.old (event.Dispatch moment) (dispatch_says result)) result }
+    ensures pass { pass.new ≡ chosen_by
+        (noted {A = I.Alloc} pass.old (event.Dispatch moment) (dispatch_says result)) result }
 {
     let answer = booked.server.dispatch(moment);
     let told = told_dispatch::<I::Alloc>(&answer);
@@ -376,9 +386,12 @@ pub fn turn_perform<L: Ledger, I: Image, E: Eligibility<Alloc = I::Alloc>>(
     ensures some { IfSome result (λ memory. Holds booked.old ticket
         × Stepped {A = I.Alloc} booked.old (event.Perform ticket.export ticket.number) booked.new (answer.Performed memory)) }
     ensures none { IfNone result ((Holds booked.old ticket → ⊥) × (booked.new ≡ booked.old)) }
-    ensures journals { EventMoves {A = I.Alloc} booked.old (event.Perform ticket.export ticket.number) booked.new (perform_says result) }
-    ensures seats { OnSome result (booked.new.seats ≡ change_at (seats_without ticket.number) ticket.export booked.old.seats) }
-    ensures pass { pass.new ≡ without (noted {A = I.Alloc} pass.old (event.Perform ticket.export ticket.number) (perform_says result)) ticket }
+    ensures journals { EventMoves {A = I.Alloc} booked.old
+        (event.Perform ticket.export ticket.number) booked.new (perform_says result) }
+    ensures seats { OnSome result (booked.new.seats
+        ≡ change_at (seats_without ticket.number) ticket.export booked.old.seats) }
+    ensures pass { pass.new ≡ without (noted {A = I.Alloc} pass.old
+        (event.Perform ticket.export ticket.number) (perform_says result)) ticket }
 {
     let answer = booked.server.perform(ticket);
     let told = told_perform::<I::Alloc>(answer);
@@ -398,10 +411,13 @@ pub fn turn_take<L: Ledger, I: Image, E: Eligibility<Alloc = I::Alloc>>(
     pass: &mut Pass<L>,
     session: SessionId,
 ) -> Result<Taken<I::Alloc>, SessionRefusal>
-    ensures step { Stepped {A = I.Alloc} booked.old (event.Take session.export session.number) booked.new (take_says result) }
-    ensures journals { EventMoves {A = I.Alloc} booked.old (event.Take session.export session.number) booked.new (take_says result) }
+    ensures step { Stepped {A = I.Alloc} booked.old (event.Take session.export session.number)
+        booked.new (take_says result) }
+    ensures journals { EventMoves {A = I.Alloc} booked.old
+        (event.Take session.export session.number) booked.new (take_says result) }
     ensures seats { booked.new.seats ≡ booked.old.seats }
-    ensures pass { pass.new ≡ noted {A = I.Alloc} pass.old (event.Take session.export session.number) (take_says result) }
+    ensures pass { pass.new ≡ noted {A = I.Alloc} pass.old
+        (event.Take session.export session.number) (take_says result) }
 {
     let SessionId { export, number } = session;
     let answer = booked.server.take_reply(session);
@@ -420,10 +436,13 @@ pub fn turn_leave<L: Ledger, I: Image, E: Eligibility<Alloc = I::Alloc>>(
     pass: &mut Pass<L>,
     session: SessionId,
 ) -> Result<(), SessionRefusal>
-    ensures step { Stepped {A = I.Alloc} booked.old (event.Leave session.export session.number) booked.new (leave_says result) }
-    ensures journals { EventMoves {A = I.Alloc} booked.old (event.Leave session.export session.number) booked.new (leave_says result) }
+    ensures step { Stepped {A = I.Alloc} booked.old (event.Leave session.export session.number)
+        booked.new (leave_says result) }
+    ensures journals { EventMoves {A = I.Alloc} booked.old
+        (event.Leave session.export session.number) booked.new (leave_says result) }
     ensures seats { booked.new.seats ≡ booked.old.seats }
-    ensures pass { pass.new ≡ noted {A = I.Alloc} pass.old (event.Leave session.export session.number) (leave_says result) }
+    ensures pass { pass.new ≡ noted {A = I.Alloc} pass.old
+        (event.Leave session.export session.number) (leave_says result) }
 {
     let SessionId { export, number } = session;
     let answer = booked.server.leave(session);
@@ -442,10 +461,13 @@ pub fn turn_gone<L: Ledger, I: Image, E: Eligibility<Alloc = I::Alloc>>(
     pass: &mut Pass<L>,
     session: SessionId,
 ) -> Result<(), SessionRefusal>
-    ensures step { Stepped {A = I.Alloc} booked.old (event.Gone session.export session.number) booked.new (gone_says result) }
-    ensures journals { EventMoves {A = I.Alloc} booked.old (event.Gone session.export session.number) booked.new (gone_says result) }
+    ensures step { Stepped {A = I.Alloc} booked.old (event.Gone session.export session.number)
+        booked.new (gone_says result) }
+    ensures journals { EventMoves {A = I.Alloc} booked.old
+        (event.Gone session.export session.number) booked.new (gone_says result) }
     ensures seats { booked.new.seats ≡ booked.old.seats }
-    ensures pass { pass.new ≡ noted {A = I.Alloc} pass.old (event.Gone session.export session.number) (gone_says result) }
+    ensures pass { pass.new ≡ noted {A = I.Alloc} pass.old
+        (event.Gone session.export session.number) (gone_says result) }
 {
     let SessionId { export, number } = session;
     let answer = booked.server.gone(session);
@@ -465,10 +487,13 @@ pub fn turn_retune<L: Ledger, I: Image, E: Eligibility<Alloc = I::Alloc>>(
     export: u32,
     rates: Rates,
 ) -> Result<(), NotRetuned>
-    ensures step { Stepped {A = I.Alloc} booked.old (event.Retune export rates) booked.new (retune_says result) }
-    ensures journals { EventMoves {A = I.Alloc} booked.old (event.Retune export rates) booked.new (retune_says result) }
+    ensures step { Stepped {A = I.Alloc} booked.old (event.Retune export rates) booked.new
+        (retune_says result) }
+    ensures journals { EventMoves {A = I.Alloc} booked.old (event.Retune export rates) booked.new
+        (retune_says result) }
     ensures seats { booked.new.seats ≡ booked.old.seats }
-    ensures pass { pass.new ≡ noted {A = I.Alloc} pass.old (event.Retune export rates) (retune_says result) }
+    ensures pass { pass.new
+        ≡ noted {A = I.Alloc} pass.old (event.Retune export rates) (retune_says result) }
 {
     let answer = booked.server.retune(export, rates);
     let told = told_retune::<I::Alloc>(&answer);

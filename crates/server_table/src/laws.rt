@@ -10,15 +10,20 @@ use std::alloc::Allocator;
 
 /// An event that changes the sessions of one export alone is that export's own step.
 pub fn steps_of_sessions<A: Allocator>()
-    ensures attach { (ps : List Part) (now inflight e : ℕ) → IsOwnStep {A = A} ps now inflight e (Attach e) true own.Attach }
-    ensures take { (ps : List Part) (now inflight e s : ℕ) (memory : Bool) → IsOwnStep {A = A} ps now inflight e (Take e s) memory (own.Take s) }
-    ensures leave { (ps : List Part) (now inflight e s : ℕ) (memory : Bool) → IsOwnStep {A = A} ps now inflight e (Leave e s) memory (own.Leave s) }
-    ensures gone { (ps : List Part) (now inflight e s : ℕ) (memory : Bool) → IsOwnStep {A = A} ps now inflight e (Gone e s) memory (own.Gone s) }
+    ensures attach { (ps : List Part) (now inflight e : ℕ)
+        → IsOwnStep {A = A} ps now inflight e (Attach e) true own.Attach }
+    ensures take { (ps : List Part) (now inflight e s : ℕ) (memory : Bool)
+        → IsOwnStep {A = A} ps now inflight e (Take e s) memory (own.Take s) }
+    ensures leave { (ps : List Part) (now inflight e s : ℕ) (memory : Bool)
+        → IsOwnStep {A = A} ps now inflight e (Leave e s) memory (own.Leave s) }
+    ensures gone { (ps : List Part) (now inflight e s : ℕ) (memory : Bool)
+        → IsOwnStep {A = A} ps now inflight e (Gone e s) memory (own.Gone s) }
 {}
 
 /// A retune changes the rates of one export's part, and its last R tag.
 pub fn steps_of_rates<A: Allocator>()
-    ensures { (ps : List Part) (now inflight e : ℕ) (rates : Intervals) → IsRetune A ps now inflight e rates }
+    ensures { (ps : List Part) (now inflight e : ℕ) (rates : Intervals)
+        → IsRetune A ps now inflight e rates }
 {}
 
 /// The choice over all rows is the choice among the first request of each export, as an eligibility makes it.

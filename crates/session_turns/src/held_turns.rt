@@ -69,10 +69,13 @@ pub fn read_ready<L: Ledger, I: Image, E: Eligibility<Alloc = I::Alloc>, R: Read
     clock: &C,
 ) -> Option<Turn<I::Alloc>>
     ensures ready { IfSome result (λ turn. 0 < reader.old.reading.ready) }
-    ensures turn { IfSome result (λ turn. IsReadTurn reader.old reader.new pass.old session turn pass.new) }
-    ensures server { IfSome result (λ turn. HandsInNext I.Alloc reader.old reader.new booked.old pass.old session turn booked.new pass.new) }
+    ensures turn { IfSome result (λ turn.
+        IsReadTurn reader.old reader.new pass.old session turn pass.new) }
+    ensures server { IfSome result (λ turn. HandsInNext I.Alloc reader.old reader.new booked.old
+        pass.old session turn booked.new pass.new) }
     ensures unread { reader.new.left ≡ reader.old.left }
-    ensures none { IfNone result ((reader.old.reading.ready ≡ 0) × (reader.new ≡ reader.old) × (pass.new ≡ pass.old) × (booked.new ≡ booked.old)) }
+    ensures none { IfNone result ((reader.old.reading.ready ≡ 0) × (reader.new ≡ reader.old)
+        × (pass.new ≡ pass.old) × (booked.new ≡ booked.old)) }
 {
     if !reader.is_ready() {
         return None;

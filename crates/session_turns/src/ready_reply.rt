@@ -57,9 +57,11 @@ pub fn put_ready<A: Allocator, W: Write>(
     ready: &ReadyReply<A>,
     writer: &mut Counted<W>,
 ) -> Result<(), WriteFailed>
-    ensures ok { OnOk result (Appends (W.contents writer.old.inner) (W.contents writer.new.inner) (ready_text ready.now)) }
+    ensures ok { OnOk result (Appends (W.contents writer.old.inner) (W.contents writer.new.inner)
+        (ready_text ready.now)) }
     ensures kept { OnOk result (writer.new.failures ≡ writer.old.failures) }
-    ensures part { OnErr result (WritesPart (W.contents writer.old.inner) (W.contents writer.new.inner) (ready_text ready.now)) }
+    ensures part { OnErr result (WritesPart (W.contents writer.old.inner)
+        (W.contents writer.new.inner) (ready_text ready.now)) }
     ensures failed { OnErr result (Rises writer.old.failures writer.new.failures) }
 {
     match ready {

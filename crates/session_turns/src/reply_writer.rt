@@ -42,9 +42,11 @@ fn put_all<W: Write, A: Allocator>(
     replies: &[Reply<A>],
     writer: &mut Counted<W>,
 ) -> Result<(), WriteFailed>
-    ensures ok { OnOk result (Appends (W.contents writer.old.inner) (W.contents writer.new.inner) (texts_of replies.now)) }
+    ensures ok { OnOk result (Appends (W.contents writer.old.inner) (W.contents writer.new.inner)
+        (texts_of replies.now)) }
     ensures kept { OnOk result (writer.new.failures ≡ writer.old.failures) }
-    ensures part { OnErr result (WritesPart (W.contents writer.old.inner) (W.contents writer.new.inner) (texts_of replies.now)) }
+    ensures part { OnErr result (WritesPart (W.contents writer.old.inner)
+        (W.contents writer.new.inner) (texts_of replies.now)) }
     ensures failed { OnErr result (Rises writer.old.failures writer.new.failures) }
 {
     let mut at = 0;
@@ -133,7 +135,8 @@ impl<W: Write + Drop, A: Allocator> ReplyWriter<W, A> {
         pass: &mut Pass<L>,
         session: SessionId,
     ) -> Stop
-        ensures takes { Takes A booked.old pass.old session self.old.waiting self.old.room result self.new.waiting booked.new pass.new }
+        ensures takes { Takes A booked.old pass.old session self.old.waiting self.old.room result
+            self.new.waiting booked.new pass.new }
         ensures rest { self.new ≡ record self.old { waiting = self.new.waiting } }
     {
         take_replies(booked, pass, session, &mut self.waiting)
@@ -146,8 +149,10 @@ impl<W: Write + Drop, A: Allocator> ReplyWriter<W, A> {
         pass: &mut Pass<L>,
         session: SessionId,
     ) -> Stop
-        ensures server { Takes A booked.old pass.old session self.old.waiting (min self.old.room (length self.old.waiting + 1)) result self.new.waiting booked.new pass.new }
-        ensures turn { TakesOne pass.old session self.old.waiting self.old.room result self.new.waiting pass.new }
+        ensures server { Takes A booked.old pass.old session self.old.waiting (min self.old.room
+            (length self.old.waiting + 1)) result self.new.waiting booked.new pass.new }
+        ensures turn { TakesOne pass.old session self.old.waiting self.old.room result
+            self.new.waiting pass.new }
         ensures rest { self.new ≡ record self.old { waiting = self.new.waiting } }
     {
         take_one(booked, pass, session, &mut self.waiting)
@@ -193,7 +198,8 @@ impl<W: Write + Drop, A: Allocator> ReplyWriter<W, A> {
         ensures text { Keeps self.old.text self.new.text }
         ensures failed { OnErr result (Rises self.old.failures self.new.failures) }
         ensures kept { OnOk result (self.new.failures ≡ self.old.failures) }
-        ensures rest { self.new ≡ record self.old { text = self.new.text; failures = self.new.failures } }
+        ensures rest { self.new
+            ≡ record self.old { text = self.new.text; failures = self.new.failures } }
     {
         self.writer.flush()
     }

@@ -48,8 +48,10 @@ pub fn take_one<L: Ledger, I: Image, E: Eligibility<Alloc = I::Alloc>, A: Alloca
     session: SessionId,
     replies: &mut Vec<Reply<I::Alloc>, A>,
 ) -> Stop
-    ensures server { Takes I.Alloc booked.old pass.old session replies.old.items (min (vec_capacity replies.old) (length replies.old.items + 1)) result replies.new.items booked.new pass.new }
-    ensures turn { TakesOne pass.old session replies.old.items (vec_capacity replies.old) result replies.new.items pass.new }
+    ensures server { Takes I.Alloc booked.old pass.old session replies.old.items (min (vec_capacity
+        replies.old) (length replies.old.items + 1)) result replies.new.items booked.new pass.new }
+    ensures turn { TakesOne pass.old session replies.old.items (vec_capacity replies.old) result
+        replies.new.items pass.new }
     ensures room { vec_capacity replies.new ≡ vec_capacity replies.old }
 {
     if replies.len() >= replies.capacity() {
@@ -71,7 +73,8 @@ pub fn take_replies<L: Ledger, I: Image, E: Eligibility<Alloc = I::Alloc>, A: Al
     session: SessionId,
     replies: &mut Vec<Reply<I::Alloc>, A>,
 ) -> Stop
-    ensures takes { Takes I.Alloc booked.old pass.old session replies.old.items (vec_capacity replies.old) result replies.new.items booked.new pass.new }
+    ensures takes { Takes I.Alloc booked.old pass.old session replies.old.items
+        (vec_capacity replies.old) result replies.new.items booked.new pass.new }
     ensures room { vec_capacity replies.new ≡ vec_capacity replies.old }
 {
     while replies.len() < replies.capacity() {

@@ -159,5 +159,6 @@ fn lowered_by(tag: Option<i128>, delta: i128) -> Option<i128>
 /// The limit tags of a fresh clock without recursion: that of the k-th arrival is the greatest, over the arrivals j up to
 /// it, of `t_j` and the intervals in force at the arrivals behind j, up to the k-th.
 pub fn limit_tags_unrolled()
-    ensures { (interval : ℕ) (arrivals : List Arrival) → given (fresh_limit interval) arrivals ≡ limit_tags arrivals }
+    ensures { (interval : ℕ) (arrivals : List Arrival)
+        → given (fresh_limit interval) arrivals ≡ limit_tags arrivals }
 {}

@@ -30,7 +30,8 @@ pub(super) fn remade<I: Image>(
     requires past { IsPast lone.old late }
     requires may { MayReplay (past_of lone.old late) step }
     ensures ok { IfOk result (λ after. Comes lone.old late step lone.new after) }
-    ensures err { IfErr result (λ back. (back.step ≡ step) × Stays lone.old late lone.new back.late) }
+    ensures err { IfErr result (λ back. (back.step ≡ step)
+        × Stays lone.old late lone.new back.late) }
 {
     match step {
         Step::Arrive {
@@ -117,8 +118,10 @@ fn arrived<I: Image>(
     request: Request<I::Alloc>,
 ) -> Result<Late<I::Alloc>, Unmade<I::Alloc>>
     requires { IsPast lone.old late }
-    ensures ok { IfOk result (λ after. Comes lone.old late (step.Arrive session moment request) lone.new after) }
-    ensures err { IfErr result (λ back. (back.step ≡ step.Arrive session moment request) × Stays lone.old late lone.new back.late) }
+    ensures ok { IfOk result (λ after.
+        Comes lone.old late (step.Arrive session moment request) lone.new after) }
+    ensures err { IfErr result (λ back. (back.step ≡ step.Arrive session moment request)
+        × Stays lone.old late lone.new back.late) }
 {
     if let Err(late) = catch_up(lone, late) {
         let step = Step::Arrive {
@@ -166,7 +169,8 @@ fn performed<I: Image>(
     memory: bool,
 ) -> Result<Late<I::Alloc>, Late<I::Alloc>>
     requires { IsPast lone.old late }
-    ensures ok { IfOk result (λ after. Comes lone.old late (step.Perform number memory) lone.new after) }
+    ensures ok { IfOk result (λ after.
+        Comes lone.old late (step.Perform number memory) lone.new after) }
     ensures err { IfErr result (λ back. Stays lone.old late lone.new back) }
 {
     let late = match late {
@@ -195,7 +199,8 @@ fn performed_at_once<I: Image>(
 ) -> Result<Late<I::Alloc>, Late<I::Alloc>>
     requires idle { IsIdleFor lone.old.terms lone.old.state arrival.session arrival.request }
     requires room { 0 < lone.old.inflight }
-    ensures ok { IfOk result (λ after. Comes lone.old (Late.Picked arrival) (step.Perform lone.old.state.next true) lone.new after) }
+    ensures ok { IfOk result (λ after. Comes lone.old (Late.Picked arrival)
+        (step.Perform lone.old.state.next true) lone.new after) }
     ensures err { IfErr result (λ back. Stays lone.old (Late.Picked arrival) lone.new back) }
 {
     if arrival.request.head().kind == READ {
@@ -315,7 +320,8 @@ fn arrive_and_pick<I: Image>(lone: &mut Lone<I>, arrival: Arrival<I::Alloc>)
 /// The READ that is in service under this number is performed.
 fn read<I: Image>(lone: &mut Lone<I>, number: u64) -> Result<(), Late<I::Alloc>>
     requires { is_reading lone.old.state number ≡ true }
-    ensures ok { OnOk result (past_of {A = I.Alloc} lone.new Late.Nothing ≡ past_of {A = I.Alloc} lone.old (Late.Performed number)) }
+    ensures ok { OnOk result (past_of {A = I.Alloc} lone.new Late.Nothing
+        ≡ past_of {A = I.Alloc} lone.old (Late.Performed number)) }
     ensures err { IfErr result (λ back. Stays lone.old (Late.Performed number) lone.new back) }
 {
     let perform = Step::Perform {

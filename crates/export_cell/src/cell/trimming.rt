@@ -33,7 +33,8 @@ impl<I: Image> ExportCell<I> {
         ensures live { self.new.live ≡ self.old.live }
         ensures journal { OnOk result (self.new.journal ≡ (trimmed_cell bytes self.old).journal) }
         ensures room { OnOk result (HasRoom bytes self.new) }
-        ensures err { OnErr result (IsAdvanced self.old.live.terms (surplus bytes self.old.journal.log) self.old.journal self.new.journal) }
+        ensures err { OnErr result (IsAdvanced self.old.live.terms
+            (surplus bytes self.old.journal.log) self.old.journal self.new.journal) }
     {
         let left = self.work_off(most);
         if let Err(error) = self.trim(bytes, left) {

@@ -28,7 +28,8 @@ impl<I: Image> Lone<I> {
     pub fn replay(&mut self, step: &Step<I::Alloc>) -> Result<StepAnswer<I::Alloc>, NoMemory>
         requires { MayReplay self.old step.now }
         ensures ok { IfOk result (λ answer. Does {A = I.Alloc} self.old self.new step.now answer) }
-        ensures err { OnErr result ((self.new ≡ self.old) × IsTrue (wants_memory {A = I.Alloc} self.old.state step.now)) }
+        ensures err { OnErr result ((self.new ≡ self.old)
+            × IsTrue (wants_memory {A = I.Alloc} self.old.state step.now)) }
     {
         match step {
             Step::Attach => {
@@ -75,10 +76,14 @@ impl<I: Image> Lone<I> {
         answers: &mut Vec<StepAnswer<I::Alloc>, B>,
     ) -> Result<usize, NoMemory>
         ensures few { IfOk result (λ made. made ≤ length steps.now) }
-        ensures made { IfOk result (λ made. IsReplayed {A = I.Alloc} self.old self.new (take made steps.now) answers.old.items answers.new.items) }
-        ensures stopped { IfOk result (λ made. StopsAt {A = I.Alloc} self.new (slice_get steps.now made)) }
-        ensures err { OnErr result ((self.new ≡ self.old) × (answers.new.items ≡ answers.old.items)) }
-        ensures no_room { OnErr result (vec_capacity answers.old < vec_len answers.old + length steps.now) }
+        ensures made { IfOk result (λ made. IsReplayed {A = I.Alloc} self.old self.new
+            (take made steps.now) answers.old.items answers.new.items) }
+        ensures stopped { IfOk result (λ made.
+            StopsAt {A = I.Alloc} self.new (slice_get steps.now made)) }
+        ensures err { OnErr result ((self.new ≡ self.old)
+            × (answers.new.items ≡ answers.old.items)) }
+        ensures no_room { OnErr result (vec_capacity answers.old
+            < vec_len answers.old + length steps.now) }
     {
         if answers.reserve(steps.len()).is_err() {
             return Err(NoMemory);
@@ -99,8 +104,10 @@ impl<I: Image> Lone<I> {
 
     // The request of this number is done, or told that no memory was there, as the mark says.
     fn perform_again(&mut self, number: u64, memory: bool) -> Result<StepAnswer<I::Alloc>, NoMemory>
-        ensures ok { IfOk result (λ answer. Does {A = I.Alloc} self.old self.new (Step.Perform number memory) answer) }
-        ensures err { OnErr result ((self.new ≡ self.old) × IsTrue (wants_memory {A = I.Alloc} self.old.state (Step.Perform number memory))) }
+        ensures ok { IfOk result (λ answer.
+            Does {A = I.Alloc} self.old self.new (Step.Perform number memory) answer) }
+        ensures err { OnErr result ((self.new ≡ self.old)
+            × IsTrue (wants_memory {A = I.Alloc} self.old.state (Step.Perform number memory))) }
     {
         let Some(slot) = self.queue.slot_of(number) else {
             return Ok(StepAnswer::NotOut);

@@ -36,7 +36,8 @@ impl<I: Image> Lone<I> {
     /// that is to be taken before.
     pub fn skip_read(&mut self, number: u64, session: u64) -> bool
         ensures told { result ≡ is_read_next self.old.state number session }
-        ensures both { OnTrue result (DoesAll {A = I.Alloc} self.old self.new (step.Perform number true ∷ step.Take session ∷ [])) }
+        ensures both { OnTrue result (DoesAll {A = I.Alloc} self.old self.new
+            (step.Perform number true ∷ step.Take session ∷ [])) }
         ensures stays { OnFalse result (self.new ≡ self.old) }
     {
         let Some(slot) = self.queue.slot_of(number) else {
@@ -63,7 +64,8 @@ impl<I: Image> Lone<I> {
 
 /// Whether the request is a READ of this session, whose next reply would be its own.
 fn is_next<A: Allocator + Copy>(row: &Row<A>, sessions: &ReplyBox<A>, session: u64) -> bool
-    ensures { result ≡ (row.now.session == session && is_read row.now.request && is_quiet_at sessions.now.sessions session) }
+    ensures { result ≡ (row.now.session == session && is_read row.now.request && is_quiet_at
+        sessions.now.sessions session) }
 {
     row.session == session && row.request.head().kind == READ && sessions.is_quiet(session)
 }

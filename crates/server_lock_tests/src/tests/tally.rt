@@ -47,32 +47,52 @@ const PERFORM: EventTrace = EventTrace::Perform {
     number: 0,
 };
 
+/// Counts these turns.
+fn count(counts: &mut ExportCounts, turns: &[(EventTrace, AnswerTrace)]) {
+    for (event, answer) in turns {
+        counts.count(event, answer);
+    }
+}
+
 /// What a READ, a WRITE and a FLUSH count that are accepted, and another READ that is refused.
 fn arrived() -> ExportCounts {
-    ExportCounts::NOTHING
-        .counted(&arrival(READ), &ACCEPTED)
-        .counted(&arrival(WRITE), &ACCEPTED)
-        .counted(&arrival(FLUSH), &ACCEPTED)
-        .counted(&arrival(READ), &AnswerTrace::Answered(22))
+    let mut counts = ExportCounts::NOTHING;
+    count(
+        &mut counts,
+        &[
+            (arrival(READ), ACCEPTED),
+            (arrival(WRITE), ACCEPTED),
+            (arrival(FLUSH), ACCEPTED),
+            (arrival(READ), AnswerTrace::Answered(22)),
+        ],
+    );
+    counts
 }
 
 /// The same, with three choices, of which two are performed, one without memory.
 fn performed() -> ExportCounts {
-    arrived()
-        .counted(&choice(), &picked(Phase::Weight))
-        .counted(&choice(), &picked(Phase::Reservation))
-        .counted(&choice(), &picked(Phase::Weight))
-        .counted(&PERFORM, &AnswerTrace::Performed { memory: true })
-        .counted(&PERFORM, &AnswerTrace::Performed { memory: false })
+    let mut counts = arrived();
+    count(
+        &mut counts,
+        &[
+            (choice(), picked(Phase::Weight)),
+            (choice(), picked(Phase::Reservation)),
+            (choice(), picked(Phase::Weight)),
+            (PERFORM, AnswerTrace::Performed { memory: true }),
+            (PERFORM, AnswerTrace::Performed { memory: false }),
+        ],
+    );
+    counts
 }
 
 #[test]
 fn turns_are_counted(rt: HostRuntime) {
-    let counts = performed();
+    let mut counts = performed();
     assert!(rt; counts.read_bytes == 7 && counts.written_bytes == 7);
     assert!(rt; counts.by_reservation == 1 && counts.by_weight == 2);
     assert!(rt; counts.performed == 2 && counts.errors == 2);
-    assert!(rt; arrived().counted(&choice(), &AnswerTrace::Nothing) == arrived());
+    counts.count(&choice(), &AnswerTrace::Nothing);
+    assert!(rt; counts == performed());
 }
 
 fn one_export(alloc: Global) -> Option<Tally<Global>> {
