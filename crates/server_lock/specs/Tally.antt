@@ -1,14 +1,13 @@
 -- What is counted of an export, by the traces of its turns.
-use Rattle.std.specs.Prelude.{ℕ, ◌+◌, ◌-◌, ◌%◌, ◌^◌, ◌==◌, min, Bool, true, false, if◌then◌else◌, List, [], ◌∷◌, ◌++◌, length, get_or, slice_set, Option, Some, None}
+use Rattle.std.specs.Prelude.{ℕ, ◌+◌, ◌-◌, ◌%◌, ◌^◌, ◌==◌, min, Bool, true, false, if◌then◌else◌, List, [], ◌∷◌, ◌++◌, length, get_or, slice_get, slice_set, Option, Some, None, option_map, Result, Ok, Err}
 use Rattle.circular_buffer.specs.Buffer.{keep_last}
 use Rattle.nbd_measures.specs.declared.holds.HoldCount.{HoldCount}
 use Rattle.nbd_wire.specs.declared.requests.RequestHead.{RequestHead}
 use Rattle.tag_clock.specs.declared.Phase.{Phase}
+use Rattle.lone_export.specs.declared.refusal.Arrived.{Arrived}
+use Rattle.lone_export.specs.declared.refusal.Arrived.TheVariants as arrival
+use Rattle.server_core.specs.declared.refusal.NotArrived.{NotArrived}
 use Rattle.tag_clock.specs.declared.Phase.TheVariants as phases
-use Rattle.server_lock.specs.declared.trace.EventTrace.{EventTrace}
-use Rattle.server_lock.specs.declared.trace.EventTrace.TheVariants.{Attach, Arrive, Dispatch, Perform, Take, Leave, Gone}
-use Rattle.server_lock.specs.declared.trace.AnswerTrace.{AnswerTrace}
-use Rattle.server_lock.specs.declared.trace.AnswerTrace.TheVariants.{Accepted, Answered, Picked, Performed}
 use Rattle.server_lock.specs.declared.counts.ExportCounts.{ExportCounts}
 
 -- a count that so many are added to. It stops at the greatest value of 64 bits
@@ -36,19 +35,6 @@ abbrev pub with_performed : ExportCounts → Bool → ExportCounts
 with_performed c true = record c { performed = raised c.performed 1 }
 with_performed c false = with_error (record c { performed = raised c.performed 1 })
 
--- with an arrival that was accepted
-abbrev pub with_arrival : ExportCounts → EventTrace → ExportCounts
-with_arrival c (Arrive e s t head) = with_data c head
-with_arrival c what = c
-
--- behind a turn of the export
-abbrev pub counted : ExportCounts → EventTrace → AnswerTrace → ExportCounts
-counted c what (Accepted n tag) = with_arrival c what
-counted c what (Answered error) = with_error c
-counted c what (Picked e n phase) = with_choice c phase
-counted c what (Performed memory) = with_performed c memory
-counted c what said = c
-
 -- what is known of an export: its counts, the moments at which its latest requests arrived, by their numbers, and how long its
 -- latest requests waited
 pub record Known : Type 0 where
@@ -56,42 +42,43 @@ pub record Known : Type 0 where
   pub arrivals : List ℕ
   pub waits : List ℕ
 
--- a request with this number arrived
-abbrev pub arrived : Known → ℕ → ℕ → Known
-arrived k number moment = record k { arrivals = slice_set k.arrivals (number % length k.arrivals) moment }
+-- a request with this number and head arrived at a moment, and was accepted
+abbrev pub arrived : Known → ℕ → ℕ → RequestHead → Known
+arrived k number moment head =
+    record k { counts = with_data k.counts head; arrivals = slice_set k.arrivals (number % length k.arrivals) moment }
 
 -- how long it has waited
 abbrev pub wait_of : List ℕ → ℕ → ℕ → ℕ
 wait_of arrivals number moment = moment - get_or arrivals (number % length arrivals) moment
 
 -- it was chosen
-abbrev pub chosen : Known → ℕ → ℕ → Known
-chosen k number moment = record k { waits = keep_last 1024 (k.waits ++ wait_of k.arrivals number moment ∷ []) }
+abbrev pub chosen : Known → ℕ → ℕ → Phase → Known
+chosen k number moment phase =
+    record k { counts = with_choice k.counts phase; waits = keep_last 1024 (k.waits ++ wait_of k.arrivals number moment ∷ []) }
 
--- an event was accepted with this number, or chose it
-abbrev pub accepted_by : Known → EventTrace → ℕ → Known
-accepted_by k (Arrive e s t head) number = arrived k number t
-accepted_by k what number = k
+-- a request was answered with an error as it arrived
+abbrev pub refused : Known → Known
+refused k = record k { counts = with_error k.counts }
 
-abbrev pub picked_by : Known → EventTrace → ℕ → Known
-picked_by k (Dispatch t) number = chosen k number t
-picked_by k what number = k
-
-abbrev pub timed : Known → EventTrace → AnswerTrace → Known
-timed k what (Accepted n tag) = accepted_by k what n
-timed k what (Picked e n phase) = picked_by k what n
-timed k what said = k
-
--- behind a turn of the export
-abbrev pub noted_turn : Known → EventTrace → AnswerTrace → Known
-noted_turn k what said = timed (record k { counts = counted k.counts what said }) what said
-
--- the exports behind a turn of the one with this number, of which this is known
-abbrev pub noted_in : List Known → ℕ → EventTrace → AnswerTrace → Option Known → List Known
-noted_in exports export what said None = exports
-noted_in exports export what said (Some known) = slice_set exports export (noted_turn known what said)
+-- one was performed
+abbrev pub performed : Known → Bool → Known
+performed k memory = record k { counts = with_performed k.counts memory }
 
 -- what is known of all exports, by number, and of the holds of the server
 pub record Tallied : Type 0 where
   pub exports : List Known
   pub holds : HoldCount
+
+-- where this is known of an export from now on; none where there is no such export
+abbrev pub with_known : Tallied → ℕ → Option Known → Tallied
+with_known t export None = t
+with_known t export (Some known) = record t { exports = slice_set t.exports export known }
+
+-- behind the arrival of a request with this head at a moment, which was answered so
+module _ {A : Type 0} where
+  abbrev pub answered : Tallied → ℕ → ℕ → RequestHead → Result Arrived (NotArrived A) → Tallied
+  answered t export moment head (Ok (arrival.Accepted number tag)) =
+      with_known t export (option_map (λ known. arrived known number moment head) (slice_get t.exports export))
+  answered t export moment head (Ok (arrival.Answered error)) =
+      with_known t export (option_map (λ known. refused known) (slice_get t.exports export))
+  answered t export moment head (Err e) = t

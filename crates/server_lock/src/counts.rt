@@ -1,8 +1,7 @@
 //! What is counted of an export.
 ghost use Rattle.std.specs.Prelude.{◌≡◌};
-ghost use Rattle.server_lock.specs.Tally.{counted, no_counts, raised, with_arrival, with_choice, with_data, with_error, with_performed};
+ghost use Rattle.server_lock.specs.Tally.{no_counts, raised, with_choice, with_data, with_error, with_performed};
 
-use crate::trace::{AnswerTrace, EventTrace};
 use nbd_wire::RequestHead;
 use nbd_wire::protocol::{READ, WRITE};
 use tag_clock::Phase;
@@ -35,29 +34,8 @@ impl ExportCounts {
         written_bytes: 0,
     };
 
-    /// A turn of the export was made.
-    pub fn count(&mut self, event: &EventTrace, answer: &AnswerTrace)
-        ensures { self.new ≡ counted self.old event.now answer.now }
-    {
-        match answer {
-            AnswerTrace::Accepted { .. } => self.count_arrival(event),
-            AnswerTrace::Answered(_) => self.count_error(),
-            AnswerTrace::Picked { phase, .. } => self.count_choice(*phase),
-            AnswerTrace::Performed { memory } => self.count_performed(*memory),
-            _ => {}
-        }
-    }
-
-    fn count_arrival(&mut self, event: &EventTrace)
-        ensures { self.new ≡ with_arrival self.old event.now }
-    {
-        match event {
-            EventTrace::Arrive { head, .. } => self.count_data(*head),
-            _ => {}
-        }
-    }
-
-    fn count_data(&mut self, head: RequestHead)
+    /// A request with this head was accepted.
+    pub fn count_data(&mut self, head: RequestHead)
         ensures { self.new ≡ with_data self.old head }
     {
         let bytes = u64::from(head.length);
@@ -68,7 +46,8 @@ impl ExportCounts {
         }
     }
 
-    fn count_choice(&mut self, phase: Phase)
+    /// One was chosen.
+    pub fn count_choice(&mut self, phase: Phase)
         ensures { self.new ≡ with_choice self.old phase }
     {
         match phase {
@@ -77,13 +56,15 @@ impl ExportCounts {
         }
     }
 
-    fn count_error(&mut self)
+    /// One was answered with an error.
+    pub fn count_error(&mut self)
         ensures { self.new ≡ with_error self.old }
     {
         self.errors = raised(self.errors, 1);
     }
 
-    fn count_performed(&mut self, memory: bool)
+    /// One was performed; where no memory was there for it, it is answered with an error.
+    pub fn count_performed(&mut self, memory: bool)
         ensures { self.new ≡ with_performed self.old memory }
     {
         self.performed = raised(self.performed, 1);

@@ -1,16 +1,16 @@
-//! What is counted of each export beside the server, by the traces of the turns.
+//! What is counted of each export beside the server, by what the turns made.
 ghost use Rattle.std.specs.Prelude.{◌≡◌, ◌%◌, ◌<◌, ◌++◌, ◌∷◌, [], length, map, option_map, replicate, slice_get, IfOk, OnErr};
 ghost use Rattle.std.specs.Int.{IsPowerOfTwo, IsNextPowerOfTwo};
 ghost use Rattle.nbd_measures.specs.Holds.{no_holds, noted};
-ghost use Rattle.server_lock.specs.Tally.{accepted_by, arrived, chosen, no_counts, noted_in, noted_turn, picked_by};
+ghost use Rattle.server_lock.specs.Tally.{arrived, chosen, no_counts, performed, refused, with_known};
 
 use crate::counts::ExportCounts;
-use crate::trace::{AnswerTrace, EventTrace};
 use nbd_base::NoMemory;
 use nbd_measures::{HoldCount, LatestWaits, WaitQuantiles};
+use nbd_wire::RequestHead;
 use std::alloc::Allocator;
 use std::marker::Model;
-use tag_clock::Moment;
+use tag_clock::{Moment, Phase};
 
 /// What is known of an export beside the server.
 #[derive(Drop)]
@@ -66,51 +66,35 @@ impl<A: Allocator + Copy> ExportTally<A> {
         &self.waits
     }
 
-    /// A turn of the export was made.
-    fn note(&mut self, event: &EventTrace, answer: &AnswerTrace)
-        ensures { self.new ≡ noted_turn self.old event.now answer.now }
+    /// A request with this number and head arrived at a moment, and was accepted.
+    fn note_arrival(&mut self, number: u64, moment: Moment, head: RequestHead)
+        ensures { self.new ≡ arrived self.old number moment head }
     {
-        self.counts.count(event, answer);
-        match answer {
-            AnswerTrace::Accepted { number, .. } => self.note_accepted(event, *number),
-            AnswerTrace::Picked { number, .. } => self.note_picked(event, *number),
-            _ => {}
-        }
-    }
-
-    fn note_accepted(&mut self, event: &EventTrace, number: u64)
-        ensures { self.new ≡ accepted_by self.old event.now number }
-    {
-        match event {
-            EventTrace::Arrive { moment, .. } => self.note_arrival(number, *moment),
-            _ => {}
-        }
-    }
-
-    fn note_picked(&mut self, event: &EventTrace, number: u64)
-        ensures { self.new ≡ picked_by self.old event.now number }
-    {
-        match event {
-            EventTrace::Dispatch { moment } => self.note_choice(number, *moment),
-            _ => {}
-        }
-    }
-
-    /// A request with this number arrived.
-    fn note_arrival(&mut self, number: u64, moment: Moment)
-        ensures { self.new ≡ arrived self.old number moment }
-    {
+        self.counts.count_data(head);
         let at = place(number, self.arrivals.len());
         self.arrivals[at] = moment.nanoseconds();
     }
 
-    /// It was chosen.
-    fn note_choice(&mut self, number: u64, moment: Moment)
-        ensures { self.new ≡ chosen self.old number moment }
+    /// It was chosen at a moment.
+    fn note_choice(&mut self, number: u64, moment: Moment, phase: Phase)
+        ensures { self.new ≡ chosen self.old number moment phase }
     {
+        self.counts.count_choice(phase);
         let arrival = self.arrivals[place(number, self.arrivals.len())];
         self.waits
             .note(moment.nanoseconds().saturating_sub(arrival));
+    }
+
+    fn note_error(&mut self)
+        ensures { self.new ≡ refused self.old }
+    {
+        self.counts.count_error();
+    }
+
+    fn note_performed(&mut self, memory: bool)
+        ensures { self.new ≡ performed self.old memory }
+    {
+        self.counts.count_performed(memory);
     }
 }
 
@@ -180,15 +164,43 @@ impl<A: Allocator + Copy> Tally<A> {
         self.holds.note(now, length);
     }
 
-    /// A turn was made that named this export, or chose it.
-    pub(crate) fn note(&mut self, export: u32, event: &EventTrace, answer: &AnswerTrace)
-        ensures { self.new ≡ record self.old {
-          exports = noted_in self.old.exports export event.now
-              answer.now (slice_get self.old.exports export);
-        } }
+    /// A request with this number and head arrived at a moment, and was accepted by an export.
+    pub fn note_arrival(&mut self, export: u32, number: u64, moment: Moment, head: RequestHead)
+        ensures { self.new ≡ with_known self.old export
+            (option_map (λ known. arrived known number moment head) (slice_get self.old.exports export)) }
     {
         if let Some(tally) = self.exports.get_mut(export as usize) {
-            tally.note(event, answer);
+            tally.note_arrival(number, moment, head);
+        }
+    }
+
+    /// A request was answered with an error as it arrived.
+    pub fn note_error(&mut self, export: u32)
+        ensures { self.new ≡ with_known self.old export
+            (option_map (λ known. refused known) (slice_get self.old.exports export)) }
+    {
+        if let Some(tally) = self.exports.get_mut(export as usize) {
+            tally.note_error();
+        }
+    }
+
+    /// The request with this number was chosen at a moment.
+    pub fn note_choice(&mut self, export: u32, number: u64, moment: Moment, phase: Phase)
+        ensures { self.new ≡ with_known self.old export
+            (option_map (λ known. chosen known number moment phase) (slice_get self.old.exports export)) }
+    {
+        if let Some(tally) = self.exports.get_mut(export as usize) {
+            tally.note_choice(number, moment, phase);
+        }
+    }
+
+    /// A request was performed; where no memory was there for it, it is answered with an error.
+    pub fn note_performed(&mut self, export: u32, memory: bool)
+        ensures { self.new ≡ with_known self.old export
+            (option_map (λ known. performed known memory) (slice_get self.old.exports export)) }
+    {
+        if let Some(tally) = self.exports.get_mut(export as usize) {
+            tally.note_performed(memory);
         }
     }
 }

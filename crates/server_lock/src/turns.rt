@@ -10,6 +10,7 @@ ghost use Rattle.server_core.specs.Members.{seats_without};
 ghost use Rattle.server_core.specs.Journals.{EventMoves};
 ghost use Rattle.server_core.specs.Served.{Holds, Stepped, seats_chosen, attach_says, arrive_says, dispatch_says, perform_says, take_says, leave_says, gone_says, retune_says};
 ghost use Rattle.server_lock.specs.Traces.{rise_of_trace};
+ghost use Rattle.server_lock.specs.Tally.{answered};
 ghost use Rattle.server_lock.specs.Scores.{noted, scored, opened, unused, holding, without, chosen_by};
 
 use crate::tally::Tally;
@@ -23,7 +24,7 @@ use export_store::Image;
 use lone_export::Arrived;
 use nbd_base::NoMemory;
 use nbd_commands::Rates;
-use nbd_wire::Request;
+use nbd_wire::{Request, RequestHead};
 use reply_box::Taken;
 use server_core::{
     Chosen, NotArrived, NotAttached, NotRetuned, Server, SessionId, SessionRefusal, Ticket,
@@ -342,9 +343,26 @@ pub fn turn_arrive<L: Ledger, I: Image, E: Eligibility<Alloc = I::Alloc>>(
         moment,
         head,
     };
-    booked.tally.note(export, &event, &told);
+    note_arrived(&mut booked.tally, export, moment, head, &answer);
     pass.note(&mut booked.book, event, told);
     answer
+}
+
+/// Counts what came of an arrival.
+fn note_arrived<A: Allocator + Copy>(
+    tally: &mut Tally<A>,
+    export: u32,
+    moment: Moment,
+    head: RequestHead,
+    answer: &Result<Arrived, NotArrived<A>>,
+)
+    ensures { tally.new ≡ answered tally.old export moment head answer.now }
+{
+    match answer {
+        Ok(Arrived::Accepted { number, .. }) => tally.note_arrival(export, *number, moment, head),
+        Ok(Arrived::Answered(_)) => tally.note_error(export),
+        Err(_) => {}
+    }
 }
 
 /// Chooses the request that is served next, where one may be. The pass holds its ticket.
@@ -365,12 +383,13 @@ pub fn turn_dispatch<L: Ledger, I: Image, E: Eligibility<Alloc = I::Alloc>>(
     let answer = booked.server.dispatch(moment);
     let told = told_dispatch::<I::Alloc>(&answer);
     let event = EventTrace::Dispatch { moment };
-    if let Some(chosen) = &answer {
-        booked.tally.note(chosen.ticket.export(), &event, &told);
-    }
     pass.note(&mut booked.book, event, told);
     if let Some(chosen) = &answer {
-        pass.hold(chosen.ticket);
+        let ticket = chosen.ticket;
+        booked
+            .tally
+            .note_choice(ticket.export(), ticket.number(), moment, chosen.phase);
+        pass.hold(ticket);
     }
     answer
 }
@@ -399,7 +418,9 @@ pub fn turn_perform<L: Ledger, I: Image, E: Eligibility<Alloc = I::Alloc>>(
         export: ticket.export(),
         number: ticket.number(),
     };
-    booked.tally.note(ticket.export(), &event, &told);
+    if let Some(memory) = answer {
+        booked.tally.note_performed(ticket.export(), memory);
+    }
     pass.note(&mut booked.book, event, told);
     pass.let_go(ticket);
     answer

@@ -1,98 +1,77 @@
-//! What is counted of an export by the traces of turns.
+//! What is counted of an export.
 
 use nbd_wire::RequestHead;
 use nbd_wire::protocol::{FLUSH, READ, WRITE};
-use server_lock::{AnswerTrace, EventTrace, ExportCounts, ExportTally, Tally};
+use server_lock::{ExportCounts, ExportTally, Tally};
 use std::alloc::Global;
 use tag_clock::{Moment, Phase};
 
-/// The arrival of a request of seven bytes.
-fn arrival(kind: u16) -> EventTrace {
-    let head = RequestHead {
+/// The head of a request of seven bytes.
+fn head(kind: u16) -> RequestHead {
+    RequestHead {
         flags: 0,
         kind,
         cookie: 1,
         offset: 0,
         length: 7,
+    }
+}
+
+/// A READ, a WRITE and a FLUSH are accepted at moment 0, and another READ is refused.
+fn note_arrivals(tally: &mut Tally<Global>) {
+    tally.note_arrival(0, 0, Moment::zero(), head(READ));
+    tally.note_arrival(0, 1, Moment::zero(), head(WRITE));
+    tally.note_arrival(0, 2, Moment::zero(), head(FLUSH));
+    tally.note_error(0);
+}
+
+/// The three are chosen, of which two are performed, one without memory.
+fn note_choices(tally: &mut Tally<Global>, moment: Moment) {
+    tally.note_choice(0, 0, moment, Phase::Weight);
+    tally.note_choice(0, 1, moment, Phase::Reservation);
+    tally.note_choice(0, 2, moment, Phase::Weight);
+    tally.note_performed(0, true);
+    tally.note_performed(0, false);
+}
+
+const COUNTS: ExportCounts = ExportCounts {
+    by_reservation: 1,
+    by_weight: 2,
+    performed: 2,
+    errors: 2,
+    read_bytes: 7,
+    written_bytes: 7,
+};
+
+fn counts_are(tally: &Tally<Global>, counts: ExportCounts) -> bool {
+    match tally.export(0) {
+        Some(export) => export.counts() == counts,
+        None => false,
+    }
+}
+
+/// Whether the three have waited so long, in nanoseconds.
+fn have_waited(alloc: Global, tally: &Tally<Global>, nanoseconds: u64) -> bool {
+    let Some(export) = tally.export(0) else {
+        return false;
     };
-    EventTrace::Arrive {
-        export: 0,
-        session: 0,
-        moment: Moment::zero(),
-        head,
-    }
-}
-
-const ACCEPTED: AnswerTrace = AnswerTrace::Accepted {
-    number: 0,
-    limit_tag: 0,
-};
-
-fn picked(phase: Phase) -> AnswerTrace {
-    AnswerTrace::Picked {
-        export: 0,
-        number: 0,
-        phase,
-    }
-}
-
-fn choice() -> EventTrace {
-    EventTrace::Dispatch {
-        moment: Moment::zero(),
-    }
-}
-
-const PERFORM: EventTrace = EventTrace::Perform {
-    export: 0,
-    number: 0,
-};
-
-/// Counts these turns.
-fn count(counts: &mut ExportCounts, turns: &[(EventTrace, AnswerTrace)]) {
-    for (event, answer) in turns {
-        counts.count(event, answer);
-    }
-}
-
-/// What a READ, a WRITE and a FLUSH count that are accepted, and another READ that is refused.
-fn arrived() -> ExportCounts {
-    let mut counts = ExportCounts::NOTHING;
-    count(
-        &mut counts,
-        &[
-            (arrival(READ), ACCEPTED),
-            (arrival(WRITE), ACCEPTED),
-            (arrival(FLUSH), ACCEPTED),
-            (arrival(READ), AnswerTrace::Answered(22)),
-        ],
-    );
-    counts
-}
-
-/// The same, with three choices, of which two are performed, one without memory.
-fn performed() -> ExportCounts {
-    let mut counts = arrived();
-    count(
-        &mut counts,
-        &[
-            (choice(), picked(Phase::Weight)),
-            (choice(), picked(Phase::Reservation)),
-            (choice(), picked(Phase::Weight)),
-            (PERFORM, AnswerTrace::Performed { memory: true }),
-            (PERFORM, AnswerTrace::Performed { memory: false }),
-        ],
-    );
-    counts
+    let Ok(quantiles) = export.waits().quantiles(alloc) else {
+        return false;
+    };
+    quantiles.median == Some(nanoseconds) && quantiles.p99 == Some(nanoseconds)
 }
 
 #[test]
 fn turns_are_counted(rt: HostRuntime) {
-    let mut counts = performed();
-    assert!(rt; counts.read_bytes == 7 && counts.written_bytes == 7);
-    assert!(rt; counts.by_reservation == 1 && counts.by_weight == 2);
-    assert!(rt; counts.performed == 2 && counts.errors == 2);
-    counts.count(&choice(), &AnswerTrace::Nothing);
-    assert!(rt; counts == performed());
+    let mut tally = one_export(rt.alloc()).expect(&rt, "memory");
+    let moment = Moment::new(9).expect(&rt, "a moment");
+    note_arrivals(&mut tally);
+    note_choices(&mut tally, moment);
+    assert!(rt; counts_are(&tally, COUNTS));
+    assert!(rt; have_waited(rt.alloc(), &tally, 9));
+    tally.note_error(1);
+    tally.note_performed(1, false);
+    assert!(rt; tally.export(1).is_none() && counts_are(&tally, COUNTS));
 }
 
 fn one_export(alloc: Global) -> Option<Tally<Global>> {
