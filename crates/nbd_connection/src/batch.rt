@@ -7,7 +7,7 @@ use crate::session_link::SessionLink;
 use crate::under_way::Admitted;
 use export_cell::Outdated;
 use nbd_base::NoMemory;
-use nbd_service::policy::{OUTDATED_PAGES, QUEUED_WORK, performs_itself, size_of};
+use nbd_service::policy::{OUTDATED_PAGES, QUEUED_WORK, ends_hold, performs_itself, size_of};
 use nbd_service::{Asked, Disks, RequestSize, Service, Wakeups, prefetch};
 use nbd_session::{Counted, Frame, FrameReader};
 use nbd_wire::{Request, RequestHead};
@@ -120,8 +120,8 @@ impl<'a, 'b, R: Wait + time::Clock> RequestSource<'a, 'b, R> {
         })
     }
 
-    /// Hands in what is offered and the requests that were read besides, so many at most, until long data and short meet, or another
-    /// session's request was performed.
+    /// Hands in what is offered and the requests that were read besides, so many at most, until requests of two sizes meet, a long
+    /// range was made zeros, or another session's request was performed.
     pub fn hand_in_batch<L: Ledger, C: Clock>(
         &mut self,
         disks: &mut Disks<L>,
@@ -144,7 +144,7 @@ impl<'a, 'b, R: Wait + time::Clock> RequestSource<'a, 'b, R> {
         admitted = admission.added_to(admitted, served);
         let mut batch = BatchOutcome::first(turn, admission, prefetched);
         for _ in 1..most {
-            let full = batch.size == RequestSize::Nothing || link.bytes.ends_batch(admitted);
+            let full = ends_hold(batch.size) || link.bytes.ends_batch(admitted);
             if full || self.wakeups.served_others() {
                 break;
             }

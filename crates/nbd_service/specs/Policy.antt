@@ -8,17 +8,23 @@ use Rattle.nbd_service.specs.declared.request_size.Load.TheVariants as loads
 
 -- ---- requests
 
--- a READ of more than 16 KiB, a WRITE of 64 KiB or more, or neither
+-- a TRIM or a WRITE_ZEROES
+abbrev pub is_zero_by : ℕ → Bool
+is_zero_by kind = (kind == 4) || (kind == 6)
+
+-- a READ of more than 16 KiB, a WRITE of 64 KiB or more, zeros of more than 1 MiB, or none of these
 abbrev pub size_by : ℕ → ℕ → RequestSize
 size_by kind length =
     if (kind == 0) && nat_lt 16384 length then sizes.LongRead
-    else (if (kind == 1) && nat_lt 65535 length then sizes.LongWrite else sizes.Short)
+    else (if (kind == 1) && nat_lt 65535 length then sizes.LongWrite
+    else (if is_zero_by kind && nat_lt 1048576 length then sizes.LongZero else sizes.Short))
 
 abbrev pub is_long : RequestSize → Bool
 is_long sizes.Nothing = false
 is_long sizes.Short = false
 is_long sizes.LongRead = true
 is_long sizes.LongWrite = true
+is_long sizes.LongZero = true
 
 -- long data, or several requests at a time
 abbrev pub load_by : RequestSize → Bool → Load
@@ -30,6 +36,15 @@ performs_by sizes.Nothing = false
 performs_by sizes.Short = true
 performs_by sizes.LongRead = false
 performs_by sizes.LongWrite = true
+performs_by sizes.LongZero = true
+
+-- requests of more than one size, and a long zero
+abbrev pub ends_hold_by : RequestSize → Bool
+ends_hold_by sizes.Nothing = true
+ends_hold_by sizes.Short = false
+ends_hold_by sizes.LongRead = false
+ends_hold_by sizes.LongWrite = false
+ends_hold_by sizes.LongZero = true
 
 -- 8 requests under one hold, 16 behind a wait of more than a millisecond
 abbrev pub batch_by : ℕ → ℕ

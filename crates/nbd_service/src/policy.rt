@@ -1,11 +1,11 @@
 //! Every number of the serving code, and the rules over values that its threads follow. `specs/Policy.antt` says each rule.
 ghost use Rattle.std.specs.Prelude.{◌≡◌, ◌+◌, ◌-◌, ◌*◌, ◌<◌, ◌≤◌, ◌^◌, min, option_map};
 ghost use Rattle.std.specs.Duration.{as_nanos};
-ghost use Rattle.nbd_service.specs.Policy.{accept_may_pass_by, asks_for_turn_by, backlog_by, batch_by, bell_by, cost_by, data_by, handshake_wait_by, holds_back_by, is_alone_by, is_forgotten_by, is_network_fault_by, is_shortage_by, is_stalled_by, keeps_by, load_by, next_skip_by, patience_by, performs_by, reads_ahead_by, short_pieces_by, size_by, still_defers_by, still_retunes_by, still_waits_for_line_by, suits_reader_by, yields_by, yields_behind_look_by};
+ghost use Rattle.nbd_service.specs.Policy.{accept_may_pass_by, asks_for_turn_by, backlog_by, batch_by, bell_by, cost_by, data_by, ends_hold_by, handshake_wait_by, holds_back_by, is_alone_by, is_forgotten_by, is_network_fault_by, is_shortage_by, is_stalled_by, is_zero_by, keeps_by, load_by, next_skip_by, patience_by, performs_by, reads_ahead_by, short_pieces_by, size_by, still_defers_by, still_retunes_by, still_waits_for_line_by, suits_reader_by, yields_by, yields_behind_look_by};
 
 use crate::request_size::{Load, RequestSize};
 use nbd_wire::RequestHead;
-use nbd_wire::protocol::{READ, WRITE};
+use nbd_wire::protocol::{READ, TRIM, WRITE, WRITE_ZEROES};
 use std::time::Duration;
 use tag_clock::Moment;
 
@@ -87,6 +87,10 @@ pub const SHORT_READ_BYTES: u32 = 16_384;
 
 /// The longest data, in bytes, of a WRITE that isn't long.
 pub const SHORT_WRITE_BYTES: u32 = 65_535;
+
+/// The longest range, in bytes, of a TRIM or WRITE_ZEROES that isn't long: what a hold lets go of 1 MiB takes it some microseconds,
+/// and of 256 MiB a millisecond.
+pub const SHORT_ZERO_BYTES: u32 = 1_048_576;
 
 /// How many requests a reader mostly hands in under one hold of the server: what a hold costs is shared by them, and whoever
 /// waits for it waits for no more than these.
@@ -231,8 +235,27 @@ pub fn size_of(head: RequestHead) -> RequestSize
         RequestSize::LongRead
     } else if head.kind == WRITE && head.length > SHORT_WRITE_BYTES {
         RequestSize::LongWrite
+    } else if is_zero(head.kind) && head.length > SHORT_ZERO_BYTES {
+        RequestSize::LongZero
     } else {
         RequestSize::Short
+    }
+}
+
+/// Whether a request of this kind makes a range read as zeros.
+fn is_zero(kind: u16) -> bool
+    ensures { result ≡ is_zero_by kind }
+{
+    kind == TRIM || kind == WRITE_ZEROES
+}
+
+/// Whether a hold hands in no more behind requests that all have this size: behind others of another size, and behind a long zero.
+pub fn ends_hold(size: RequestSize) -> bool
+    ensures { result ≡ ends_hold_by size }
+{
+    match size {
+        RequestSize::Nothing | RequestSize::LongZero => true,
+        RequestSize::Short | RequestSize::LongRead | RequestSize::LongWrite => false,
     }
 }
 
@@ -361,7 +384,7 @@ pub fn load_of(next: RequestSize, more: bool) -> Load
         return Load::Bulk;
     }
     match next {
-        RequestSize::LongRead | RequestSize::LongWrite => Load::Bulk,
+        RequestSize::LongRead | RequestSize::LongWrite | RequestSize::LongZero => Load::Bulk,
         RequestSize::Nothing | RequestSize::Short => Load::Interactive,
     }
 }
@@ -371,7 +394,7 @@ pub fn performs_itself(size: RequestSize) -> bool
     ensures { result ≡ performs_by size }
 {
     match size {
-        RequestSize::Short | RequestSize::LongWrite => true,
+        RequestSize::Short | RequestSize::LongWrite | RequestSize::LongZero => true,
         RequestSize::LongRead | RequestSize::Nothing => false,
     }
 }

@@ -11,6 +11,8 @@ pub enum RequestSize {
     LongRead,
     /// A WRITE that carries long data.
     LongWrite,
+    /// A TRIM or WRITE_ZEROES of a long range.
+    LongZero,
 }
 
 /// How much a session asks for at a moment.

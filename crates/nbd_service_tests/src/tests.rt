@@ -2,14 +2,14 @@ mod rates_in_force;
 
 use nbd_service::policy::{
     accept_may_pass, asks_for_turn, backlog_after, batch_after, bell_of, connections_for, cost_of,
-    data_of, handshake_wait_ms, holds_back, is_alone, is_stalled, load_of, may_keep,
+    data_of, ends_hold, handshake_wait_ms, holds_back, is_alone, is_stalled, load_of, may_keep,
     may_read_ahead, moment_after, next_skip, passes_for, patience, performs_itself, short_pieces,
     size_of, still_defers, still_retunes, still_waits_for_line, suits_reader, yields_behind,
     yields_behind_look,
 };
 use nbd_service::{InteractiveLoad, Load, RequestSize, RunningClock, SpinPoll, Turns};
 use nbd_wire::RequestHead;
-use nbd_wire::protocol::{CACHE, FLUSH, READ, TRIM, WRITE};
+use nbd_wire::protocol::{CACHE, FLUSH, READ, TRIM, WRITE, WRITE_ZEROES};
 use std::alloc::Global;
 use std::io::Write;
 use std::net::TcpStream;
@@ -61,16 +61,21 @@ fn how_much_a_session_asks_for(rt: HostRuntime) {
     assert!(rt; size(WRITE, 65_535) == RequestSize::Short);
     assert!(rt; size(WRITE, 65_536) == RequestSize::LongWrite);
     assert!(rt; size(TRIM, 1_048_576) == RequestSize::Short);
+    assert!(rt; size(TRIM, 1_048_577) == RequestSize::LongZero);
+    assert!(rt; size(WRITE_ZEROES, 4_294_967_295) == RequestSize::LongZero);
     assert!(rt; size(CACHE, 4_294_967_295) == RequestSize::Short);
     assert!(rt; load_of(RequestSize::Short, false) == Load::Interactive);
     assert!(rt; load_of(RequestSize::Short, true) == Load::Bulk);
     assert!(rt; load_of(RequestSize::LongRead, false) == Load::Bulk);
     assert!(rt; load_of(RequestSize::LongWrite, false) == Load::Bulk);
+    assert!(rt; load_of(RequestSize::LongZero, false) == Load::Bulk);
 }
 
 #[test]
 fn who_performs_and_how_many(rt: HostRuntime) {
     assert!(rt; performs_itself(RequestSize::LongWrite));
+    assert!(rt; ends_hold(RequestSize::LongZero) && ends_hold(RequestSize::Nothing));
+    assert!(rt; !ends_hold(RequestSize::LongWrite) && !ends_hold(RequestSize::Short));
     assert!(rt; !performs_itself(RequestSize::LongRead));
     assert!(rt; batch_after(Duration::from_millis(1)) == 8);
     assert!(rt; batch_after(Duration::from_micros(1_001)) == 16);
