@@ -14,7 +14,7 @@ BEGIN = "<!-- The tables from here on are made by bench/report.py. -->"
 END = "<!-- The tables end here. -->"
 
 PEERS = ("nbdkit", "nbd-server", "qemu-nbd")
-BUSY = 0.5  # more threads ready to run than this, over the minute before, are other work
+BUSY = 1.0  # more threads ready to run than this, over the minute before, are other work
 UNITS = {"a_second": "requests a second", "mib_a_second": "MiB a second", "processor_us": "us of processor time a request"}
 
 
@@ -31,7 +31,7 @@ def about(run):
     print("%s, Linux %s, %d processors (%s). %s." % (run["date"], run["kernel"], run["processors"], run["processor"], servers))
     print("%d rounds of %g s, the servers in turn; %.1f threads were ready to run before it began.\n" % (run["rounds"], run["seconds"], run["load_before"]))
     if run["load_before"] > BUSY:
-        print("**The machine was busy**: something else ran beside it. So these tables show what is measured, and compare servers poorly.\n")
+        print("**The machine was busy before it began, and most likely beside it**: these tables show what is measured, and compare servers poorly.\n")
 
 
 def middle(figure):
@@ -228,6 +228,8 @@ def write_all(files):
 
 def main():
     words = sys.argv[1:]
+    if len(words) < (3 if words[:1] in (["--into"], ["--check"]) else 1):
+        sys.exit(__doc__)
     if words[0] not in ("--into", "--check"):
         return write_all(words)
     document, tables = words[1], io.StringIO()
@@ -235,10 +237,12 @@ def main():
         write_all(words[2:])
     with open(document) as it:
         old = it.read()
+    if old.count(BEGIN) != 1 or old.count(END) != 1 or old.index(BEGIN) > old.index(END):
+        sys.exit("%s has to have these lines once each, in this order:\n%s\n%s" % (document, BEGIN, END))
     before, _, rest = old.partition(BEGIN)
     new = before + BEGIN + "\n\n" + tables.getvalue() + END + rest.partition(END)[2]
     if words[0] == "--check":
-        sys.exit(0 if new == old else "%s has other tables" % document)
+        sys.exit(None if new == old else "%s has other tables" % document)
     with open(document, "w") as it:
         it.write(new)
 
