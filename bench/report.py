@@ -190,10 +190,11 @@ def changes(figures):
                     seen = [change(kind, slices, i, (last, now, end)) for slices in rounds]
                     rates = [statistics.median(it) for it in zip(*(rates for rates, _ in seen))]
                     settings = mine[i]["settings"].replace("\n", ", ").replace(" = ", " ")
-                    whose = ("%s to %s" if kind == "starts" else "the others: %s to %s") % (shown(rates[0]), shown(rates[1]))
+                    before, later, all_before, all_later = (format(round(it), ",") for it in rates)
                     rows.append([
-                        "%g s" % (now / per_second), "%d (%s) %s" % (i, settings, kind), whose,
-                        "%s to %s" % (shown(rates[2]), shown(rates[3])), in_ms([took for _, took in seen]), str(wanted),
+                        "%g s" % (now / per_second), "%d (%s) %s" % (i, settings, kind),
+                        ("the others: " if kind == "stops" else "") + "%s to %s" % (before, later),
+                        "%s to %s" % (all_before, all_later), in_ms([took for _, took in seen]), str(wanted),
                     ])
         print("### %s\n" % server)
         table(["At", "Export", "Its rate, or that of the others", "That of all", "Has come after, ms", "Wanted, ms"], rows)
