@@ -182,7 +182,7 @@ def slow_handshake():
             client.settimeout(pause)
             while time.time() - began < 66:
                 try:
-                    client.sendall(next(pieces))
+                    client.sendall(next(pieces, b""))
                     while client.recv(MIB) != b"":
                         pass
                     break
