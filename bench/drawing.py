@@ -21,9 +21,15 @@ class Drawing:
         dashed = ' stroke-dasharray="%s"' % dash if dash else ""
         self.parts.append('<line x1="%.1f" y1="%.1f" x2="%.1f" y2="%.1f" stroke="%s" stroke-width="%.1f"%s/>' % (x1, y1, x2, y2, colour, width, dashed))
 
-    def curve(self, points, colour):
+    def window(self, name, x, y, width, height):
+        """What curves of this name are cut off by."""
+        form = '<clipPath id="%s"><rect x="%.1f" y="%.1f" width="%.1f" height="%.1f"/></clipPath>'
+        self.parts.append(form % (name, x, y, width, height))
+
+    def curve(self, points, colour, window=None):
         path = " ".join("%.1f,%.1f" % it for it in points)
-        self.parts.append('<polyline points="%s" fill="none" stroke="%s" stroke-width="1.8"/>' % (path, colour))
+        cut = ' clip-path="url(#%s)"' % window if window else ""
+        self.parts.append('<polyline points="%s" fill="none" stroke="%s" stroke-width="1.8"%s/>' % (path, colour, cut))
 
     def bar(self, x, y, width, height, colour):
         self.parts.append('<rect x="%.1f" y="%.1f" width="%.1f" height="%.1f" fill="%s"/>' % (x, y, width, height, colour))

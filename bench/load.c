@@ -399,6 +399,8 @@ static int exchange(struct traffic *t)
         at = now();
         if (!t->period && !sends && t->free_count && at >= t->from && at < t->until)
             continue;
+        if (!sends && !c->under_way && !has_plans(t, at))
+            continue; /* the last reply has just come: no other is waited for */
         uint64_t nanos = wake > at ? wake - at : 0;
         struct timespec most = {(time_t)(nanos / NANOS), (long)(nanos % NANOS)};
         struct pollfd one = {c->socket, (short)(POLLIN | (sends ? POLLOUT : 0)), 0};

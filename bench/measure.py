@@ -174,10 +174,10 @@ def limits(o, figures):
 
 
 def timeline(o, figures):
-    """Five exports that start and stop one after another: requests in slices of 10 ms."""
+    """Five exports that start and stop one after another: requests in slices of 10 ms, 10 s a round."""
     settings = ["weight = 1", "weight = 2", "weight = 4", "weight = 1\nreservation = 50000", "weight = 4\nlimit = 60000"]
     spans = [(0, 10), (1, 7), (2, 6), (3, 9), (4, 8)]
-    for kind in (it for it in o.servers if "=" in it):
+    for kind in [it for it in o.servers if "=" in it] * o.rounds:
         with Server(kind, exports=5, config=exports_of(settings)) as server:
             clients = [server.clients(i, connections=3, **SMALL, **{"from": a, "until": b}) for i, (a, b) in enumerate(spans)]
             for i, found in enumerate(load(10, clients, warm=0, slices=10)):

@@ -14,40 +14,76 @@ def in_words(settings):
     return settings.replace("\n", ", ").replace(" = ", " ")
 
 
+def promised(it):
+    """The reservation and the limit of an export, by name."""
+    pairs = (line.split(" = ") for line in it["settings"].split("\n"))
+    return [(word, float(rate)) for word, rate in pairs if word in ("reservation", "limit")]
+
+
+class Panel:
+    """A part of the picture that has rates over time, up to some rate."""
+
+    def __init__(self, d, seconds, left, right, top, bottom, most):
+        self.d, self.left, self.right, self.top, self.bottom, self.most, self.seconds = d, left, right, top, bottom, most, seconds
+        step = 10 ** math.floor(math.log10(most / 2))
+        step = next(step * k for k in (1, 2, 5, 10) if most / (step * k) <= 6)
+        for i in range(int(most / step) + 1):
+            d.line(left, self.y_of(i * step), right, self.y_of(i * step))
+            d.text(left - 8, self.y_of(i * step) + 4, "%d k" % round(i * step / 1000), anchor="end")
+        for t in range(int(seconds) + 1):
+            d.text(self.x_of(t), bottom + 18, "%d s" % t, anchor="middle")
+        self.name = "to%d" % bottom
+        d.window(self.name, left, top, right - left, bottom - top + 1)
+
+    def x_of(self, t):
+        return self.left + (self.right - self.left) * t / self.seconds
+
+    def y_of(self, rate):
+        return self.bottom - (self.bottom - self.top) * rate / self.most
+
+    def curve(self, it, rates, wide, colour):
+        """Rates of an export while it is there, and as long before and behind as a mean reaches."""
+        first, last = int(it["start"] * 100) - wide // 2, int(it["end"] * 100) + wide // 2
+        points = [(self.x_of(i / 100), self.y_of(rates[i])) for i in range(max(first, 0), min(last + 1, len(rates)), 2)]
+        self.d.curve(points, colour, self.name)
+
+    def dashes(self, it, rate, colour):
+        self.d.line(self.x_of(it["start"]), self.y_of(rate), self.x_of(it["end"]), self.y_of(rate), colour, 1.6, "5 4")
+
+
 def shares(figures, path):
     """Requests a second of exports that start and stop one after another."""
     mine = sorted((it for it in figures if it["part"] == "timeline"), key=lambda it: it["export"])
     if not mine:
         return
-    width, height, left, top, right, bottom, wide = 860, 430, 92, 50, 30, 110, 20
-    d = Drawing(width, height, "Five exports that start and stop one after another")
-    rows = []
+    wide, rows = 20, []
     for it in mine:
         slices = it["values"][-1]
-        rates = [sum(slices[max(0, i - wide // 2) : i + wide // 2]) * 100.0 / len(slices[max(0, i - wide // 2) : i + wide // 2]) for i in range(len(slices))]
-        rows.append((it, rates))
-    most, seconds = max(max(r) for _, r in rows) * 1.08, len(rows[0][1]) / 100
-    x_of = lambda t: left + (width - left - right) * t / seconds
-    y_of = lambda v: height - bottom - (height - top - bottom) * v / most
-    step = 10 ** math.floor(math.log10(most / 2))
-    step = next(step * k for k in (1, 2, 5, 10) if most / (step * k) <= 6)
-    for i in range(int(most / step) + 1):
-        d.line(left, y_of(i * step), width - right, y_of(i * step))
-        d.text(left - 8, y_of(i * step) + 4, "%d k" % round(i * step / 1000), anchor="end")
-    for t in range(int(seconds) + 1):
-        d.text(x_of(t), height - bottom + 18, "%d s" % t, anchor="middle")
-    d.text(20, (top + height - bottom) / 2, "4 KiB reads a second", anchor="middle", turn=-90)
-    for n, (it, _) in enumerate(rows):
-        for word in ("reservation", "limit"):
-            if word in it["settings"]:
-                rate = float(it["settings"].split(word + " = ")[1].split()[0])
-                d.line(x_of(it["start"]), y_of(rate), x_of(it["end"]), y_of(rate), COLOURS[n], 1.2, "5 4")
-                d.text(x_of(it["end"]) + 4, y_of(rate) + (4 if word == "reservation" else -2), "its " + word, size=11, colour=COLOURS[n])
+        around = [slices[max(0, i - wide // 2) : i + wide // 2] for i in range(len(slices))]
+        rows.append((it, [sum(some) * 100.0 / len(some) for some in around]))
+    seconds, left, right = len(rows[0][1]) / 100, 92, 830
+    d = Drawing(860, 640, "Five exports that start and stop one after another")
+    d.text(20, 180, "4 KiB reads a second", anchor="middle", turn=-90)
+    above = Panel(d, seconds, left, right, 50, 310, max(max(rates) for _, rates in rows) * 1.05)
     for n, (it, rates) in enumerate(rows):
-        d.curve([(x_of(i / 100), y_of(v)) for i, v in enumerate(rates) if i % 2 == 0], COLOURS[n])
-        x, y = left + (n % 2) * 365, height - 68 + (n // 2) * 22
+        above.curve(it, rates, wide, COLOURS[n])
+        x, y = left + (n % 2) * 350, 358 + (n // 2) * 22
         d.line(x, y - 4, x + 26, y - 4, COLOURS[n], 3)
         d.text(x + 34, y, "export %d: %s; from %d s to %d s" % (n, in_words(it["settings"]), it["start"], it["end"]))
+    kept = [(n, it, rates) for n, (it, rates) in enumerate(rows) if promised(it)]
+    if kept:
+        lines = sorted((rate, word, n, it) for n, it, _ in kept for word, rate in promised(it))
+        d.text(left, 436, "The same of those with a reservation or a limit, in more detail", bold=True)
+        below = Panel(d, seconds, left, right, 452, 600, 3 * lines[-1][0])
+        for n, it, rates in kept:
+            below.curve(it, rates, wide, COLOURS[n])
+        x, y = below.x_of(min(it["start"] for _, it, _ in kept)) - 14, math.inf
+        for rate, word, n, it in lines:
+            below.dashes(it, rate, COLOURS[n])
+            # The names stand before the first of these exports starts, above each other, and no line of the grid goes through.
+            y = min(below.y_of(rate) + 4, y - 16)
+            d.bar(x - 190, y - 12, 192, 16, "white")
+            d.text(x, y, "%s of export %d: %d" % (word, n, rate), anchor="end", size=12, colour=COLOURS[n])
     d.write(path)
 
 

@@ -8,12 +8,13 @@
 Each figure is the median of its rounds; behind ± stands half of what lies between the least and the greatest, in parts of
 100. A ratio is to the best of the peers.
 """
-import contextlib, io, json, statistics, sys
+import contextlib, io, json, math, statistics, sys
 
 BEGIN = "<!-- The tables from here on are made by bench/report.py. -->"
 END = "<!-- The tables end here. -->"
 
 PEERS = ("nbdkit", "nbd-server", "qemu-nbd")
+BUSY = 1.0  # more threads ready to run than this, over the minute before, are other work
 UNITS = {"a_second": "requests a second", "mib_a_second": "MiB a second", "processor_us": "us of processor time a request"}
 
 
@@ -29,6 +30,8 @@ def about(run):
     servers = "; ".join("%s: %s" % it for it in run["servers"].items())
     print("%s, Linux %s, %d processors (%s). %s." % (run["date"], run["kernel"], run["processors"], run["processor"], servers))
     print("%d rounds of %g s, the servers in turn; %.1f threads were ready to run before it began.\n" % (run["rounds"], run["seconds"], run["load_before"]))
+    if run["load_before"] > BUSY:
+        print("**The machine was busy before it began, and most likely beside it**: these tables show what is measured, and compare servers poorly.\n")
 
 
 def middle(figure):
@@ -132,6 +135,71 @@ def shares(figures):
         table(["Exports", "Each is given", "By the first", "In"], rows)
 
 
+SLICE, RUN, CALM = 10, 3, 20  # ms of a slice; slices that are looked at together; slices that are left out behind an event
+OF_CHANGES = """An export that starts **has its share** at the end of the first slice of 10 ms in which its part of all requests is three quarters or more of its later part (that from 0.2 s behind the start to the
+next event), and with the two slices behind it within 25 in 100 of that. The others **have the share of one that stops** at the end of the first slice in which they are given three quarters or more, in it and with the two
+slices behind it, of what they are given more later (from 0.2 s behind the stop to the next event) than before (from 0.2 s behind the event before). So 10 ms are the least that can be told. "Has come after" is the
+median of the rounds, with the least and the greatest; rates are requests a second over the times named, medians of the rounds.
+"""
+
+
+def first_slice(begin, end, enough, right):
+    """How many ms behind slice `begin` the first slice ends that has enough, and that is right with those behind it."""
+    found = (i for i in range(begin, end - RUN + 1) if enough(i, i + 1) and right(i, i + RUN))
+    return (next(found, math.inf) + 1 - begin) * SLICE
+
+
+def change(kind, slices, mine, times):
+    """One event in one round: the rate before and later (its own, or that of the others), that of all before and later, and the ms."""
+    last, now, end = times
+    everyone = [sum(it) for it in zip(*slices)]
+    others = [a - b for a, b in zip(everyone, slices[mine])]
+    mean = lambda of, begin, until: statistics.mean(of[begin:until])
+    both = lambda of: [mean(of, last + CALM, now), mean(of, now + CALM, end)]
+    if kind == "starts":
+        whose, part = slices[mine], lambda begin, until: sum(slices[mine][begin:until]) / max(sum(everyone[begin:until]), 1)
+        wanted = part(now + CALM, end)
+        took = first_slice(now, end, lambda *at: part(*at) >= wanted * 3 / 4, lambda *at: abs(part(*at) - wanted) <= wanted / 4)
+    else:
+        whose, (before, later) = others, both(others)
+        enough = lambda *at: mean(others, *at) >= before + (later - before) * 3 / 4
+        took = first_slice(now, end, enough, enough)
+        took = None if later < 1.05 * before else took  # they are given no more: there is nothing to wait for
+    return [it * 1000 / SLICE for it in both(whose) + both(everyone)], took
+
+
+def in_ms(all_took):
+    seen = [it for it in all_took if it is not None]
+    if 2 * len(seen) <= len(all_took):
+        return "they are given no more"
+    named = lambda it: "never" if it == math.inf else "%g" % it
+    return named(statistics.median(seen)) + (" (%s to %s)" % (named(min(seen)), named(max(seen))) if len(seen) > 1 else "")
+
+
+def changes(figures):
+    print(OF_CHANGES)
+    for server in ordered(figures, "server"):
+        mine = sorted((it for it in figures if it["server"] == server), key=lambda it: it["export"])
+        rounds = list(zip(*(it["values"] for it in mine)))
+        per_second = 1000 // SLICE
+        times = sorted({0, len(rounds[0][0])} | {round(it[at] * per_second) for it in mine for at in ("start", "end")})
+        rows = []
+        for last, now, end in zip(times, times[1:], times[2:]):
+            for kind, at, wanted in (("stops", "end", 10), ("starts", "start", 50)):
+                for i in (i for i, it in enumerate(mine) if round(it[at] * per_second) == now):
+                    seen = [change(kind, slices, i, (last, now, end)) for slices in rounds]
+                    rates = [statistics.median(it) for it in zip(*(rates for rates, _ in seen))]
+                    settings = mine[i]["settings"].replace("\n", ", ").replace(" = ", " ")
+                    before, later, all_before, all_later = (format(round(it), ",") for it in rates)
+                    rows.append([
+                        "%g s" % (now / per_second), "%d (%s) %s" % (i, settings, kind),
+                        ("the others: " if kind == "stops" else "") + "%s to %s" % (before, later),
+                        "%s to %s" % (all_before, all_later), in_ms([took for _, took in seen]), str(wanted),
+                    ])
+        print("### %s\n" % server)
+        table(["At", "Export", "Its rate, or that of the others", "That of all", "Has come after, ms", "Wanted, ms"], rows)
+
+
 def memory(figures):
     servers, rows = in_columns(figures, ("when",), least_is_best=True)
     table(["A disk of 256 MiB", *servers], rows)
@@ -143,6 +211,7 @@ PARTS = [
     ("Shares", "shares", shares),
     ("Reservations", "reservations", shares),
     ("Limits", "limits", shares),
+    ("An export that stops or starts", "timeline", changes),
     ("Memory, in MiB", "memory", memory),
 ]
 
@@ -160,6 +229,8 @@ def write_all(files):
 
 def main():
     words = sys.argv[1:]
+    if len(words) < (3 if words[:1] in (["--into"], ["--check"]) else 1):
+        sys.exit(__doc__)
     if words[0] not in ("--into", "--check"):
         return write_all(words)
     document, tables = words[1], io.StringIO()
@@ -167,10 +238,12 @@ def main():
         write_all(words[2:])
     with open(document) as it:
         old = it.read()
+    if old.count(BEGIN) != 1 or old.count(END) != 1 or old.index(BEGIN) > old.index(END):
+        sys.exit("%s has to have these lines once each, in this order:\n%s\n%s" % (document, BEGIN, END))
     before, _, rest = old.partition(BEGIN)
     new = before + BEGIN + "\n\n" + tables.getvalue() + END + rest.partition(END)[2]
     if words[0] == "--check":
-        sys.exit(0 if new == old else "%s has other tables" % document)
+        sys.exit(None if new == old else "%s has other tables" % document)
     with open(document, "w") as it:
         it.write(new)
 

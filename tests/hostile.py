@@ -1,5 +1,5 @@
 """The tests of hostile.sh: each starts a server of its own, misuses it, and says what was seen."""
-import json, os, resource, socket, stat, struct, subprocess, sys, threading, time
+import itertools, os, resource, socket, stat, struct, subprocess, sys, threading, time
 
 HERE = os.path.dirname(os.path.abspath(__file__))
 sys.path.insert(0, os.path.join(HERE, "..", "bench"))
@@ -106,6 +106,11 @@ def writes_behind_a_limit():
 def many_connects():
     """A server that serves for ever outlives 110,000 connects, and tells nothing of them."""
     with Server(NBDQ, mib=8, words=["--sessions", "forever"]) as server:
+        process, errors, said = server.processes[0], server.folder + "/errors", []
+        before = os.path.getsize(errors)
+        # Read all the time: a server that told each connect would wait for room in the pipe.
+        reading = threading.Thread(target=lambda: said.append(process.stdout.read()))
+        reading.start()
         keeper = Client(server.places[0], server.exports[0])
         keeper.ask(WRITE, 0, len(KEPT), KEPT)
 
@@ -124,6 +129,11 @@ def many_connects():
         [it.join() for it in threads]
         kept = server.is_running() and keeper.ask(READ, 0, len(KEPT))[2] == KEPT
         yield kept, "110,000 connects: the server %s" % ("goes on, with its disk" if kept else "ended")
+        process.terminate()
+        reading.join(10)
+        told, failures = b"".join(said), os.path.getsize(errors) - before
+        quiet = said != [] and told == b"" and failures == 0
+        yield quiet, "it told %d bytes of them on standard output and %d on standard error (0)" % (len(told), failures)
 
 
 def innocent_session():
@@ -158,6 +168,40 @@ def silence():
         said = subprocess.run(["ss", "-Htno", "sport = :%s" % port], capture_output=True, text=True).stdout
         yield "keepalive" in said, "a connection over TCP has a keepalive timer"
         client.close()
+
+
+def slow_handshake():
+    """A client has 10 s for each option, however often it sends a byte of it, and a minute for all of them."""
+    took = {}
+
+    def run(what, port, pieces, pause):
+        with socket.create_connection(("127.0.0.1", port), 90) as client:
+            client.recv(18)
+            began = time.time()
+            client.sendall(struct.pack(">I", 3))
+            client.settimeout(pause)
+            while time.time() - began < 66:
+                try:
+                    client.sendall(next(pieces, b""))
+                    while client.recv(MIB) != b"":
+                        pass
+                    break
+                except TimeoutError:
+                    pass
+                except ConnectionError:
+                    break
+            took[what] = time.time() - began
+
+    with Server(NBDQ, tcp=True, mib=8) as server:
+        port = int(server.places[0].rsplit(":", 1)[1])
+        option = struct.pack(">8sII", b"IHAVEOPT", 3, 0)  # LIST
+        cases = [("asks for the list each 5 s", itertools.repeat(option), 5), ("sends a byte of an option each second", (option[i : i + 1] for i in range(16)), 1)]
+        threads = [threading.Thread(target=run, args=(what, port, *how)) for what, *how in cases]
+        [it.start() for it in threads]
+        [it.join() for it in threads]
+        for (what, *_), wanted in zip(cases, (60, 10)):
+            seconds = took.get(what, 999.0)
+            yield wanted - 0.5 < seconds < wanted + 2.5, "a client that %s and chooses no export is dropped after %.1f s (%d)" % (what, seconds, wanted)
 
 
 def last_connection():
@@ -461,13 +505,25 @@ TESTS = [
     stuck_reader,
 ]
 
+# These run where they are named or `--long` is said: a minute more.
+LONG = [slow_handshake]
+
+
+def chosen(words):
+    """The tests that words ask for: those named, or all, with the long ones where `--long` is among them."""
+    names = [it for it in words if it != "--long"]
+    known = {it.__name__: it for it in TESTS + LONG}
+    unknown = [it for it in names if it not in known]
+    if unknown:
+        sys.exit("no test %s; there are %s" % (", ".join(unknown), ", ".join(known)))
+    return [it for it in TESTS + LONG if it.__name__ in names or (not names and it in TESTS) or (it in LONG and "--long" in words)]
+
 
 def main():
+    tests = chosen(sys.argv[2:])
     resource.setrlimit(resource.RLIMIT_NOFILE, (resource.getrlimit(resource.RLIMIT_NOFILE)[1],) * 2)
     passed = failed = 0
-    for test in TESTS:
-        if sys.argv[2:] and test.__name__ not in sys.argv[2:]:
-            continue
+    for test in tests:
         try:
             seen = list(test())
         except Exception as error:  # a test that can't go on has failed
