@@ -48,6 +48,9 @@ server_figures = server.Uptime ∷ server.Connections ∷ server.InService ∷ s
 
 abbrev pub export_row : ExportFigure → Row
 export_row export.Size = gauge (codes "size_bytes") (codes "Size of the disk.")
+export_row export.HeldBytes = gauge (codes "held_bytes") (codes "Bytes of the disk that have memory.")
+export_row export.BaseBytes = gauge (codes "base_bytes") (codes "Bytes that have memory of the disk before its latest steps.")
+export_row export.LogBytes = gauge (codes "log_bytes") (codes "Bytes of WRITEs in its latest steps.")
 export_row export.Sessions = gauge (codes "sessions") (codes "Sessions that are open.")
 export_row export.Waiting = gauge (codes "requests_waiting") (codes "Requests that wait.")
 export_row export.Steps = counter (codes "steps_total") (codes "Steps of the export.")
@@ -62,6 +65,11 @@ export_row export.Weight = gauge (codes "weight") (codes "Weight among the expor
 export_row export.MedianWait = gauge (codes "wait_median_seconds") (codes "Median wait of the latest 1024 requests.")
 export_row export.LongWait = gauge (codes "wait_p99_seconds") (codes "Wait that 99 of 100 of the latest 1024 requests didn't exceed.")
 
+-- a number, where it is known
+abbrev pub known : Option ℕ → Reading
+known None = Nothing
+known (Some number) = Number number
+
 -- how long requests waited, where some did
 abbrev pub waited : Option ℕ → Reading
 waited None = Nothing
@@ -69,6 +77,9 @@ waited (Some nanoseconds) = Time nanoseconds
 
 abbrev pub export_reading : ExportStats → ExportFigure → Reading
 export_reading e export.Size = Number e.size
+export_reading e export.HeldBytes = Number e.held_bytes
+export_reading e export.BaseBytes = known e.base_bytes
+export_reading e export.LogBytes = Number e.log_bytes
 export_reading e export.Sessions = Number e.sessions
 export_reading e export.Waiting = Number e.waiting
 export_reading e export.Steps = Number e.steps
@@ -86,7 +97,7 @@ export_reading e export.LongWait = waited e.waits.p99
 -- those of an export, in order
 abbrev pub export_figures : List ExportFigure
 export_figures =
-    export.Size ∷ export.Sessions ∷ export.Waiting ∷ export.Steps
+    export.Size ∷ export.HeldBytes ∷ export.BaseBytes ∷ export.LogBytes ∷ export.Sessions ∷ export.Waiting ∷ export.Steps
     ∷ export.ByReservation ∷ export.ByWeight ∷ export.Errors ∷ export.ReadBytes ∷ export.WrittenBytes
     ∷ export.Reservation ∷ export.Limit ∷ export.Weight ∷ export.MedianWait ∷ export.LongWait ∷ []
 

@@ -2,7 +2,7 @@
 
 ghost use Rattle.std.specs.Prelude.{◌≡◌, ◌++◌, codes, OnOk};
 ghost use Rattle.std.specs.Fmt.{decimal};
-ghost use Rattle.nbd_control.specs.Figures.{counter, gauge, export_reading, export_row, kind_word, nine_digits, reading_text, row_of, seconds_text, server_reading, server_row, waited};
+ghost use Rattle.nbd_control.specs.Figures.{counter, gauge, export_reading, export_row, kind_word, known, nine_digits, reading_text, row_of, seconds_text, server_reading, server_row, waited};
 
 use crate::stats::{ExportStats, ServerStats};
 use nbd_base::NoMemory;
@@ -49,6 +49,9 @@ pub enum ServerFigure {
 #[derive(Clone, Copy, Debug, PartialEq, Eq)]
 pub enum ExportFigure {
     Size,
+    HeldBytes,
+    BaseBytes,
+    LogBytes,
     Sessions,
     Waiting,
     Steps,
@@ -74,8 +77,11 @@ pub const SERVER_FIGURES: [ServerFigure; 5] = [
 ];
 
 /// The figures of an export, in the order in which they are told.
-pub const EXPORT_FIGURES: [ExportFigure; 14] = [
+pub const EXPORT_FIGURES: [ExportFigure; 17] = [
     ExportFigure::Size,
+    ExportFigure::HeldBytes,
+    ExportFigure::BaseBytes,
+    ExportFigure::LogBytes,
     ExportFigure::Sessions,
     ExportFigure::Waiting,
     ExportFigure::Steps,
@@ -146,6 +152,12 @@ impl ExportFigure {
     {
         match self {
             ExportFigure::Size => gauge("size_bytes", "Size of the disk."),
+            ExportFigure::HeldBytes => gauge("held_bytes", "Bytes of the disk that have memory."),
+            ExportFigure::BaseBytes => gauge(
+                "base_bytes",
+                "Bytes that have memory of the disk before its latest steps.",
+            ),
+            ExportFigure::LogBytes => gauge("log_bytes", "Bytes of WRITEs in its latest steps."),
             ExportFigure::Sessions => gauge("sessions", "Sessions that are open."),
             ExportFigure::Waiting => gauge("requests_waiting", "Requests that wait."),
             ExportFigure::Steps => counter("steps_total", "Steps of the export."),
@@ -185,6 +197,9 @@ impl ExportFigure {
     {
         match self {
             ExportFigure::Size => Reading::Number(stats.size),
+            ExportFigure::HeldBytes => Reading::Number(stats.held_bytes),
+            ExportFigure::BaseBytes => known(stats.base_bytes),
+            ExportFigure::LogBytes => Reading::Number(stats.log_bytes),
             ExportFigure::Sessions => Reading::Number(stats.sessions),
             ExportFigure::Waiting => Reading::Number(stats.waiting),
             ExportFigure::Steps => Reading::Number(stats.steps),
@@ -199,6 +214,16 @@ impl ExportFigure {
             ExportFigure::MedianWait => waited(stats.waits.median),
             ExportFigure::LongWait => waited(stats.waits.p99),
         }
+    }
+}
+
+/// A number, where it is known.
+fn known(number: Option<u64>) -> Reading
+    ensures { result ≡ known number }
+{
+    match number {
+        Some(number) => Reading::Number(number),
+        None => Reading::Nothing,
     }
 }
 

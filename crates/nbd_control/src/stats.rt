@@ -36,6 +36,12 @@ pub struct ExportStats<'a> {
     pub name: &'a [u8],
     /// In bytes.
     pub size: u64,
+    /// The bytes of its pages that have memory.
+    pub held_bytes: u64,
+    /// Those of the disk as it was before the steps of its log. None where that isn't known while steps are queued for it.
+    pub base_bytes: Option<u64>,
+    /// The data of the WRITEs in its log.
+    pub log_bytes: u64,
     /// That are open.
     pub sessions: u64,
     /// Requests that wait.

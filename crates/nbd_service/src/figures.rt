@@ -1,19 +1,35 @@
 //! What is told of the server and its exports while it runs.
 
 use crate::service::{Disks, Service};
+use export_cell::ExportCell;
 use export_store::Paged;
+use lone_export::Step;
 use nbd_base::NoMemory;
 use nbd_commands::Config;
 use nbd_measures::{HoldCount, WaitQuantiles};
+use payload::PAGE;
 use server_lock::{ExportCounts, ExportTally, Tally};
 use std::alloc::Global;
+use std::collections::VecDeque;
 use std::sync::Wait;
 use std::sync::ledger::Ledger;
 use turn_order::Rates;
 
-/// What is told of an export's requests.
+/// The bytes that have memory for an export.
+#[derive(Clone, Copy, Debug, PartialEq, Eq, Drop)]
+pub struct HeldBytes {
+    /// In the pages of the disk.
+    pub image: u64,
+    /// In those of the disk as it was before the steps of its log. None where steps are queued for it.
+    pub base: Option<u64>,
+    /// The data of the WRITEs in its log.
+    pub log: u64,
+}
+
+/// What is told of an export.
 #[derive(Clone, Copy, Debug, PartialEq, Eq, Drop)]
 pub struct ExportFigures {
+    pub held: HeldBytes,
     pub waiting: u64,
     pub steps: u64,
     pub counts: ExportCounts,
@@ -76,10 +92,37 @@ fn figures_of<L: Ledger>(
         return Ok(None);
     };
     Ok(Some(ExportFigures {
+        held: held_of(cell),
         waiting: cell.live().waiting() as u64,
         steps: cell.steps(),
         counts: tally.counts(),
         waits: tally.waits().quantiles(alloc)?,
         rates,
     }))
+}
+
+fn held_of(cell: &ExportCell<Paged<Global>>) -> HeldBytes {
+    HeldBytes {
+        image: bytes_of(cell.live().image()),
+        base: match cell.base().image() {
+            Some(image) => Some(bytes_of(image)),
+            None => None,
+        },
+        log: log_bytes(cell.entries()),
+    }
+}
+
+fn bytes_of(image: &Paged<Global>) -> u64 {
+    (image.held() as u64).saturating_mul(PAGE as u64)
+}
+
+/// The bytes of data in the steps of a log.
+fn log_bytes(log: &VecDeque<Step<Global>>) -> u64 {
+    let mut bytes = 0u64;
+    for step in log.iter() {
+        if let Step::Arrive { request, .. } = step {
+            bytes = bytes.saturating_add(request.payload().len() as u64);
+        }
+    }
+    bytes
 }

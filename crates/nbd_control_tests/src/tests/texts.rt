@@ -72,6 +72,9 @@ const SERVER: ServerStats = ServerStats {
 const QUIET: ExportStats<'static> = ExportStats {
     name: b"a",
     size: 4096,
+    held_bytes: 0,
+    base_bytes: None,
+    log_bytes: 0,
     sessions: 0,
     waiting: 0,
     steps: 0,
@@ -94,6 +97,9 @@ const QUIET: ExportStats<'static> = ExportStats {
 const BUSY: ExportStats<'static> = ExportStats {
     name: b"b \"\\\n\x01\x7f\xc3\xa9",
     size: 8192,
+    held_bytes: 4096,
+    base_bytes: Some(8192),
+    log_bytes: 512,
     sessions: 3,
     waiting: 4,
     steps: 5,
@@ -115,8 +121,8 @@ const BUSY: ExportStats<'static> = ExportStats {
 
 const STATS: &[u8] =
     b"server uptime_seconds=61.000000007 connections=3 requests_in_service=2 holds_total=1000 longest_hold_seconds=0.000012345
-export name=\"a\" size_bytes=4096 sessions=0 requests_waiting=0 steps_total=0 chosen_by_reservation_total=0 chosen_by_weight_total=0 errors_total=0 read_bytes_total=0 written_bytes_total=0 reservation_per_second=0 limit_per_second=0 weight=1 wait_median_seconds=- wait_p99_seconds=-
-export name=\"b \\\"\\\\\\n\\u0001\\u007F\xc3\xa9\" size_bytes=8192 sessions=3 requests_waiting=4 steps_total=5 chosen_by_reservation_total=6 chosen_by_weight_total=7 errors_total=8 read_bytes_total=9 written_bytes_total=18446744073709551615 reservation_per_second=10 limit_per_second=11 weight=12 wait_median_seconds=0.000000001 wait_p99_seconds=2.500000000
+export name=\"a\" size_bytes=4096 held_bytes=0 base_bytes=- log_bytes=0 sessions=0 requests_waiting=0 steps_total=0 chosen_by_reservation_total=0 chosen_by_weight_total=0 errors_total=0 read_bytes_total=0 written_bytes_total=0 reservation_per_second=0 limit_per_second=0 weight=1 wait_median_seconds=- wait_p99_seconds=-
+export name=\"b \\\"\\\\\\n\\u0001\\u007F\xc3\xa9\" size_bytes=8192 held_bytes=4096 base_bytes=8192 log_bytes=512 sessions=3 requests_waiting=4 steps_total=5 chosen_by_reservation_total=6 chosen_by_weight_total=7 errors_total=8 read_bytes_total=9 written_bytes_total=18446744073709551615 reservation_per_second=10 limit_per_second=11 weight=12 wait_median_seconds=0.000000001 wait_p99_seconds=2.500000000
 
 ";
 

@@ -291,6 +291,9 @@ fn stats_of<'a>(
     ExportStats {
         name: export.name(),
         size: export.size(),
+        held_bytes: figures.held.image,
+        base_bytes: figures.held.base,
+        log_bytes: figures.held.log,
         sessions,
         waiting: figures.waiting,
         steps: figures.steps,
