@@ -137,7 +137,7 @@ fn stats_of_two_exports(rt: HostRuntime) {
 }
 
 /// The first lines of the figures in Prometheus' format, and some of the others.
-const METRICS: [&[u8]; 8] = [
+const METRICS: [&[u8]; 10] = [
     b"# HELP nbdq_uptime_seconds Time since the server started.
 # TYPE nbdq_uptime_seconds gauge
 nbdq_uptime_seconds 61.000000007
@@ -153,7 +153,13 @@ nbdq_holds_total 1000
 # TYPE nbdq_export_size_bytes gauge
 nbdq_export_size_bytes{export=\"a\"} 4096
 nbdq_export_size_bytes{export=\"b \\\"\\\\\\n\x01\x7f\xc3\xa9\"} 8192
-# HELP nbdq_export_sessions Sessions that are open.
+# HELP nbdq_export_held_bytes Bytes of the disk that have memory.
+",
+    b"
+nbdq_export_base_bytes{export=\"a\"} NaN
+",
+    b"
+nbdq_export_log_bytes{export=\"a\"} 0
 ",
     b"
 # TYPE nbdq_export_steps_total counter
