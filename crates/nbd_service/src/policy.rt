@@ -38,17 +38,19 @@ pub const LAST_MOMENT_NS: u64 = (1 << 62) - 1;
 
 // ---- Clients that are silent
 
-/// How many milliseconds a client has for each option of its handshake, and for its flags.
+/// How many milliseconds a client has for each option of its handshake, and for its flags. A client asks and waits for the answer, so
+/// this is some hundred times a long way to it.
 pub const OPTION_MS: u64 = 10_000;
 
-/// How many milliseconds it has for the whole handshake.
+/// How many milliseconds it has for the whole handshake: six options, of which most clients send one to three.
 pub const HANDSHAKE_MS: u64 = 60_000;
 
-/// How many milliseconds a reply waits for a client that reads nothing, before its session ends.
+/// How many milliseconds a reply waits for a client that reads nothing, before its session ends: more than the longest time in which
+/// a client that is stopped and goes on is expected back.
 pub const STALLED_WRITE_MS: u64 = 60_000;
 
 /// After how many seconds without a byte a connection over TCP is probed, how many lie between two probes, and how many
-/// unanswered ones end it (tcp(7)).
+/// unanswered ones end it (tcp(7)): two minutes behind its last byte a client that vanished leaves its place.
 pub const KEEPALIVE_IDLE_S: u8 = 60;
 
 pub const KEEPALIVE_INTERVAL_S: u8 = 10;
