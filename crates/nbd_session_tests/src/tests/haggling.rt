@@ -74,10 +74,7 @@ const ENDS: [(Said, End); 3] = [
         ),
         End::Abort,
     ),
-    (
-        (b"IHAVEOPT\0\0\0\x01\0\0\0\x01z", b""),
-        End::NoExport,
-    ),
+    ((b"IHAVEOPT\0\0\0\x01\0\0\0\x01z", b""), End::NoExport),
     (
         (b"IHAVEOPU\0\0\0\x07\0\0\0\x07\0\0\0\x01a\0\0", b""),
         End::BadMagic,
@@ -157,7 +154,14 @@ type Ended = (Result<Entry, TalkFault>, u32);
 
 /// Whether a handshake over this reader goes so, where so many sessions aren't given at first, and this is all that a writer
 /// took which has room for so many bytes.
-fn goes(alloc: Global, source: Source<'_>, room: usize, full: u32, ended: Ended, said: &[u8]) -> bool {
+fn goes(
+    alloc: Global,
+    source: Source<'_>,
+    room: usize,
+    full: u32,
+    ended: Ended,
+    said: &[u8],
+) -> bool {
     let mut table = ExportTable::new(alloc);
     if table.push(b"a", None, 4096, 0x056d).is_err() {
         return false;
@@ -165,7 +169,13 @@ fn goes(alloc: Global, source: Source<'_>, room: usize, full: u32, ended: Ended,
     let taken = Vec::new(alloc);
     let mut attach = Counts { full, asked: 0 };
     let mut writer = Counted::new(Sink { taken, room });
-    let went = haggle(alloc, &table, &mut Counted::new(source), &mut writer, &mut attach);
+    let went = haggle(
+        alloc,
+        &table,
+        &mut Counted::new(source),
+        &mut writer,
+        &mut attach,
+    );
     let Sink { taken, .. } = writer.into_inner();
     (went, attach.asked) == ended && taken.as_slice() == said
 }
@@ -251,7 +261,10 @@ fn a_session_is_asked_for_at_go(rt: HostRuntime) {
     let alloc = rt.alloc();
     for first in 0..9usize {
         let ended = (Ok(Entry::In(0)), 1);
-        assert!(rt; goes_well(alloc, whole(alloc, first), 0, ended), "from {first}");
+        assert!(rt;
+            goes_well(alloc, whole(alloc, first), 0, ended),
+            "from {first}"
+        );
     }
     assert!(rt; goes_well(alloc, twice(alloc), 1, (Ok(Entry::In(0)), 2)));
 }
@@ -304,7 +317,14 @@ fn ends_behind(alloc: Global, texts: &Texts, count: usize) -> bool {
     };
     let fails = Source { bytes, fails: true };
     goes(alloc, ends, 10_000, 0, (Ok(Entry::Out(end)), 0), said)
-        && goes(alloc, fails, 10_000, 0, (Err(TalkFault::ReadFailed), 0), said)
+        && goes(
+            alloc,
+            fails,
+            10_000,
+            0,
+            (Err(TalkFault::ReadFailed), 0),
+            said,
+        )
 }
 
 #[test]
@@ -324,7 +344,14 @@ fn fails_behind(alloc: Global, texts: &Texts, room: usize) -> bool {
     let before = texts.said.len().saturating_sub(GO.1.len());
     let asked = if room < before { 0 } else { 1 };
     let said = texts.said.as_slice().get(..room).unwrap_or_default();
-    goes(alloc, source, room, 0, (Err(TalkFault::WriteFailed), asked), said)
+    goes(
+        alloc,
+        source,
+        room,
+        0,
+        (Err(TalkFault::WriteFailed), asked),
+        said,
+    )
 }
 
 #[test]
