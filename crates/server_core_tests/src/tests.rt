@@ -11,6 +11,7 @@ use tag_clock::Moment;
 
 mod credit;
 mod due;
+mod filling;
 mod growths;
 mod journals;
 mod memory;

@@ -418,11 +418,23 @@ fn earlier_steps_are_settled(rt: HostRuntime) {
 
 type Memory<'a> = &'a Refusing<Global>;
 
-// Whether refused memory hands back the server and the blank, with which the next call succeeds; and what is settled.
+// Whether a server that is shared is as it was before, and what is settled.
+fn ended<'a, L: Ledger>(
+    shared: Shared<L, Paged<Memory<'a>>, Listed<Memory<'a>>>,
+    passes: Vec<Pass<L>, Memory<'a>>,
+) -> (bool, Option<u128>) {
+    let booked = shared.end();
+    let same = is_served(booked.server());
+    (same, settled(booked, passes))
+}
+
+// Where this growth is refused it hands back the server and the blank, with which the next call succeeds: whether all is as it
+// was, and what is settled.
 fn refused_then_opened<'a, L: Ledger>(
     memory: Memory<'a>,
     blank: Blank,
-) -> Option<(bool, bool, Option<u128>)>
+    nth: u64,
+) -> Option<(bool, Option<u128>)>
     requires name { blank.name ≡ L.name }
     requires parts { blank.parts ≡ L.parts }
     requires two { blank.parts ≡ 2 }
@@ -430,26 +442,34 @@ fn refused_then_opened<'a, L: Ledger>(
     let Some(server) = served(memory) else {
         return None;
     };
-    memory.arm(1);
+    memory.arm(nth);
     let made = Shared::<L, Paged<Memory<'a>>, Listed<Memory<'a>>>::new(memory, server, blank, 2);
-    let Err((_, server, blank)) = made else {
-        return None;
+    let (server, blank) = match made {
+        Ok((shared, passes)) => return Some(ended(shared, passes)),
+        Err((_, server, blank)) => (server, blank),
     };
-    let back = !memory.is_armed() && is_served(&server);
-    let made = Shared::<L, Paged<Memory<'a>>, Listed<Memory<'a>>>::new(memory, server, blank, 2);
-    let Ok((shared, passes)) = made else {
+    if memory.is_armed() || !is_served(&server) {
         return None;
-    };
-    let booked = shared.end();
-    let same = is_served(booked.server());
-    Some((back, same, settled(booked, passes)))
+    }
+    match Shared::<L, Paged<Memory<'a>>, Listed<Memory<'a>>>::new(memory, server, blank, 2) {
+        Ok((shared, passes)) => Some(ended(shared, passes)),
+        Err(_) => None,
+    }
 }
 
 #[test]
 fn refused_memory_hands_back(rt: HostRuntime) {
-    let memory = Refusing::new(rt.alloc(), 0);
-    let opened = refused_then_opened::<Brand>(&memory, Blank::new(2));
-    assert!(rt; opened == Some((true, true, Some(7))));
+    let mut refused = 0u64;
+    for nth in 1..100u64 {
+        let memory = Refusing::new(rt.alloc(), 0);
+        let opened = refused_then_opened::<Brand>(&memory, Blank::new(2), nth);
+        assert!(rt; opened == Some((true, Some(7))), "at {nth}");
+        if memory.is_armed() {
+            break;
+        }
+        refused = nth;
+    }
+    assert!(rt; refused >= 1);
 }
 
 // Whether nothing is due at first, and then what waits.

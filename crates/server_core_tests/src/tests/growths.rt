@@ -119,10 +119,7 @@ const CROWD: u64 = 1000;
 // A server of two exports of 4,096 bytes. So many requests of the first may wait, and 1,024 of the second.
 fn made_of(memory: Memory<'_>, depth: u64) -> Option<Grown<'_>> {
     let mut list = ExportList::new(memory);
-    for (name, rates) in [
-        (b"a", [0, 0, 1, depth, 256]),
-        (b"b", [0, 0, 1, 1024, 1024]),
-    ] {
+    for (name, rates) in [(b"a", [0, 0, 1, depth, 256]), (b"b", [0, 0, 1, 1024, 1024])] {
         let sized = ExportSettings {
             size: 4096,
             ..settings(name.as_slice(), &rates)
