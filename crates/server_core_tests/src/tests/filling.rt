@@ -120,7 +120,7 @@ fn next_of(server: &Filled, before: Counts, nth: u64) -> Option<u64> {
 
 // How an event goes of which a growth is refused.
 #[derive(Clone, Copy)]
-enum Tried {
+enum Attempt {
     // It was made, and came to no such growth.
     Made,
     // It found no memory. The growth that is to be refused next.
@@ -129,29 +129,29 @@ enum Tried {
 }
 
 // An event that is made, or found no memory where that was refused.
-fn tried(memory: Memory, server: &Filled, before: Counts, nth: u64, made: bool) -> Tried {
+fn judged(memory: Memory, server: &Filled, before: Counts, nth: u64, made: bool) -> Attempt {
     if made {
         return if memory.is_armed() {
-            Tried::Made
+            Attempt::Made
         } else {
-            Tried::Wrong
+            Attempt::Wrong
         };
     }
     match next_of(server, before, nth) {
-        Some(next) if !memory.is_armed() => Tried::Refused(next),
-        _ => Tried::Wrong,
+        Some(next) if !memory.is_armed() => Attempt::Refused(next),
+        _ => Attempt::Wrong,
     }
 }
 
-fn tries_to_attach<'a>(memory: Memory<'a>, server: &mut Filled<'a>, nth: u64) -> Tried {
+fn tries_to_attach<'a>(memory: Memory<'a>, server: &mut Filled<'a>, nth: u64) -> Attempt {
     let Some(before) = counts(server) else {
-        return Tried::Wrong;
+        return Attempt::Wrong;
     };
     memory.arm(nth);
     match server.event(Event::Attach { export: 0 }) {
-        Answer::Session(0) => tried(memory, server, before, nth, true),
-        Answer::NoMemory => tried(memory, server, before, nth, false),
-        _ => Tried::Wrong,
+        Answer::Session(0) => judged(memory, server, before, nth, true),
+        Answer::NoMemory => judged(memory, server, before, nth, false),
+        _ => Attempt::Wrong,
     }
 }
 
@@ -161,16 +161,16 @@ fn tries_to_arrive<'a>(
     payload: &Payload<Memory<'a>>,
     number: u64,
     nth: u64,
-) -> Tried {
+) -> Attempt {
     memory.arm(0);
     let (Some(before), Some(event)) = (counts(server), arrival(payload)) else {
-        return Tried::Wrong;
+        return Attempt::Wrong;
     };
     memory.arm(nth);
     match server.event(event) {
-        Answer::NoMemory => tried(memory, server, before, nth, false),
-        answer if is_accepted(&answer, number) => tried(memory, server, before, nth, true),
-        _ => Tried::Wrong,
+        Answer::NoMemory => judged(memory, server, before, nth, false),
+        answer if is_accepted(&answer, number) => judged(memory, server, before, nth, true),
+        _ => Attempt::Wrong,
     }
 }
 
@@ -179,9 +179,9 @@ fn attaches<'a>(memory: Memory<'a>, server: &mut Filled<'a>) -> Option<u64> {
     let mut nth = 1u64;
     for refused in 0..1000u64 {
         match tries_to_attach(memory, server, nth) {
-            Tried::Made => return Some(refused),
-            Tried::Refused(next) => nth = next,
-            Tried::Wrong => return None,
+            Attempt::Made => return Some(refused),
+            Attempt::Refused(next) => nth = next,
+            Attempt::Wrong => return None,
         }
     }
     None
@@ -196,9 +196,9 @@ fn arrives<'a>(
     let mut nth = 1u64;
     for refused in 0..1000u64 {
         match tries_to_arrive(memory, server, payload, number, nth) {
-            Tried::Made => return Some(refused),
-            Tried::Refused(next) => nth = next,
-            Tried::Wrong => return None,
+            Attempt::Made => return Some(refused),
+            Attempt::Refused(next) => nth = next,
+            Attempt::Wrong => return None,
         }
     }
     None
@@ -252,7 +252,7 @@ fn is_grown(server: &Filled, refused: Option<u64>, least: u64, wanted: Counts) -
 }
 
 // Two WRITEs of the whole image fill the log: for a third the attach and the first arrival go into the base. An attach makes
-// an outbox and room in the log.
+// an outbox and room in the log; the base has an outbox of its own.
 fn fills<'a>(
     memory: Memory<'a>,
     server: &mut Filled<'a>,
@@ -272,7 +272,7 @@ fn fills<'a>(
         return false;
     }
     let third = arrives(memory, server, payload, 2);
-    is_grown(server, third, 0, (10, 8, 2))
+    is_grown(server, third, 1, (10, 8, 2))
 }
 
 fn fills_at<'a>(memory: Memory<'a>, payload: &Payload<Memory<'a>>, nth: u64) -> bool {

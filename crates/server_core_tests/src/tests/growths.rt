@@ -116,10 +116,10 @@ const BEHIND_THE_CROWD: [Row; 4] = [
 
 const CROWD: u64 = 1000;
 
-// A server of two exports of 4,096 bytes. So many requests of the first may wait, and 1,024 of the second.
-fn made_of(memory: Memory<'_>, depth: u64) -> Option<Grown<'_>> {
+// A server of two exports of 4,096 bytes. Two requests of the first may wait, and 1,024 of the second.
+fn made(memory: Memory<'_>) -> Option<Grown<'_>> {
     let mut list = ExportList::new(memory);
-    for (name, rates) in [(b"a", [0, 0, 1, depth, 256]), (b"b", [0, 0, 1, 1024, 1024])] {
+    for (name, rates) in [(b"a", [0, 0, 1, 2, 256]), (b"b", [0, 0, 1, 1024, 1024])] {
         let sized = ExportSettings {
             size: 4096,
             ..settings(name.as_slice(), &rates)
@@ -409,46 +409,104 @@ fn goes_in_a_crowd<'a>(memory: Memory<'a>, server: &mut Grown<'a>) -> bool {
         && server.steps() == 1008
 }
 
-fn is_gone_at(memory: Memory, nth: u64) -> bool {
-    let Some(mut server) = made_of(memory, 8) else {
+// Two requests of the other export wait, due later.
+const BEFORE_THE_ROUNDS: [Part; 2] = [
+    (
+        NONE,
+        &[
+            (Act::Attach(0), ("session", 0, 0, 0)),
+            (Act::Attach(1), ("session", 0, 0, 0)),
+            (Act::Read(1, 0, 1000, 1), ("accepted", 0, 1000, 0)),
+        ],
+    ),
+    (
+        (0, 1, 1000, 1000),
+        &[(Act::Read(1, 0, 1000, 2), ("accepted", 1, 1000, 0))],
+    ),
+];
+
+const ROUNDS: u64 = 20;
+
+// A READ that arrives while nothing of its export waits takes the other export's P tags to its moment, and is served.
+fn goes_round<'a>(memory: Memory<'a>, server: &mut Grown<'a>, number: u64, lost: &mut u64) -> bool {
+    let moment = number.saturating_add(1);
+    let before = if number == 0 {
+        1000
+    } else {
+        i128::from(number)
+    };
+    let arrival = [(
+        Act::Read(0, 0, moment, moment),
+        ("accepted", number, moment, 0),
+    )];
+    let service = [
+        (Act::Dispatch(moment), ("weight", 0, number, 0)),
+        (Act::Perform(0, number), ("performed", 0, 0, 0)),
+        (Act::Take(0, 0), ("reply", moment, 0, ZEROS)),
+    ];
+    goes(memory, server, &arrival, (0, 2, 1000, before), lost)
+        && goes(
+            memory,
+            server,
+            &service,
+            (0, 2, 1000, i128::from(moment)),
+            lost,
+        )
+}
+
+fn goes_in_rounds<'a>(memory: Memory<'a>, server: &mut Grown<'a>) -> bool {
+    let mut lost = 0u64;
+    for (waiting, rows) in &BEFORE_THE_ROUNDS {
+        if !goes(memory, server, rows, *waiting, &mut lost) {
+            return false;
+        }
+    }
+    for number in 0..ROUNDS {
+        if !goes_round(memory, server, number, &mut lost) {
+            return false;
+        }
+    }
+    server.steps() == 84
+}
+
+#[derive(Clone, Copy)]
+enum Play {
+    Gone,
+    Crowd,
+    Rounds,
+}
+
+// Whether events are answered as they should be where this growth is refused.
+fn goes_at(memory: Memory, nth: u64, play: Play) -> bool {
+    let Some(mut server) = made(memory) else {
         return false;
     };
     memory.arm(nth);
-    goes_when_gone(memory, &mut server)
-}
-
-#[test]
-fn each_growth_around_a_gone_session_is_refused(rt: HostRuntime) {
-    let mut refused = 0u64;
-    for nth in 1..1000u64 {
-        let memory = Refusing::new(rt.alloc(), 0);
-        assert!(rt; is_gone_at(&memory, nth), "at {nth}");
-        if memory.is_armed() {
-            break;
-        }
-        refused = nth;
+    match play {
+        Play::Gone => goes_when_gone(memory, &mut server),
+        Play::Crowd => goes_in_a_crowd(memory, &mut server),
+        Play::Rounds => goes_in_rounds(memory, &mut server),
     }
-    assert!(rt; refused >= 9);
 }
 
-fn is_crowded_at(memory: Memory, nth: u64) -> bool {
-    let Some(mut server) = made_of(memory, 2) else {
-        return false;
-    };
-    memory.arm(nth);
-    goes_in_a_crowd(memory, &mut server)
-}
-
-#[test]
-fn each_growth_around_a_full_queue_is_refused(rt: HostRuntime) {
-    let mut refused = 0u64;
+// How many growths there are, each of which was refused in turn. 0 where an answer was wrong, or there is no end.
+fn growths_of(alloc: Global, play: Play) -> u64 {
     for nth in 1..1000u64 {
-        let memory = Refusing::new(rt.alloc(), 0);
-        assert!(rt; is_crowded_at(&memory, nth), "at {nth}");
-        if memory.is_armed() {
-            break;
+        let memory = Refusing::new(alloc, 0);
+        if !goes_at(&memory, nth, play) {
+            return 0;
         }
-        refused = nth;
+        if memory.is_armed() {
+            return nth - 1;
+        }
     }
-    assert!(rt; refused >= 9);
+    0
+}
+
+// In each row an outbox and a log for each attach, and a log's growth for each doubling.
+#[test]
+fn each_growth_of_two_exports_is_refused_in_turn(rt: HostRuntime) {
+    assert!(rt; growths_of(rt.alloc(), Play::Gone) >= 5);
+    assert!(rt; growths_of(rt.alloc(), Play::Crowd) >= 6);
+    assert!(rt; growths_of(rt.alloc(), Play::Rounds) >= 6);
 }
