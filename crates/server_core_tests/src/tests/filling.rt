@@ -1,19 +1,15 @@
 //! A log whose 64 MiB of payload are full, by `Server::event`. Each growth of each attach and arrival is refused in turn: what
 //! found no memory changed nothing but the base, so the next one is refused of the same event.
 
+use super::journals::{Kept, counts, is_as_it_was};
 use super::*;
 use nbd_wire::protocol::WRITE;
 use server_table::{Answer, Event};
 
 const SIZE: usize = 33_554_432;
 
-type Filled<'a> = Server<Paged<Memory<'a>>, Heaped<Memory<'a>>>;
-
-// How many steps the export counted, how many its log has, and how many its base has made.
-type Counts = (u64, u64, u64);
-
 // A server of one export that a WRITE may fill.
-fn made(memory: Memory<'_>) -> Option<Filled<'_>> {
+fn made(memory: Memory<'_>) -> Option<Kept<'_>> {
     let mut list = ExportList::new(memory);
     if list.add(&ExportSettings::new(b"a", SIZE as u64)).is_err() {
         return None;
@@ -56,8 +52,11 @@ fn clone_of<'a>(payload: &Payload<Memory<'a>>) -> Option<Payload<Memory<'a>>> {
     second.ok()
 }
 
-// The arrival of one.
-fn arrival<'a>(payload: &Payload<Memory<'a>>) -> Option<Event<Memory<'a>>> {
+// An attach, or the arrival of the WRITE of this number.
+fn event_of<'a>(payload: &Payload<Memory<'a>>, number: Option<u64>) -> Option<Event<Memory<'a>>> {
+    if number.is_none() {
+        return Some(Event::Attach { export: 0 });
+    }
     let Some(clone) = clone_of(payload) else {
         return None;
     };
@@ -72,49 +71,25 @@ fn arrival<'a>(payload: &Payload<Memory<'a>>) -> Option<Event<Memory<'a>>> {
     }
 }
 
-fn counts(server: &Filled) -> Option<Counts> {
-    let Some(cell) = server.journal(0) else {
-        return None;
-    };
-    Some((
-        cell.steps(),
-        cell.entries().len() as u64,
-        cell.base().steps(),
-    ))
-}
-
-// Whether the export has made as many steps as before, all in its base and its log, and its base is no less far. How far that is.
-fn base_behind(server: &Filled, before: Counts) -> Option<u64> {
-    let Some((steps, kept, base)) = counts(server) else {
-        return None;
-    };
-    if steps == before.0 && steps.checked_sub(base) == Some(kept) && before.2 <= base {
-        Some(base)
-    } else {
-        None
-    }
-}
-
-// Whether a WRITE waits under this number.
-fn is_accepted<'a>(answer: &Answer<Memory<'a>>, wanted: u64) -> bool {
+// Whether session 0 is opened, or the WRITE of this number waits.
+fn is_made<'a>(answer: &Answer<Memory<'a>>, number: Option<u64>) -> bool {
     match answer {
-        Answer::Accepted { number, limit_tag } => (*number, *limit_tag) == (wanted, 0),
+        Answer::Session(session) => *session == 0 && number.is_none(),
+        Answer::Accepted { number: told, .. } => number == Some(*told),
         _ => false,
     }
 }
 
 // The growth that is refused next where one was refused, and how far the base is: the first again where the base has gone on,
 // since what is made then is less.
-fn next_of(server: &Filled, before: Counts, nth: u64) -> Option<u64> {
-    match base_behind(server, before) {
-        Some(base) if server.waiting() == 0 => {
-            Some(if base == before.2 {
-                nth.saturating_add(1)
-            } else {
-                1
-            })
-        }
-        _ => None,
+fn next_of(server: &Kept, before: (u64, u64, u64), nth: u64) -> Option<u64> {
+    if server.waiting() != 0 || !is_as_it_was(server, before) {
+        return None;
+    }
+    match counts(server, 0) {
+        Some(now) if now.2 == before.2 => Some(nth.saturating_add(1)),
+        Some(_) => Some(1),
+        None => None,
     }
 }
 
@@ -129,73 +104,43 @@ enum Attempt {
 }
 
 // An event that is made, or found no memory where that was refused.
-fn judged(memory: Memory, server: &Filled, before: Counts, nth: u64, made: bool) -> Attempt {
-    if made {
-        return if memory.is_armed() {
-            Attempt::Made
-        } else {
-            Attempt::Wrong
-        };
-    }
+fn judged(memory: Memory, server: &Kept, before: (u64, u64, u64), nth: u64, made: bool) -> Attempt {
     match next_of(server, before, nth) {
-        Some(next) if !memory.is_armed() => Attempt::Refused(next),
+        _ if made && memory.is_armed() => Attempt::Made,
+        Some(next) if !made && !memory.is_armed() => Attempt::Refused(next),
         _ => Attempt::Wrong,
     }
 }
 
-fn tries_to_attach<'a>(memory: Memory<'a>, server: &mut Filled<'a>, nth: u64) -> Attempt {
-    let Some(before) = counts(server) else {
-        return Attempt::Wrong;
-    };
-    memory.arm(nth);
-    match server.event(Event::Attach { export: 0 }) {
-        Answer::Session(0) => judged(memory, server, before, nth, true),
-        Answer::NoMemory => judged(memory, server, before, nth, false),
-        _ => Attempt::Wrong,
-    }
-}
-
-fn tries_to_arrive<'a>(
+fn tried<'a>(
     memory: Memory<'a>,
-    server: &mut Filled<'a>,
+    server: &mut Kept<'a>,
     payload: &Payload<Memory<'a>>,
-    number: u64,
+    number: Option<u64>,
     nth: u64,
 ) -> Attempt {
     memory.arm(0);
-    let (Some(before), Some(event)) = (counts(server), arrival(payload)) else {
+    let (Some(before), Some(event)) = (counts(server, 0), event_of(payload, number)) else {
         return Attempt::Wrong;
     };
     memory.arm(nth);
     match server.event(event) {
         Answer::NoMemory => judged(memory, server, before, nth, false),
-        answer if is_accepted(&answer, number) => judged(memory, server, before, nth, true),
+        answer if is_made(&answer, number) => judged(memory, server, before, nth, true),
         _ => Attempt::Wrong,
     }
 }
 
 // How often an event was refused until it was made. None where it went wrong.
-fn attaches<'a>(memory: Memory<'a>, server: &mut Filled<'a>) -> Option<u64> {
-    let mut nth = 1u64;
-    for refused in 0..1000u64 {
-        match tries_to_attach(memory, server, nth) {
-            Attempt::Made => return Some(refused),
-            Attempt::Refused(next) => nth = next,
-            Attempt::Wrong => return None,
-        }
-    }
-    None
-}
-
-fn arrives<'a>(
+fn refusals<'a>(
     memory: Memory<'a>,
-    server: &mut Filled<'a>,
+    server: &mut Kept<'a>,
     payload: &Payload<Memory<'a>>,
-    number: u64,
+    number: Option<u64>,
 ) -> Option<u64> {
     let mut nth = 1u64;
     for refused in 0..1000u64 {
-        match tries_to_arrive(memory, server, payload, number, nth) {
+        match tried(memory, server, payload, number, nth) {
             Attempt::Made => return Some(refused),
             Attempt::Refused(next) => nth = next,
             Attempt::Wrong => return None,
@@ -205,7 +150,7 @@ fn arrives<'a>(
 }
 
 // The error of the reply that a performed WRITE has: 12 (ENOMEM) without memory.
-fn performed(server: &mut Filled, number: u64) -> Option<u32> {
+fn performed(server: &mut Kept, number: u64) -> Option<u32> {
     match server.event(Event::Perform { export: 0, number }) {
         Answer::Performed { memory: true } => Some(0),
         Answer::Performed { memory: false } => Some(12),
@@ -214,7 +159,7 @@ fn performed(server: &mut Filled, number: u64) -> Option<u32> {
 }
 
 // Whether the session's reply is of this error, without data.
-fn is_replied(server: &mut Filled, error: u32) -> bool {
+fn is_replied(server: &mut Kept, error: u32) -> bool {
     let take = Event::Take {
         export: 0,
         session: 0,
@@ -228,7 +173,7 @@ fn is_replied(server: &mut Filled, error: u32) -> bool {
 }
 
 // Whether the WRITE that waits is chosen, performed with this growth refused, and answered.
-fn is_done<'a>(memory: Memory<'a>, server: &mut Filled<'a>, number: u64, nth: u64) -> bool {
+fn is_done<'a>(memory: Memory<'a>, server: &mut Kept<'a>, number: u64, nth: u64) -> bool {
     memory.arm(nth);
     let chosen = matches!(
         server.event(Event::Dispatch { moment: at(0) }),
@@ -244,9 +189,9 @@ fn is_done<'a>(memory: Memory<'a>, server: &mut Filled<'a>, number: u64, nth: u6
 }
 
 // Whether so many growths at least were refused, and then these steps are counted.
-fn is_grown(server: &Filled, refused: Option<u64>, least: u64, wanted: Counts) -> bool {
+fn is_grown(server: &Kept, refused: Option<u64>, least: u64, wanted: (u64, u64, u64)) -> bool {
     match refused {
-        Some(refused) => refused >= least && counts(server) == Some(wanted),
+        Some(refused) => refused >= least && counts(server, 0) == Some(wanted),
         None => false,
     }
 }
@@ -255,23 +200,23 @@ fn is_grown(server: &Filled, refused: Option<u64>, least: u64, wanted: Counts) -
 // an outbox and room in the log; the base has an outbox of its own.
 fn fills<'a>(
     memory: Memory<'a>,
-    server: &mut Filled<'a>,
+    server: &mut Kept<'a>,
     payload: &Payload<Memory<'a>>,
     nth: u64,
 ) -> bool {
-    let opened = attaches(memory, server);
+    let opened = refusals(memory, server, payload, None);
     if !is_grown(server, opened, 2, (1, 1, 0)) {
         return false;
     }
-    let first = arrives(memory, server, payload, 0);
+    let first = refusals(memory, server, payload, Some(0));
     if !is_grown(server, first, 0, (2, 2, 0)) || !is_done(memory, server, 0, nth) {
         return false;
     }
-    let second = arrives(memory, server, payload, 1);
+    let second = refusals(memory, server, payload, Some(1));
     if !is_grown(server, second, 0, (6, 6, 0)) || !is_done(memory, server, 1, nth) {
         return false;
     }
-    let third = arrives(memory, server, payload, 2);
+    let third = refusals(memory, server, payload, Some(2));
     is_grown(server, third, 1, (10, 8, 2))
 }
 

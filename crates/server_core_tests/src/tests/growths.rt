@@ -1,12 +1,11 @@
 //! Rows of events by `Server::event`, in which each growth is refused in turn. An event that found no memory is made again.
 //! A request that is performed without memory is told 12 (ENOMEM) and changes no byte.
 
+use super::journals::Kept;
 use super::*;
 use nbd_wire::protocol::WRITE;
 use server_table::{Answer, Event};
 use tag_clock::{Phase, Tags};
-
-type Grown<'a> = Server<Paged<Memory<'a>>, Heaped<Memory<'a>>>;
 
 // An event by its numbers.
 #[derive(Clone, Copy)]
@@ -43,7 +42,7 @@ const NONE: Waiting = (0, 0, 0, 0);
 
 // The write of a session that is gone is still done, and another session reads it. Two requests of the other export wait
 // meanwhile, due a while later; the first arrival takes their P tags down to its moment.
-const GONE: [Part; 7] = [
+const GONE: [Part; 6] = [
     (
         NONE,
         &[
@@ -94,9 +93,9 @@ const GONE: [Part; 7] = [
             (Act::Perform(1, 1), ("performed", 0, 0, 0)),
             (Act::Take(1, 0), ("reply", 2, 0, ZEROS)),
             (Act::Leave(1, 0), ("left", 0, 0, 0)),
+            (Act::Gone(1, 0), ("gone", 0, 0, 0)),
         ],
     ),
-    (NONE, &[(Act::Gone(1, 0), ("gone", 0, 0, 0))]),
 ];
 
 // A queue of two, before the other export is sent 1,000 requests and behind that.
@@ -117,7 +116,7 @@ const BEHIND_THE_CROWD: [Row; 4] = [
 const CROWD: u64 = 1000;
 
 // A server of two exports of 4,096 bytes. Two requests of the first may wait, and 1,024 of the second.
-fn made(memory: Memory<'_>) -> Option<Grown<'_>> {
+fn made(memory: Memory<'_>) -> Option<Kept<'_>> {
     let mut list = ExportList::new(memory);
     for (name, rates) in [(b"a", [0, 0, 1, 2, 256]), (b"b", [0, 0, 1, 1024, 1024])] {
         let sized = ExportSettings {
@@ -209,15 +208,10 @@ fn data_of(reply: &Reply<Memory<'_>>) -> u64 {
     (bytes.len() as u64) << 32 | data
 }
 
-// A number that is told in 64 bits, or the greatest.
-fn told_number(number: i128) -> u64 {
-    u64::try_from(number).unwrap_or(u64::MAX)
-}
-
 fn told_of(answer: &Answer<Memory<'_>>) -> Told {
     match answer {
         Answer::Session(number) => ("session", *number, 0, 0),
-        Answer::Accepted { number, limit_tag } => ("accepted", *number, told_number(*limit_tag), 0),
+        Answer::Accepted { number, limit_tag } => ("accepted", *number, *limit_tag as u64, 0),
         Answer::Answered(error) => ("answered", u64::from(*error), 0, 0),
         Answer::Picked {
             export,
@@ -305,7 +299,7 @@ fn are_waiting(told: &[(u64, Tags)], waiting: Waiting) -> bool {
 }
 
 // Whether this waits at export 1.
-fn has_waiting<'a>(memory: Memory<'a>, server: &Grown<'a>, waiting: Waiting) -> bool {
+fn has_waiting<'a>(memory: Memory<'a>, server: &Kept<'a>, waiting: Waiting) -> bool {
     match server.tags(memory, 1) {
         Ok(told) => are_waiting(told.as_slice(), waiting),
         Err(_) => false,
@@ -313,7 +307,7 @@ fn has_waiting<'a>(memory: Memory<'a>, server: &Grown<'a>, waiting: Waiting) -> 
 }
 
 // What an event is answered, once, without any memory asked for where it may not want some.
-fn answered<'a>(memory: Memory<'a>, server: &mut Grown<'a>, act: Act) -> Option<Told> {
+fn answered<'a>(memory: Memory<'a>, server: &mut Kept<'a>, act: Act) -> Option<Told> {
     let Some(event) = event_of(memory, act) else {
         return None;
     };
@@ -329,7 +323,7 @@ fn answered<'a>(memory: Memory<'a>, server: &mut Grown<'a>, act: Act) -> Option<
 // What an event is answered that is made again where it found no memory, which was refused then and changed nothing.
 fn answered_at_last<'a>(
     memory: Memory<'a>,
-    server: &mut Grown<'a>,
+    server: &mut Kept<'a>,
     act: Act,
     waiting: Waiting,
 ) -> Option<Told> {
@@ -355,7 +349,7 @@ fn answered_at_last<'a>(
 // Whether each row is answered so.
 fn goes<'a>(
     memory: Memory<'a>,
-    server: &mut Grown<'a>,
+    server: &mut Kept<'a>,
     rows: &[Row],
     waiting: Waiting,
     lost: &mut u64,
@@ -371,7 +365,7 @@ fn goes<'a>(
     true
 }
 
-fn goes_when_gone<'a>(memory: Memory<'a>, server: &mut Grown<'a>) -> bool {
+fn goes_when_gone<'a>(memory: Memory<'a>, server: &mut Kept<'a>) -> bool {
     let mut lost = 0u64;
     for (waiting, rows) in &GONE {
         if !goes(memory, server, rows, *waiting, &mut lost) {
@@ -382,7 +376,7 @@ fn goes_when_gone<'a>(memory: Memory<'a>, server: &mut Grown<'a>) -> bool {
 }
 
 // Whether the crowd's requests wait.
-fn are_crowded<'a>(memory: Memory<'a>, server: &mut Grown<'a>, lost: &mut u64) -> bool {
+fn are_crowded<'a>(memory: Memory<'a>, server: &mut Kept<'a>, lost: &mut u64) -> bool {
     for number in 0..CROWD {
         let rows = [(
             Act::Read(1, 0, 0, number.saturating_add(1)),
@@ -395,7 +389,7 @@ fn are_crowded<'a>(memory: Memory<'a>, server: &mut Grown<'a>, lost: &mut u64) -
     true
 }
 
-fn goes_in_a_crowd<'a>(memory: Memory<'a>, server: &mut Grown<'a>) -> bool {
+fn goes_in_a_crowd<'a>(memory: Memory<'a>, server: &mut Kept<'a>) -> bool {
     let mut lost = 0u64;
     goes(memory, server, &BEFORE_THE_CROWD, NONE, &mut lost)
         && are_crowded(memory, server, &mut lost)
@@ -428,7 +422,7 @@ const BEFORE_THE_ROUNDS: [Part; 2] = [
 const ROUNDS: u64 = 20;
 
 // A READ that arrives while nothing of its export waits takes the other export's P tags to its moment, and is served.
-fn goes_round<'a>(memory: Memory<'a>, server: &mut Grown<'a>, number: u64, lost: &mut u64) -> bool {
+fn goes_round<'a>(memory: Memory<'a>, server: &mut Kept<'a>, number: u64, lost: &mut u64) -> bool {
     let moment = number.saturating_add(1);
     let before = if number == 0 {
         1000
@@ -454,7 +448,7 @@ fn goes_round<'a>(memory: Memory<'a>, server: &mut Grown<'a>, number: u64, lost:
         )
 }
 
-fn goes_in_rounds<'a>(memory: Memory<'a>, server: &mut Grown<'a>) -> bool {
+fn goes_in_rounds<'a>(memory: Memory<'a>, server: &mut Kept<'a>) -> bool {
     let mut lost = 0u64;
     for (waiting, rows) in &BEFORE_THE_ROUNDS {
         if !goes(memory, server, rows, *waiting, &mut lost) {
