@@ -418,23 +418,18 @@ fn earlier_steps_are_settled(rt: HostRuntime) {
 
 type Memory<'a> = &'a Refusing<Global>;
 
+type Opened<'a, L> = Shared<L, Paged<Memory<'a>>, Listed<Memory<'a>>>;
+
+type Ended = (bool, Option<u128>);
+
 // Whether a server that is shared is as it was before, and what is settled.
-fn ended<'a, L: Ledger>(
-    shared: Shared<L, Paged<Memory<'a>>, Listed<Memory<'a>>>,
-    passes: Vec<Pass<L>, Memory<'a>>,
-) -> (bool, Option<u128>) {
+fn ended<'a, L: Ledger>(shared: Opened<'a, L>, passes: Vec<Pass<L>, Memory<'a>>) -> Ended {
     let booked = shared.end();
-    let same = is_served(booked.server());
-    (same, settled(booked, passes))
+    (is_served(booked.server()), settled(booked, passes))
 }
 
-// Where this growth is refused it hands back the server and the blank, with which the next call succeeds: whether all is as it
-// was, and what is settled.
-fn refused_then_opened<'a, L: Ledger>(
-    memory: Memory<'a>,
-    blank: Blank,
-    nth: u64,
-) -> Option<(bool, Option<u128>)>
+// The same where this growth is refused: the server and the blank come back, with which the next call succeeds.
+fn refused_then_opened<'a, L: Ledger>(memory: Memory<'a>, blank: Blank, nth: u64) -> Option<Ended>
     requires name { blank.name ≡ L.name }
     requires parts { blank.parts ≡ L.parts }
     requires two { blank.parts ≡ 2 }
@@ -443,33 +438,27 @@ fn refused_then_opened<'a, L: Ledger>(
         return None;
     };
     memory.arm(nth);
-    let made = Shared::<L, Paged<Memory<'a>>, Listed<Memory<'a>>>::new(memory, server, blank, 2);
-    let (server, blank) = match made {
+    let (server, blank) = match Opened::<'a, L>::new(memory, server, blank, 2) {
         Ok((shared, passes)) => return Some(ended(shared, passes)),
         Err((_, server, blank)) => (server, blank),
     };
     if memory.is_armed() || !is_served(&server) {
         return None;
     }
-    match Shared::<L, Paged<Memory<'a>>, Listed<Memory<'a>>>::new(memory, server, blank, 2) {
+    match Opened::<'a, L>::new(memory, server, blank, 2) {
         Ok((shared, passes)) => Some(ended(shared, passes)),
         Err(_) => None,
     }
 }
 
+// There is one growth: the second isn't come to.
 #[test]
 fn refused_memory_hands_back(rt: HostRuntime) {
-    let mut refused = 0u64;
-    for nth in 1..100u64 {
+    for nth in 1..3u64 {
         let memory = Refusing::new(rt.alloc(), 0);
         let opened = refused_then_opened::<Brand>(&memory, Blank::new(2), nth);
-        assert!(rt; opened == Some((true, Some(7))), "at {nth}");
-        if memory.is_armed() {
-            break;
-        }
-        refused = nth;
+        assert!(rt; opened == Some((true, Some(7))) && memory.is_armed() == (nth == 2));
     }
-    assert!(rt; refused >= 1);
 }
 
 // Whether nothing is due at first, and then what waits.
