@@ -161,7 +161,7 @@ fn arrival<'a>(memory: Memory<'a>, kind: u16, told: [u64; 4]) -> Option<Event<Me
     let [export, session, moment, cookie] = told;
     match request_of(memory, kind, cookie) {
         Some(request) => Some(Event::Arrive {
-            export: export as u32,
+            export: u32::try_from(export).unwrap_or(u32::MAX),
             session,
             moment: at(moment),
             request,
@@ -211,7 +211,12 @@ fn data_of(reply: &Reply<Memory<'_>>) -> u64 {
 fn told_of(answer: &Answer<Memory<'_>>) -> Told {
     match answer {
         Answer::Session(number) => ("session", *number, 0, 0),
-        Answer::Accepted { number, limit_tag } => ("accepted", *number, *limit_tag as u64, 0),
+        Answer::Accepted { number, limit_tag } => (
+            "accepted",
+            *number,
+            u64::try_from(*limit_tag).unwrap_or(u64::MAX),
+            0,
+        ),
         Answer::Answered(error) => ("answered", u64::from(*error), 0, 0),
         Answer::Picked {
             export,
@@ -246,7 +251,9 @@ fn word_of(answer: &Answer<Memory<'_>>) -> &'static str {
 // A request's bit among those that were performed without memory.
 fn bit_of(export: u32, number: u64) -> u64 {
     let first = if export == 0 { 1u64 } else { 1 << 32 };
-    first.checked_shl(number as u32).unwrap_or(0)
+    first
+        .checked_shl(u32::try_from(number).unwrap_or(64))
+        .unwrap_or(0)
 }
 
 // What a reply is where these requests were performed without memory: without data for such a request, and zeros for a READ
