@@ -11,6 +11,7 @@ use std::io;
 use std::io::{Read, Write};
 
 mod counting;
+mod haggling;
 mod long;
 mod talking;
 

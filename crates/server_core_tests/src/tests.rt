@@ -2,7 +2,7 @@ use eligibility::{Eligibility, Heaped, Listed};
 use export_store::Paged;
 use nbd_commands::{Config, ExportList, ExportSettings};
 use nbd_wire::protocol::{FLUSH, READ};
-use nbd_wire::{Request, RequestHead};
+use nbd_wire::{Reply, Request, RequestHead};
 use payload::Payload;
 use refusing::Refusing;
 use server_core::*;
@@ -11,6 +11,8 @@ use tag_clock::Moment;
 
 mod credit;
 mod due;
+mod filling;
+mod growths;
 mod journals;
 mod memory;
 mod retunes;

@@ -418,11 +418,18 @@ fn earlier_steps_are_settled(rt: HostRuntime) {
 
 type Memory<'a> = &'a Refusing<Global>;
 
-// Whether refused memory hands back the server and the blank, with which the next call succeeds; and what is settled.
-fn refused_then_opened<'a, L: Ledger>(
-    memory: Memory<'a>,
-    blank: Blank,
-) -> Option<(bool, bool, Option<u128>)>
+type Opened<'a, L> = Shared<L, Paged<Memory<'a>>, Listed<Memory<'a>>>;
+
+type Ended = (bool, Option<u128>);
+
+// Whether a server that is shared is as it was before, and what is settled.
+fn ended<'a, L: Ledger>(shared: Opened<'a, L>, passes: Vec<Pass<L>, Memory<'a>>) -> Ended {
+    let booked = shared.end();
+    (is_served(booked.server()), settled(booked, passes))
+}
+
+// The same where this growth is refused: the server and the blank come back, with which the next call succeeds.
+fn refused_then_opened<'a, L: Ledger>(memory: Memory<'a>, blank: Blank, nth: u64) -> Option<Ended>
     requires name { blank.name ≡ L.name }
     requires parts { blank.parts ≡ L.parts }
     requires two { blank.parts ≡ 2 }
@@ -430,26 +437,28 @@ fn refused_then_opened<'a, L: Ledger>(
     let Some(server) = served(memory) else {
         return None;
     };
-    memory.arm(1);
-    let made = Shared::<L, Paged<Memory<'a>>, Listed<Memory<'a>>>::new(memory, server, blank, 2);
-    let Err((_, server, blank)) = made else {
-        return None;
+    memory.arm(nth);
+    let (server, blank) = match Opened::<'a, L>::new(memory, server, blank, 2) {
+        Ok((shared, passes)) => return Some(ended(shared, passes)),
+        Err((_, server, blank)) => (server, blank),
     };
-    let back = !memory.is_armed() && is_served(&server);
-    let made = Shared::<L, Paged<Memory<'a>>, Listed<Memory<'a>>>::new(memory, server, blank, 2);
-    let Ok((shared, passes)) = made else {
+    if memory.is_armed() || !is_served(&server) {
         return None;
-    };
-    let booked = shared.end();
-    let same = is_served(booked.server());
-    Some((back, same, settled(booked, passes)))
+    }
+    match Opened::<'a, L>::new(memory, server, blank, 2) {
+        Ok((shared, passes)) => Some(ended(shared, passes)),
+        Err(_) => None,
+    }
 }
 
+// There is one growth: the second isn't come to.
 #[test]
 fn refused_memory_hands_back(rt: HostRuntime) {
-    let memory = Refusing::new(rt.alloc(), 0);
-    let opened = refused_then_opened::<Brand>(&memory, Blank::new(2));
-    assert!(rt; opened == Some((true, true, Some(7))));
+    for nth in 1..3u64 {
+        let memory = Refusing::new(rt.alloc(), 0);
+        let opened = refused_then_opened::<Brand>(&memory, Blank::new(2), nth);
+        assert!(rt; opened == Some((true, Some(7))) && memory.is_armed() == (nth == 2));
+    }
 }
 
 // Whether nothing is due at first, and then what waits.

@@ -1,6 +1,7 @@
 //! Whole conversations with a running server, over loopback and over a Unix socket.
 
 mod control;
+mod hostile;
 mod retuned;
 
 use super::idle_threads::IdleThreads;
@@ -78,6 +79,10 @@ enum Client {
     LongWrites(Door),
     /// It sends more than the sockets hold before it reads a reply.
     Late(Door),
+    /// It misuses one connection after another.
+    Misuses(Door),
+    /// It vanishes before it reads a reply.
+    Vanishes(Door),
     /// It looks at a session, drops it, and asks for the end.
     Looks,
     /// It asks for the end twice.
@@ -97,6 +102,8 @@ impl Client {
             Client::LongWrites(door) => writes_parts(rt, alloc, door)
                 && reads_parts(rt, alloc, door),
             Client::Late(door) => reads_late(rt, alloc, door),
+            Client::Misuses(door) => hostile::are_refused(rt, alloc, door),
+            Client::Vanishes(door) => hostile::is_told_behind_one(rt, alloc, door),
             Client::Looks => control::looks_and_drops(rt, alloc),
             Client::Stops => control::stops_twice(rt, alloc),
             Client::Crowds => control::crowds(rt, alloc),

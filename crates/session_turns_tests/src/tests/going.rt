@@ -120,6 +120,47 @@ fn held_until_a_reply_is_taken(rt: HostRuntime) {
     assert!(rt; is_held::<Brand, _>(&rt, &heap, Blank::new(1)));
 }
 
+/// The READ is held, and the session then gone by another's turn. Offered again it ends the reader, which has no more turns.
+fn it_is_gone<'a, L: Ledger, R: Wait>(
+    rt: &R,
+    one: &mut Seated<'a, L>,
+    reader: &mut Wire<'a, '_>,
+) -> bool {
+    if !one.reads(rt, reader, waits(1, 0)) || !one.reads(rt, reader, held()) {
+        return false;
+    }
+    one.shared.turn_gone(rt, &mut one.pass, one.session).is_ok()
+        && one.offers(rt, (Came::Ended, arrival(head_of(0), AnswerTrace::NotOpen)))
+        && one.ends(rt, reader, AnswerTrace::NotOpen)
+        && one.serve(rt)
+}
+
+fn goes_while_held<'a, L: Ledger, R: Wait>(
+    rt: &R,
+    heap: Heap<'a>,
+    one: &mut Seated<'a, L>,
+) -> bool {
+    let mut reader = FrameReader::new(heap, Counted::new(BOTH.as_slice()));
+    it_is_gone(rt, one, &mut reader)
+}
+
+fn is_gone_while_held<'a, L: Ledger, R: Wait>(rt: &R, heap: Heap<'a>, blank: Blank) -> bool
+    requires name { blank.name ≡ L.name }
+    requires parts { blank.parts ≡ L.parts }
+    requires one { blank.parts ≡ 1 }
+{
+    match opened::<L, R>(rt, heap, blank) {
+        Some(mut one) => goes_while_held(rt, heap, &mut one),
+        None => false,
+    }
+}
+
+#[test]
+fn gone_while_a_request_is_held(rt: HostRuntime) {
+    let heap = Refusing::new(rt.alloc(), 0);
+    assert!(rt; is_gone_while_held::<Brand, _>(&rt, &heap, Blank::new(1)));
+}
+
 /// A READ of four bytes behind the export's end, with the cookie 2.
 const BEHIND: &[u8; 28] =
     b"\x25\x60\x95\x13\x00\x00\x00\x00\x00\x00\x00\x00\x00\x00\x00\x02\x00\x00\x00\x00\x00\x00\x10\x00\x00\x00\x00\x04";
