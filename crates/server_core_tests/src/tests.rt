@@ -9,7 +9,6 @@ use server_core::*;
 use std::alloc::{Allocator, Global};
 use tag_clock::Moment;
 
-mod credit;
 mod due;
 mod filling;
 mod growths;

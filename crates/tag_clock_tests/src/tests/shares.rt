@@ -51,3 +51,13 @@ fn shift_of_p(rt: HostRuntime) {
     clock.shift(1_999_999_995);
     assert!(rt; gives(&mut clock, 0, None, 1_000_000_005));
 }
+
+// No limit on the credit stands in the rules: a tag may fall below zero. The next one is an interval after it.
+#[test]
+fn credit_falls_below_zero(rt: HostRuntime) {
+    let mut clock = ShareClock::new(Some(250_000_000), 1_000_000_000);
+    let first = Moment::new(5).expect(&rt, "in range");
+    assert!(rt; clock.admit(first) == (Some(5), 5));
+    clock.credit();
+    assert!(rt; clock.admit(Moment::zero()) == (Some(5), 1_000_000_005));
+}
