@@ -31,7 +31,7 @@ def about(run):
     print("%s, Linux %s, %d processors (%s). %s." % (run["date"], run["kernel"], run["processors"], run["processor"], servers))
     print("%d rounds of %g s, the servers in turn; %.1f threads were ready to run before it began.\n" % (run["rounds"], run["seconds"], run["load_before"]))
     if run["load_before"] > BUSY:
-        print("**The machine was busy before it began, and most likely beside it**: these tables show what is measured, and compare servers poorly.\n")
+        print("**The machine was busy in the minute before it began.** Where that went on beside it, these tables show what is measured, and compare servers poorly.\n")
 
 
 def middle(figure):
