@@ -1,151 +1,150 @@
 //! Tests of configurations.
 use nbd_commands::*;
 use refusing::Refusing;
-use std::alloc::Allocator;
-use std::process::Abort;
+use std::alloc::Global;
 
 type Case = (ExportSettings<'static>, Refusal);
 
-// Each of these is added behind an export "a", and refused for the first case that fits.
-fn are_refused<A: Allocator + Copy>(rt: &impl Abort, alloc: A, cases: [Case; 4]) {
+// The first of these that isn't refused as is said, counted from 1; 0 where all are.
+fn first_taken(list: &mut ExportList<Global>, cases: &[Case]) -> usize {
+    for (place, (settings, refusal)) in cases.iter().enumerate() {
+        if list.add(settings) != Err(ConfigError::Refused(*refusal)) {
+            return place.saturating_add(1);
+        }
+    }
+    0
+}
+
+// The same where each is added behind an export "a".
+fn first_wrong(alloc: Global, cases: &[Case]) -> usize {
     let mut list = ExportList::new(alloc);
-    let a = ExportSettings::new(b"a", 4096);
-    assert_eq!(rt; list.add(&a), Ok(()));
-    for (settings, refusal) in cases {
-        assert_eq!(rt;
-            list.add(&settings),
-            Err(ConfigError::Refused(refusal)),
-            "{refusal}"
-        );
+    if list.add(&ExportSettings::new(b"a", 4096)) == Ok(()) {
+        first_taken(&mut list, cases)
+    } else {
+        usize::MAX
     }
 }
 
 #[test]
 fn texts_come_first(rt: HostRuntime) {
     let b = ExportSettings::new(b"b", 4096);
-    are_refused(
-        &rt,
-        rt.alloc(),
-        [
-            (
-                ExportSettings {
-                    name: b"a",
-                    size: 0,
-                    ..b
-                },
-                Refusal::RepeatedName,
-            ),
-            (
-                ExportSettings {
-                    name: b"",
-                    description: Some(&[97; 4097]),
-                    ..b
-                },
-                Refusal::BadName,
-            ),
-            (
-                ExportSettings {
-                    name: &[97; 256],
-                    ..b
-                },
-                Refusal::BadName,
-            ),
-            (
-                ExportSettings {
-                    description: Some(&[97; 4097]),
-                    size: 0,
-                    ..b
-                },
-                Refusal::BadDescription,
-            ),
-        ],
-    );
+    let cases: [Case; 4] = [
+        (
+            ExportSettings {
+                name: b"a",
+                size: 0,
+                ..b
+            },
+            Refusal::RepeatedName,
+        ),
+        (
+            ExportSettings {
+                name: b"",
+                description: Some(&[97; 4097]),
+                ..b
+            },
+            Refusal::BadName,
+        ),
+        (
+            ExportSettings {
+                name: &[97; 256],
+                ..b
+            },
+            Refusal::BadName,
+        ),
+        (
+            ExportSettings {
+                description: Some(&[97; 4097]),
+                size: 0,
+                ..b
+            },
+            Refusal::BadDescription,
+        ),
+    ];
+    let wrong = first_wrong(rt.alloc(), &cases);
+    assert!(rt; wrong == 0, "case {wrong}");
 }
 
 #[test]
 fn sizes_and_rates_come_next(rt: HostRuntime) {
     let b = ExportSettings::new(b"b", 4096);
-    are_refused(
-        &rt,
-        rt.alloc(),
-        [
-            (
-                ExportSettings {
-                    size: 1_099_511_627_777,
-                    ..b
-                },
-                Refusal::BadSize,
-            ),
-            (
-                ExportSettings {
-                    size: 0,
-                    reservation: 1_000_001,
-                    ..b
-                },
-                Refusal::BadSize,
-            ),
-            (
-                ExportSettings {
-                    reservation: 1_000_001,
-                    limit: 1_000_001,
-                    ..b
-                },
-                Refusal::BadReservation,
-            ),
-            (
-                ExportSettings {
-                    limit: 1_000_001,
-                    weight: 0,
-                    ..b
-                },
-                Refusal::BadLimit,
-            ),
-        ],
-    );
+    let cases: [Case; 4] = [
+        (
+            ExportSettings {
+                size: 1_099_511_627_777,
+                ..b
+            },
+            Refusal::BadSize,
+        ),
+        (
+            ExportSettings {
+                size: 0,
+                reservation: 1_000_001,
+                ..b
+            },
+            Refusal::BadSize,
+        ),
+        (
+            ExportSettings {
+                reservation: 1_000_001,
+                limit: 1_000_001,
+                ..b
+            },
+            Refusal::BadReservation,
+        ),
+        (
+            ExportSettings {
+                limit: 1_000_001,
+                weight: 0,
+                ..b
+            },
+            Refusal::BadLimit,
+        ),
+    ];
+    let wrong = first_wrong(rt.alloc(), &cases);
+    assert!(rt; wrong == 0, "case {wrong}");
 }
 
 #[test]
 fn queues_come_last(rt: HostRuntime) {
     let b = ExportSettings::new(b"b", 4096);
-    are_refused(
-        &rt,
-        rt.alloc(),
-        [
-            (
-                ExportSettings {
-                    weight: 0,
-                    depth: 0,
-                    ..b
-                },
-                Refusal::BadWeight,
-            ),
-            (
-                ExportSettings {
-                    depth: 4097,
-                    window: 0,
-                    ..b
-                },
-                Refusal::BadDepth,
-            ),
-            (
-                ExportSettings {
-                    window: 0,
-                    reservation: 11,
-                    limit: 10,
-                    ..b
-                },
-                Refusal::BadWindow,
-            ),
-            (
-                ExportSettings {
-                    reservation: 11,
-                    limit: 10,
-                    ..b
-                },
-                Refusal::ReservationAboveLimit,
-            ),
-        ],
-    );
+    let cases: [Case; 4] = [
+        (
+            ExportSettings {
+                weight: 0,
+                depth: 0,
+                ..b
+            },
+            Refusal::BadWeight,
+        ),
+        (
+            ExportSettings {
+                depth: 4097,
+                window: 0,
+                ..b
+            },
+            Refusal::BadDepth,
+        ),
+        (
+            ExportSettings {
+                window: 0,
+                reservation: 11,
+                limit: 10,
+                ..b
+            },
+            Refusal::BadWindow,
+        ),
+        (
+            ExportSettings {
+                reservation: 11,
+                limit: 10,
+                ..b
+            },
+            Refusal::ReservationAboveLimit,
+        ),
+    ];
+    let wrong = first_wrong(rt.alloc(), &cases);
+    assert!(rt; wrong == 0, "case {wrong}");
 }
 
 #[test]
@@ -164,17 +163,12 @@ fn refusals_have_their_numbers(rt: HostRuntime) {
         (Refusal::BadInflight, 8),
         (Refusal::ReservationAboveLimit, 9),
     ] {
-        assert_eq!(rt; refusal.code(), code, "{refusal}");
+        assert!(rt; refusal.code() == code, "{refusal}");
     }
 }
 
-#[test]
-fn a_server_offers_what_was_added(rt: HostRuntime) {
-    assert_eq!(rt;
-        Config::new(ExportList::new(rt.alloc()), 0).err(),
-        Some(Refusal::ExportCount)
-    );
-    let mut list = ExportList::new(rt.alloc());
+// Whether two exports are added to none.
+fn adds_both(list: &mut ExportList<Global>) -> bool {
     let first = ExportSettings {
         description: Some(b""),
         reservation: 3,
@@ -184,81 +178,108 @@ fn a_server_offers_what_was_added(rt: HostRuntime) {
         window: 13,
         ..ExportSettings::new(b"first", 17)
     };
-    assert_eq!(rt; list.add(&first), Ok(()));
     let second = ExportSettings {
         read_only: true,
         ..ExportSettings::new(b"second", 1_099_511_627_776)
     };
-    assert_eq!(rt; list.add(&second), Ok(()));
-    let Ok(config) = Config::new(list, 8) else {
-        assert!(rt; false, "refused");
-        return;
+    list.add(&first) == Ok(()) && list.add(&second) == Ok(())
+}
+
+// Whether an export is the first of these.
+fn is_first(export: &ExportConfig<Global>) -> bool {
+    let info = ExportInfo {
+        size: 17,
+        read_only: false,
     };
-    assert_eq!(rt; config.inflight(), 8);
-    let [one, two] = config.exports() else {
-        assert!(rt; false, "not two exports");
-        return;
-    };
-    assert_eq!(rt; one.name(), b"first".as_slice());
-    assert_eq!(rt; one.description().unwrap_or(b"none"), b"".as_slice());
-    assert_eq!(rt;
-        (one.size(), one.is_read_only(), one.flags()),
-        (17, false, 0x056d)
-    );
-    assert_eq!(rt; (one.reservation(), one.limit(), one.weight()), (3, 5, 7));
-    assert_eq!(rt; (one.depth(), one.window()), (11, 13));
-    assert_eq!(rt;
-        one.info(),
-        ExportInfo {
-            size: 17,
-            read_only: false
-        }
-    );
-    assert_eq!(rt; two.name(), b"second".as_slice());
-    assert!(rt; two.description().is_none());
-    assert_eq!(rt;
-        (two.size(), two.is_read_only(), two.flags()),
-        (1_099_511_627_776, true, 0x050f)
-    );
-    assert_eq!(rt; (two.reservation(), two.limit(), two.weight()), (0, 0, 1));
-    assert_eq!(rt; (two.depth(), two.window()), (1024, 256));
+    export.name() == b"first".as_slice()
+        && export.description() == Some(b"".as_slice())
+        && (export.size(), export.is_read_only(), export.flags()) == (17, false, 0x056d)
+        && (export.reservation(), export.limit(), export.weight()) == (3, 5, 7)
+        && (export.depth(), export.window()) == (11, 13)
+        && export.info() == info
+}
+
+// Whether an export is the second.
+fn is_second(export: &ExportConfig<Global>) -> bool {
+    export.name() == b"second".as_slice()
+        && export.description().is_none()
+        && (export.size(), export.is_read_only(), export.flags())
+            == (1_099_511_627_776, true, 0x050f)
+        && (export.reservation(), export.limit(), export.weight()) == (0, 0, 1)
+        && (export.depth(), export.window()) == (1024, 256)
+}
+
+// Why no configuration of no export is made.
+fn refusal_of_none(alloc: Global) -> Option<Refusal> {
+    Config::new(ExportList::new(alloc), 0).err()
+}
+
+#[test]
+fn a_server_offers_what_was_added(rt: HostRuntime) {
+    assert!(rt; refusal_of_none(rt.alloc()) == Some(Refusal::ExportCount));
+    let mut list = ExportList::new(rt.alloc());
+    assert!(rt; adds_both(&mut list));
+    let config = Config::new(list, 8).ok().expect(&rt, "a configuration");
+    assert!(rt; config.inflight() == 8);
+    assert!(rt; config.exports().len() == 2);
+    assert!(rt; is_first(&config.exports()[0]));
+    assert!(rt; is_second(&config.exports()[1]));
+}
+
+// Why no configuration of one export is made, with so many in service at most. None where one is made, ExportCount where the export
+// isn't added.
+fn refusal_at(alloc: Global, inflight: u64) -> Option<Refusal> {
+    let mut list = ExportList::new(alloc);
+    if list.add(&ExportSettings::new(b"a", 1)) == Ok(()) {
+        Config::new(list, inflight).err()
+    } else {
+        Some(Refusal::ExportCount)
+    }
 }
 
 #[test]
 fn the_number_in_service_has_a_range(rt: HostRuntime) {
-    for (inflight, refused) in [(0, true), (1, false), (4096, false), (4097, true)] {
-        let mut list = ExportList::new(rt.alloc());
-        assert_eq!(rt; list.add(&ExportSettings::new(b"a", 1)), Ok(()));
-        let refusal = if refused {
-            Some(Refusal::BadInflight)
-        } else {
-            None
-        };
-        assert_eq!(rt; Config::new(list, inflight).err(), refusal, "{inflight}");
-        assert_eq!(rt; is_inflight(inflight), !refused, "{inflight}");
+    let bad = Some(Refusal::BadInflight);
+    for (inflight, refusal) in [(0, bad), (1, None), (4096, None), (4097, bad)] {
+        assert!(rt; refusal_at(rt.alloc(), inflight) == refusal, "{inflight}");
+        assert!(rt; is_inflight(inflight) == refusal.is_none(), "{inflight}");
     }
-    assert_eq!(rt; DEFAULT_INFLIGHT, 32);
+    assert!(rt; DEFAULT_INFLIGHT == 32);
+}
+
+// Whether an export is added where a growth is refused: at once where nothing comes to that growth, else when it is added again.
+fn is_added(heap: &Refusing<Global>) -> bool {
+    let mut list = ExportList::new(heap);
+    let a = ExportSettings {
+        description: Some(b"the first"),
+        ..ExportSettings::new(b"a", 4096)
+    };
+    let first = list.add(&a);
+    if heap.is_armed() {
+        first == Ok(())
+    } else {
+        first == Err(ConfigError::NoMemory) && list.add(&a) == Ok(())
+    }
+}
+
+// How many growths were refused in turn up to the one that nothing came to. 0 where something was wrong, or there is no end.
+fn growths_of_exports(heap: &Refusing<Global>) -> u64 {
+    for nth in 1..100u64 {
+        heap.arm(nth);
+        if !is_added(heap) {
+            return 0;
+        }
+        if heap.is_armed() {
+            return nth - 1;
+        }
+    }
+    0
 }
 
 #[test]
 fn each_growth_of_the_exports_is_refused_in_turn(rt: HostRuntime) {
-    let mut met = false;
-    for nth in 1..100u64 {
-        let heap = Refusing::new(rt.alloc(), nth);
-        let mut list = ExportList::new(&heap);
-        let mut a = ExportSettings::new(b"a", 4096);
-        a.description = Some(b"the first");
-        let first = list.add(&a);
-        if heap.is_armed() {
-            assert_eq!(rt; first, Ok(()));
-            assert!(rt; met);
-            return;
-        }
-        met = true;
-        assert_eq!(rt; first, Err(ConfigError::NoMemory), "at {nth}");
-        assert_eq!(rt; list.add(&a), Ok(()), "at {nth}");
-    }
-    assert!(rt; false, "no end");
+    let heap = Refusing::new(rt.alloc(), 0);
+    assert!(rt; growths_of_exports(&heap) >= 1);
 }
 
 // Of four rates out of range the first case is told; those in range have the intervals of an export that is configured so.

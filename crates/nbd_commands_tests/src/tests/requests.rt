@@ -89,15 +89,12 @@ fn the_first_case_that_fits_gives_the_error(rt: HostRuntime) {
         (7, 0, 0, 1, 22),
         (0, 0, 0, 33_554_433, 22),
     ] {
-        assert_eq!(rt;
-            told(false, kind, flags, offset, length),
-            error,
-            "type {kind} at {offset}"
-        );
+        let well = told(false, kind, flags, offset, length) == error;
+        assert!(rt; well, "type {kind} at {offset}");
     }
-    assert_eq!(rt; told(true, 4, 0, 0, 3), 1);
-    assert_eq!(rt; told(true, 0, 0, 0, 3), 0);
-    assert_eq!(rt; told(true, 5, 0, 0, 3), 0);
+    assert!(rt; told(true, 4, 0, 0, 3) == 1);
+    assert!(rt; told(true, 0, 0, 0, 3) == 0);
+    assert!(rt; told(true, 5, 0, 0, 3) == 0);
 }
 
 #[test]
@@ -127,22 +124,25 @@ fn no_range_of_a_large_export_wraps(rt: HostRuntime) {
     }
 }
 
-#[test]
-fn a_write_past_the_end_finds_no_space(rt: HostRuntime) -> Result<(), NoMemory> {
+// Of a WRITE of these bytes, on an export of 4,096 bytes. None where memory was refused.
+fn told_of_write(read_only: bool, alloc: Global, flags: u16, bytes: &[u8]) -> Option<u32>
+    requires { length bytes.now ≤ 4096 }
+{
     let info = ExportInfo {
         size: 4096,
-        read_only: false,
+        read_only,
     };
-    let read_only = ExportInfo {
-        size: 4096,
-        read_only: true,
-    };
-    let fits = write_of(rt.alloc(), 1, 4092, &[1, 2, 3, 4])?;
-    assert_eq!(rt; verdict(&info, &fits), 0);
-    assert_eq!(rt; verdict(&read_only, &fits), 1);
-    let past = write_of(rt.alloc(), 0, 4092, &[1, 2, 3, 4, 5])?;
-    assert_eq!(rt; verdict(&info, &past), 28);
-    Ok(())
+    match write_of(alloc, flags, 4092, bytes) {
+        Ok(write) => Some(verdict(&info, &write)),
+        Err(NoMemory) => None,
+    }
+}
+
+#[test]
+fn a_write_past_the_end_finds_no_space(rt: HostRuntime) {
+    assert!(rt; told_of_write(false, rt.alloc(), 1, &[1, 2, 3, 4]) == Some(0));
+    assert!(rt; told_of_write(true, rt.alloc(), 1, &[1, 2, 3, 4]) == Some(1));
+    assert!(rt; told_of_write(false, rt.alloc(), 0, &[1, 2, 3, 4, 5]) == Some(28));
 }
 
 // Performed where it is served, and once more where it found no memory.
@@ -172,13 +172,12 @@ fn wants(kind: u16, flags: u16) -> bool {
 }
 
 #[test]
-fn some_requests_want_memory(rt: HostRuntime) -> Result<(), NoMemory> {
+fn some_requests_want_memory(rt: HostRuntime) {
     assert!(rt; wants(0, 1) && wants(6, 2) && wants(6, 3));
     assert!(rt; !wants(3, 0) && !wants(4, 2) && !wants(6, 0) && !wants(6, 1));
     assert!(rt; !wants(5, 0) && !wants(5, 1));
-    let write = write_of(rt.alloc(), 0, 0, &[1])?;
+    let write = write_of(rt.alloc(), 0, 0, &[1]).expect(&rt, "memory");
     assert!(rt; may_want_memory(&write));
-    Ok(())
 }
 
 fn insist<I: Image>(image: &mut I, request: &Request<I::Alloc>) -> Done<I::Alloc> {
@@ -189,35 +188,68 @@ fn insist<I: Image>(image: &mut I, request: &Request<I::Alloc>) -> Done<I::Alloc
     serve(image, request)
 }
 
+// Performs a request that brings nothing.
+fn performs<A: Allocator + Copy>(
+    image: &mut Flat<A>,
+    kind: u16,
+    flags: u16,
+    offset: u64,
+    length: u32,
+)
+    requires { kind ≢ 1 }
+{
+    let _ = insist(image, &asked(kind, flags, offset, length));
+}
+
+// Performs a WRITE.
+fn writes<A: Allocator + Copy>(image: &mut Flat<A>, write: &Request<A>) {
+    let _ = insist(image, write);
+}
+
 // What is read after a write, a trim and two zeroings.
-fn read_after_changes<A: Allocator + Copy>(alloc: A) -> Result<Payload<A>, NoMemory> {
-    let mut image: Flat<A> = match Flat::zeros(alloc, 4096) {
-        Ok(image) => image,
-        Err(NoMemory) => Flat::zeros(alloc, 4096)?,
+fn read_after<A: Allocator + Copy>(image: &mut Flat<A>, write: &Request<A>) -> Payload<A> {
+    writes(image, write);
+    performs(image, 4, 0, 1, 2);
+    performs(image, 6, 2, 4, 1);
+    performs(image, 6, 4, 0, 1);
+    performs(image, 5, 0, 0, 5);
+    insist(image, &asked(0, 0, 0, 5)).content
+}
+
+// Whether these bytes are read after a write of five and those changes.
+fn has_after<A: Allocator + Copy>(alloc: A, image: &mut Flat<A>, bytes: &[u8]) -> bool {
+    match write_of(alloc, 0, 0, &[1, 2, 3, 4, 5]) {
+        Ok(write) => {
+            let content = read_after(image, &write);
+            !content.is_empty() && content.from(0) == bytes
+        }
+        Err(NoMemory) => false,
+    }
+}
+
+// Whether an image, made at the second time where the first found no memory, is as it should be after the changes.
+fn changes_well(heap: &Refusing<Global>) -> bool {
+    let made: Result<Flat<&Refusing<Global>>, NoMemory> = match Flat::zeros(heap, 4096) {
+        Ok(image) => Ok(image),
+        Err(NoMemory) => Flat::zeros(heap, 4096),
     };
-    let write = write_of(alloc, 0, 0, &[1, 2, 3, 4, 5])?;
-    let _ = insist(&mut image, &write);
-    let _ = insist(&mut image, &asked(4, 0, 1, 2));
-    let _ = insist(&mut image, &asked(6, 2, 4, 1));
-    let _ = insist(&mut image, &asked(6, 4, 0, 1));
-    let _ = insist(&mut image, &asked(5, 0, 0, 5));
-    Ok(insist(&mut image, &asked(0, 0, 0, 5)).content)
+    match made {
+        Ok(mut image) => has_after(heap, &mut image, &[1, 0, 0, 4, 0]),
+        Err(NoMemory) => false,
+    }
 }
 
 #[test]
-fn each_growth_of_the_requests_is_refused_in_turn(rt: HostRuntime) -> Result<(), NoMemory> {
+fn each_growth_of_the_requests_is_refused_in_turn(rt: HostRuntime) {
+    let heap = Refusing::new(rt.alloc(), 0);
     let mut refused = 0u64;
     for nth in 1..100u64 {
-        let heap = Refusing::new(rt.alloc(), nth);
-        let content = read_after_changes(&heap)?;
-        let mut read = Vec::new(rt.alloc());
-        content.append(&mut read)?;
-        assert_eq!(rt; read.as_slice(), [1, 0, 0, 4, 0].as_slice(), "at {nth}");
+        heap.arm(nth);
+        assert!(rt; changes_well(&heap), "at {nth}");
         if heap.is_armed() {
             break;
         }
         refused = nth;
     }
     assert!(rt; refused >= 3);
-    Ok(())
 }
