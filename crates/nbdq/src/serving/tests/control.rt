@@ -15,7 +15,7 @@ pub const LONG_CREW: Crew = Crew {
 const FIGURES: [&[u8]; 8] = [
     b"server uptime_seconds=",
     b" connections=1 requests_in_service=0 holds_total=",
-    b"\nexport name=\"a\" size_bytes=4096 sessions=1 requests_waiting=0 steps_total=9 ",
+    b"\nexport name=\"a\" size_bytes=4096 held_bytes=4096 base_bytes=0 log_bytes=4 sessions=1 requests_waiting=0 steps_total=9 ",
     b" chosen_by_reservation_total=0 chosen_by_weight_total=2 ",
     b" errors_total=0 read_bytes_total=4 written_bytes_total=4 ",
     b" reservation_per_second=0 limit_per_second=0 weight=1 ",
