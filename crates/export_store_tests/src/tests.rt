@@ -7,6 +7,9 @@ use std::alloc::{Allocator, Global};
 mod beside;
 mod large;
 
+// An image in pages whose heap may refuse.
+type Kept<'a> = Paged<&'a Refusing<Global>>;
+
 // Writes a payload at an offset, and says whether memory was there; false too where the range is past the end.
 fn puts<I: Image>(image: &mut I, offset: usize, piece: &Payload<I::Alloc>) -> bool {
     let size = image.size();
@@ -27,52 +30,79 @@ fn zeroes<I: Image>(image: &mut I, offset: usize, count: usize, keep: bool) -> b
     offset <= size && count <= size - offset && image.zero(offset, count, keep).is_ok()
 }
 
-// An image of six bytes after a write at 1 and a zero at 2. A call that found no memory is made again.
-fn changed<I: Image>(alloc: I::Alloc) -> Result<I, NoMemory> {
-    let mut image = match I::zeros(alloc, 6) {
-        Ok(image) => image,
-        Err(NoMemory) => I::zeros(alloc, 6)?,
-    };
+// An image of zeros. A call that found no memory is made again.
+fn made<I: Image>(alloc: I::Alloc, size: usize) -> Result<I, NoMemory> {
+    match I::zeros(alloc, size) {
+        Ok(image) => Ok(image),
+        Err(NoMemory) => I::zeros(alloc, size),
+    }
+}
+
+// A write at 1 and a zero at 2, of an image of six bytes. A call that found no memory is made again.
+fn changes<I: Image>(alloc: I::Alloc, image: &mut I) -> bool {
     let bytes = [1, 2, 3, 4];
-    let written = writes(alloc, &mut image, 1, &bytes) || writes(alloc, &mut image, 1, &bytes);
-    let zeroed = zeroes(&mut image, 2, 1, false);
-    let kept = zeroes(&mut image, 3, 1, true) || zeroes(&mut image, 3, 1, true);
-    if written && zeroed && kept {
-        Ok(image)
+    let written = writes(alloc, image, 1, &bytes) || writes(alloc, image, 1, &bytes);
+    let zeroed = zeroes(image, 2, 1, false);
+    let kept = zeroes(image, 3, 1, true) || zeroes(image, 3, 1, true);
+    written && zeroed && kept
+}
+
+// All that an image holds. A call that found no memory is made again.
+fn read_of<I: Image>(image: &I) -> Result<Payload<I::Alloc>, NoMemory> {
+    match image.read(0, image.size()) {
+        Ok(payload) => Ok(payload),
+        Err(NoMemory) => image.read(0, image.size()),
+    }
+}
+
+// Appends what a payload holds. A call that found no memory is made again.
+fn appends<A: Allocator + Copy>(payload: &Payload<A>, out: &mut Vec<u8, A>) -> bool {
+    payload.append(out).is_ok() || payload.append(out).is_ok()
+}
+
+fn bytes_of<A: Allocator + Copy>(alloc: A, payload: &Payload<A>) -> Result<Vec<u8, A>, NoMemory> {
+    let mut out = Vec::new(alloc);
+    if appends(payload, &mut out) {
+        Ok(out)
     } else {
         Err(NoMemory)
     }
 }
 
-// The bytes of an image. A call that found no memory is made again.
+// The bytes of an image.
 fn all_of<I: Image>(alloc: I::Alloc, image: &I) -> Result<Vec<u8, I::Alloc>, NoMemory> {
-    let payload = match image.read(0, image.size()) {
-        Ok(payload) => payload,
-        Err(NoMemory) => image.read(0, image.size())?,
-    };
-    let mut out = Vec::new(alloc);
-    if payload.append(&mut out).is_err() {
-        payload.append(&mut out)?;
+    match read_of(image) {
+        Ok(payload) => bytes_of(alloc, &payload),
+        Err(NoMemory) => Err(NoMemory),
     }
-    Ok(out)
 }
 
 fn are_zeros(bytes: &[u8]) -> bool {
     bytes.iter().all(|byte| *byte == 0)
 }
 
+// Whether the bytes of a payload are these.
+fn is_payload<A: Allocator + Copy>(alloc: A, payload: &Payload<A>, bytes: &[u8]) -> bool {
+    let mut all = Vec::new(alloc);
+    appends(payload, &mut all) && all.as_slice() == bytes
+}
+
 // Whether the bytes of an image are these.
 fn is_of<I: Image>(alloc: I::Alloc, image: &I, bytes: &[u8]) -> bool {
-    match all_of(alloc, image) {
-        Ok(all) => all.as_slice() == bytes,
+    match read_of(image) {
+        Ok(payload) => is_payload(alloc, &payload, bytes),
         Err(NoMemory) => false,
     }
 }
 
 // Whether an image is as it should be after these changes.
+fn changes_well<I: Image>(alloc: I::Alloc, image: &mut I) -> bool {
+    changes(alloc, image) && image.size() == 6 && is_of(alloc, image, &[0, 1, 0, 0, 4, 0])
+}
+
 fn is_changed<I: Image>(alloc: I::Alloc) -> bool {
-    match changed::<I>(alloc) {
-        Ok(image) => image.size() == 6 && is_of(alloc, &image, &[0, 1, 0, 0, 4, 0]),
+    match made::<I>(alloc, 6) {
+        Ok(mut image) => changes_well(alloc, &mut image),
         Err(NoMemory) => false,
     }
 }
@@ -115,21 +145,38 @@ fn each_growth_is_refused_in_turn(rt: HostRuntime) {
     assert!(rt; growths_of_changes(&heap) > 3);
 }
 
-// Hands bytes over to an image, and says whether they are written. Where memory was refused they are handed over again, and were as before.
-fn hands<I: Image>(alloc: I::Alloc, image: &mut I, offset: usize, bytes: &[u8]) -> bool {
-    let made = match Payload::copied(alloc, offset as u64, bytes) {
+// A payload of these bytes. A call that found no memory is made again.
+fn copied<A: Allocator + Copy>(
+    alloc: A,
+    offset: usize,
+    bytes: &[u8],
+) -> Result<Payload<A>, NoMemory> {
+    match Payload::copied(alloc, offset as u64, bytes) {
         Ok(piece) => Ok(piece),
         Err(NoMemory) => Payload::copied(alloc, offset as u64, bytes),
-    };
-    let Ok(mut piece) = made else {
-        return false;
-    };
+    }
+}
+
+// Hands a payload over to an image, and says whether it is written. Where memory was refused it is handed over again, and was as before.
+fn hands_over<I: Image>(
+    image: &mut I,
+    offset: usize,
+    piece: &mut Payload<I::Alloc>,
+    count: usize,
+) -> bool {
     let size = image.size();
     if offset > size || piece.len() > size - offset {
         return false;
     }
-    image.put(offset, &mut piece).is_ok()
-        || (piece.len() == bytes.len() && image.put(offset, &mut piece).is_ok())
+    image.put(offset, piece).is_ok() || (piece.len() == count && image.put(offset, piece).is_ok())
+}
+
+// The same with bytes.
+fn hands<I: Image>(alloc: I::Alloc, image: &mut I, offset: usize, bytes: &[u8]) -> bool {
+    match copied(alloc, offset, bytes) {
+        Ok(mut piece) => hands_over(image, offset, &mut piece, bytes.len()),
+        Err(NoMemory) => false,
+    }
 }
 
 // Hands over pages that aren't held, one that is, several, and a part of two.
@@ -146,33 +193,29 @@ fn are_at(bytes: &[u8], told: &[(usize, u8)]) -> bool {
     told.iter().all(|(at, byte)| bytes.get(*at) == Some(byte))
 }
 
+// Whether an image has what was handed over.
+fn has_handed<I: Image>(alloc: I::Alloc, image: &I) -> bool {
+    let told = [
+        (0, 3),
+        (4_095, 3),
+        (4_096, 4),
+        (8_190, 4),
+        (8_191, 5),
+        (8_192, 6),
+        (8_193, 0),
+    ];
+    match all_of(alloc, image) {
+        Ok(bytes) => are_at(bytes.as_slice(), &told),
+        Err(NoMemory) => false,
+    }
+}
+
 // Whether what is handed over is as it was.
 fn is_handed<I: Image>(alloc: I::Alloc) -> bool {
-    let made = match I::zeros(alloc, 12_288) {
-        Ok(image) => Ok(image),
-        Err(NoMemory) => I::zeros(alloc, 12_288),
-    };
-    let Ok(mut image) = made else {
-        return false;
-    };
-    if !hands_each(alloc, &mut image) {
-        return false;
+    match made::<I>(alloc, 12_288) {
+        Ok(mut image) => hands_each(alloc, &mut image) && has_handed(alloc, &image),
+        Err(NoMemory) => false,
     }
-    let Ok(bytes) = all_of(alloc, &image) else {
-        return false;
-    };
-    are_at(
-        bytes.as_slice(),
-        &[
-            (0, 3),
-            (4_095, 3),
-            (4_096, 4),
-            (8_190, 4),
-            (8_191, 5),
-            (8_192, 6),
-            (8_193, 0),
-        ],
-    )
 }
 
 // Whether bytes are handed over where a growth is refused: true where no image came to that growth, None where one is wrong.
@@ -209,23 +252,36 @@ fn what_is_handed_over_is_written(rt: HostRuntime) {
     assert!(rt; growths_of_hands(&heap) > 3);
 }
 
-// A page that is handed over takes the place of one that is held, where there is no memory.
-fn takes_the_place(heap: &Refusing<Global>) -> bool {
-    let Ok(mut image): Result<Paged<&Refusing<Global>>, NoMemory> = Paged::zeros(heap, 8_192) else {
-        return false;
-    };
-    if !writes(heap, &mut image, 4_096, &[1]) {
-        return false;
-    }
-    let Ok(mut piece) = Payload::copied(heap, 4_096, &[2; 4_096]) else {
-        return false;
-    };
+// Whether a page is handed over where there is no memory.
+fn takes_a_page<'a>(
+    heap: &'a Refusing<Global>,
+    image: &mut Kept<'a>,
+    piece: &mut Payload<&'a Refusing<Global>>,
+) -> bool {
     heap.arm(1);
     image.size() == 8_192
         && piece.len() == 4_096
-        && image.put(4_096, &mut piece).is_ok()
+        && image.put(4_096, piece).is_ok()
         && heap.is_armed()
         && image.held() == 1
+}
+
+// Whether it takes the place of one that is held.
+fn takes_over<'a>(heap: &'a Refusing<Global>, image: &mut Kept<'a>) -> bool {
+    if !writes(heap, image, 4_096, &[1]) {
+        return false;
+    }
+    match Payload::copied(heap, 4_096, &[2; 4_096]) {
+        Ok(mut piece) => takes_a_page(heap, image, &mut piece),
+        Err(NoMemory) => false,
+    }
+}
+
+fn takes_the_place(heap: &Refusing<Global>) -> bool {
+    match Kept::zeros(heap, 8_192) {
+        Ok(mut image) => takes_over(heap, &mut image),
+        Err(NoMemory) => false,
+    }
 }
 
 #[test]
@@ -342,16 +398,6 @@ fn a_write_goes_over_many_pages(rt: HostRuntime) {
     assert!(rt; held_after(&mut image, 823_296, 401_408, false) == 3);
 }
 
-// Four pages, of which the one at a position alone is held.
-fn one_of_four_pages<A: Allocator + Copy>(alloc: A, held: usize) -> Option<Paged<A>> {
-    let mut image: Paged<A> = Paged::zeros(alloc, 16384).ok()?;
-    if writes(alloc, &mut image, held, &[9]) {
-        Some(image)
-    } else {
-        None
-    }
-}
-
 // Whether the nine at a place is the only byte of an image that isn't zero.
 fn has_one_nine<A: Allocator + Copy>(alloc: A, image: &Paged<A>, place: usize) -> bool {
     let Ok(bytes) = all_of(alloc, image) else {
@@ -362,21 +408,34 @@ fn has_one_nine<A: Allocator + Copy>(alloc: A, image: &Paged<A>, place: usize) -
 
 // Whether a write over the edges of four pages, of which one is held, is done without so many growths. Some(false) where it was refused,
 // changed no byte, and is done when it is made again. None where something is wrong.
-fn does_without(heap: &Refusing<Global>, held: usize, nth: u64, piece: &[u8]) -> Option<bool> {
-    heap.arm(0);
-    let Some(mut image) = one_of_four_pages(heap, held) else {
+fn writes_without<'a>(
+    heap: &'a Refusing<Global>,
+    image: &mut Kept<'a>,
+    held: usize,
+    nth: u64,
+    piece: &[u8],
+) -> Option<bool> {
+    if !writes(heap, image, held, &[9]) {
         return None;
-    };
+    }
     heap.arm(nth);
-    let written = writes(heap, &mut image, 4095, piece);
+    let written = writes(heap, image, 4095, piece);
     if heap.is_armed() {
         return if written { Some(true) } else { None };
     }
-    let stays = !written && has_one_nine(heap, &image, held);
-    if stays && writes(heap, &mut image, 4095, piece) && image.held() == 4 {
+    let stays = !written && has_one_nine(heap, image, held);
+    if stays && writes(heap, image, 4095, piece) && image.held() == 4 {
         Some(false)
     } else {
         None
+    }
+}
+
+fn does_without(heap: &Refusing<Global>, held: usize, nth: u64, piece: &[u8]) -> Option<bool> {
+    heap.arm(0);
+    match Kept::zeros(heap, 16384) {
+        Ok(mut image) => writes_without(heap, &mut image, held, nth, piece),
+        Err(NoMemory) => None,
     }
 }
 
@@ -439,18 +498,27 @@ fn has_a_one<I: Image>(alloc: I::Alloc, image: &I) -> bool {
 }
 
 // Whether two images of two pages that hold the same payload change apart.
+fn change_apart_of<I: Image>(alloc: I::Alloc, image: &mut I, other: &mut I) -> bool {
+    share(alloc, image, other)
+        && zeroes(image, 100, 5000, false)
+        && writes(alloc, other, 5, &[1])
+        && is_but(alloc, image, 7, 100, 5100)
+        && has_a_one(alloc, other)
+}
+
+// The same of an image and one that is made.
+fn changes_apart<I: Image>(alloc: I::Alloc, image: &mut I) -> bool {
+    match I::zeros(alloc, 8192) {
+        Ok(mut other) => change_apart_of(alloc, image, &mut other),
+        Err(NoMemory) => false,
+    }
+}
+
 fn change_apart<I: Image>(alloc: I::Alloc) -> bool {
-    let Ok(mut image): Result<I, NoMemory> = I::zeros(alloc, 8192) else {
-        return false;
-    };
-    let Ok(mut other): Result<I, NoMemory> = I::zeros(alloc, 8192) else {
-        return false;
-    };
-    share(alloc, &mut image, &mut other)
-        && zeroes(&mut image, 100, 5000, false)
-        && writes(alloc, &mut other, 5, &[1])
-        && is_but(alloc, &image, 7, 100, 5100)
-        && has_a_one(alloc, &other)
+    match I::zeros(alloc, 8192) {
+        Ok(mut image) => changes_apart(alloc, &mut image),
+        Err(NoMemory) => false,
+    }
 }
 
 #[test]
@@ -498,15 +566,19 @@ fn range_stays<I: Image>(alloc: I::Alloc, image: &mut I, offset: usize, count: u
 }
 
 // Whether what was read of an image stays as it was, of one page and of several, when the image changes.
-fn stays_as_read<I: Image>(alloc: I::Alloc) -> bool {
-    let Ok(mut image): Result<I, NoMemory> = I::zeros(alloc, 12288) else {
-        return false;
-    };
-    range_stays(alloc, &mut image, 100, 50)
-        && range_stays(alloc, &mut image, 0, 4096)
-        && range_stays(alloc, &mut image, 4095, 8000)
-        && puts_sevens(alloc, &mut image, 12288)
+fn ranges_stay<I: Image>(alloc: I::Alloc, image: &mut I) -> bool {
+    range_stays(alloc, image, 100, 50)
+        && range_stays(alloc, image, 0, 4096)
+        && range_stays(alloc, image, 4095, 8000)
+        && puts_sevens(alloc, image, 12288)
         && image.size() == 12288
+}
+
+fn stays_as_read<I: Image>(alloc: I::Alloc) -> bool {
+    match I::zeros(alloc, 12288) {
+        Ok(mut image) => ranges_stay::<I>(alloc, &mut image),
+        Err(NoMemory) => false,
+    }
 }
 
 #[test]
@@ -518,7 +590,7 @@ fn what_was_read_stays_as_it_was(rt: HostRuntime) {
 // Whether sevens of a payload that begins at one offset are put at another with so many growths, and not with one less.
 fn takes_growths<'a>(
     heap: &'a Refusing<Global>,
-    image: &mut Paged<&'a Refusing<Global>>,
+    image: &mut Kept<'a>,
     offset: usize,
     piece: &Payload<&'a Refusing<Global>>,
     growths: u64,
@@ -537,7 +609,7 @@ fn takes_growths<'a>(
 // The same of so many sevens, the first of which begins at an offset of its own.
 fn takes<'a>(
     heap: &'a Refusing<Global>,
-    image: &mut Paged<&'a Refusing<Global>>,
+    image: &mut Kept<'a>,
     offset: usize,
     begin: u64,
     count: usize,
@@ -604,6 +676,15 @@ fn begin_with(swept: &Swept<Global>, firsts: [u8; 3]) -> bool {
             .all(|(page, first)| page.as_slice().first() == Some(&first))
 }
 
+// Whether the pages that a write puts others in place of are handed out.
+fn outdates(image: &mut Paged<Global>, swept: &mut Swept<Global>, alloc: Global) -> bool {
+    let written = writes(alloc, image, 4096, &[1, 2, 3])
+        && writes(alloc, image, 4097, &[7, 7])
+        && writes(alloc, image, 4096, &[7]);
+    image.sweep(swept);
+    written && begin_with(swept, [7, 1, 1])
+}
+
 // The pages that a write puts others in place of are handed out, where there is room for them, and the bytes are as they were.
 #[test]
 fn outdated_pages_are_handed_out(rt: HostRuntime) {
@@ -613,48 +694,58 @@ fn outdated_pages_are_handed_out(rt: HostRuntime) {
     let mut swept = Swept::with_room(alloc, 4).expect(&rt, "memory");
     image.sweep(&mut swept);
     assert!(rt; swept.pages().is_empty());
-    assert!(rt; writes(alloc, &mut image, 4096, &[1, 2, 3]));
-    assert!(rt; writes(alloc, &mut image, 4097, &[7, 7]));
-    assert!(rt; writes(alloc, &mut image, 4096, &[7]));
-    image.sweep(&mut swept);
-    assert!(rt; begin_with(&swept, [7, 1, 1]));
+    assert!(rt; outdates(&mut image, &mut swept, alloc));
     assert!(rt; is_but(alloc, &image, 7, 0, 0));
+}
+
+// Whether an image hands nothing out.
+fn hands_none_out<I: Image>(alloc: I::Alloc, image: &mut I) -> bool {
+    match Swept::with_room(alloc, 4) {
+        Ok(mut swept) => {
+            image.sweep(&mut swept);
+            swept.pages().is_empty()
+        }
+        Err(NoMemory) => false,
+    }
 }
 
 #[test]
 fn one_piece_hands_nothing_out(rt: HostRuntime) {
     let mut image: Flat<Global> = Flat::zeros(rt.alloc(), 6).expect(&rt, "memory");
     assert!(rt; writes(rt.alloc(), &mut image, 1, &[7, 7]));
-    let mut swept = Swept::with_room(rt.alloc(), 4).expect(&rt, "memory");
-    image.sweep(&mut swept);
-    assert!(rt; swept.pages().is_empty());
+    assert!(rt; hands_none_out(rt.alloc(), &mut image));
     assert!(rt; is_of(rt.alloc(), &image, &[0, 7, 7, 0, 0, 0]));
 }
 
 // ---- What is handed out
 
+// Whether nothing is handed out for what is put into an image of zeros.
+fn hands_nothing_out(
+    image: &mut Paged<Global>,
+    swept: &mut Swept<Global>,
+    piece: &Payload<Global>,
+) -> bool {
+    let written = puts(image, 0, piece);
+    image.sweep(swept);
+    written && swept.pages().is_empty() && swept.chunks() == 0
+}
+
 // Whether zeros hand out a chunk that goes whole, and the pages of one that they find a part of.
-fn hands_out(alloc: Global) -> bool {
-    let Ok(mut image): Result<Paged<Global>, NoMemory> = Paged::zeros(alloc, 1 << 22) else {
-        return false;
-    };
-    let (Ok(piece), Ok(mut swept)) = (sevens(alloc, 0, 3 << 20), Swept::with_room(alloc, 512))
-    else {
-        return false;
-    };
-    let written = puts(&mut image, 0, &piece);
-    image.sweep(&mut swept);
-    let none = swept.pages().is_empty() && swept.chunks() == 0;
-    let zeroed = zeroes(&mut image, 4_096, (2 << 20) + 4_096, false) && image.held() == 255;
-    image.sweep(&mut swept);
+fn hands_each_out(image: &mut Paged<Global>, swept: &mut Swept<Global>) -> bool {
+    let zeroed = zeroes(image, 4_096, (2 << 20) + 4_096, false) && image.held() == 255;
+    image.sweep(swept);
     let parts = swept.pages().len() == 257 && swept.chunks() == 1;
     swept.let_go();
-    let gone = zeroes(&mut image, 0, 4_096, false) && image.held() == 254;
-    image.sweep(&mut swept);
-    written && none && zeroed && parts && gone && swept.chunks() == 1
+    let gone = zeroes(image, 0, 4_096, false) && image.held() == 254;
+    image.sweep(swept);
+    zeroed && parts && gone && swept.chunks() == 1
 }
 
 #[test]
 fn zeros_hand_out_chunks_and_pages(rt: HostRuntime) {
-    assert!(rt; hands_out(rt.alloc()));
+    let mut image: Paged<Global> = Paged::zeros(rt.alloc(), 1 << 22).expect(&rt, "memory");
+    let mut swept = Swept::with_room(rt.alloc(), 512).expect(&rt, "memory");
+    let piece = sevens(rt.alloc(), 0, 3 << 20).expect(&rt, "memory");
+    assert!(rt; hands_nothing_out(&mut image, &mut swept, &piece));
+    assert!(rt; hands_each_out(&mut image, &mut swept));
 }
