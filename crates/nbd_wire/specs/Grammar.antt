@@ -71,6 +71,11 @@ option_head_text number count = option_magic ++ (to_be_bytes w32 number ++ to_be
 abbrev pub option_text : ℕ → List ℕ → List ℕ
 option_text number content = option_head_text number (length content) ++ content
 
+-- its number and its length fit their places
+pub record IsOption (o : ℕ) (content : List ℕ) : Type 0 where
+  pub option : o < 2 ^ 32
+  pub count : length content < 2 ^ 32
+
 -- a reply of the server to an option
 unfoldable pub option_reply_head_text : ℕ → ℕ → ℕ → List ℕ
 option_reply_head_text option kind count = to_be_bytes w64 0x0003e889045565a9 ++ (to_be_bytes w32 option ++ (to_be_bytes w32 kind ++ to_be_bytes w32 count))

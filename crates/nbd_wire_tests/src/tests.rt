@@ -509,6 +509,7 @@ fn option_replies_with_each_growth_refused(rt: HostRuntime) {
 fn laws_of_spelling(_rt: HostRuntime) {
     one_head();
     one_request();
+    one_option();
     one_option_head();
     one_reply();
     one_option_reply();
