@@ -36,7 +36,7 @@ abbrev pub is_go : Turn → Bool
 is_go Go = true
 is_go (Wait nanoseconds) = false
 
--- the requests that a call gives an export, and those that calls give it
+-- the units that a call gives an export, and those that calls give it
 abbrev pub given_by : ℕ → Call → Order → ℕ
 given_by a (Enter e now) o = 0
 given_by a (Leave e) o = 0

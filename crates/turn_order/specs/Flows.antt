@@ -3,7 +3,7 @@ use Rattle.std.specs.Prelude.{ℕ, ◌+◌, ◌-◌, ◌*◌, ◌/◌, ◌%◌, 
 use Rattle.turn_order.specs.declared.Rates.{Rates}
 use Rattle.turn_order.specs.declared.flow.Flow.{Flow}
 
--- a time that goes on by an interval for each request, up to the last one that there is
+-- a time that goes on by an interval for each unit, up to the last one that there is
 abbrev pub later_by : ℕ → ℕ → ℕ → ℕ
 later_by time cost interval = min (time + cost * interval) (2 ^ 128 - 1)
 
@@ -11,7 +11,7 @@ later_by time cost interval = min (time + cost * interval) (2 ^ 128 - 1)
 abbrev pub one_more : ℕ → ℕ
 one_more count = if nat_lt count (2 ^ 32 - 1) then count + 1 else count
 
--- between two requests at so many a second; 0 for the rate 0
+-- between two units at so many a second; 0 for the rate 0
 abbrev pub interval_of : ℕ → ℕ
 interval_of rate = if rate == 0 then 0 else 10 ^ 9 / rate
 

@@ -35,7 +35,7 @@ abbrev pub IsThroughout : ℕ → List Call → Order → Type 0
 IsThroughout e [] o = Unit {0}
 IsThroughout e (c ∷ cs) o = IsContendingAt e c o × IsThroughout e cs (after c o)
 
--- how far a flow may be ahead of another: the slack, and a turn of so many requests
+-- how far a flow may be ahead of another: the slack, and a turn of so many units
 abbrev pub lead : ℕ → Flow → Flow → ℕ
 lead most f g = max (8192 * min f.step g.step) (8 * f.step) + most * f.step
 

@@ -12,9 +12,9 @@ const SECOND: u64 = 1_000_000_000;
 /// What is known of an export. Moments are in nanoseconds.
 #[derive(Clone, Copy, Debug, PartialEq, Eq)]
 pub struct Flow {
-    /// How far its virtual time goes by one request.
+    /// How far its virtual time goes by one unit.
     pub step: u64,
-    /// Between two requests of its reservation, and of its limit; 0 where it has none.
+    /// Nanoseconds between two units of its reservation, and of its limit; 0 where it has none.
     pub reservation_interval: u64,
     pub limit_interval: u64,
     pub virtual_time: u128,
@@ -33,7 +33,7 @@ pub struct Flow {
     pub stopped: bool,
 }
 
-/// A time that goes on by an interval for each request, up to the last one that there is.
+/// A time that goes on by an interval for each unit, up to the last one that there is.
 fn go_on(time: u128, cost: u32, interval: u64) -> u128
     ensures { result ≡ later_by time cost interval }
 {
@@ -52,7 +52,7 @@ pub fn add_one(count: u32) -> u32
     if count < u32::MAX { count + 1 } else { count }
 }
 
-/// How many nanoseconds lie between two requests at so many a second.
+/// How many nanoseconds lie between two units at so many a second.
 fn interval(rate: u32) -> u64
     ensures { result ≡ interval_of rate }
 {
@@ -84,7 +84,7 @@ impl Flow {
     }
 
     /// At other rates from now on: its reservation and its limit begin anew, and it isn't ahead of the clock by more than a slack
-    /// of its own requests.
+    /// of its own units.
     pub fn tuned(&self, rates: Rates, clock: u128) -> Flow
         ensures { result ≡ tuned rates clock self.now }
     {

@@ -7,7 +7,7 @@ pub fn given_by_weight()
     ensures { IsGivenByWeight }
 {}
 
-/// The virtual time of a request is the inverse of the weight, to one part in 2^40 for weights up to 2^20.
+/// The virtual time of a unit is the inverse of the weight, to one part in 2^40 for weights up to 2^20.
 pub fn step_of_weight()
     ensures { IsStepOfWeight }
 {}

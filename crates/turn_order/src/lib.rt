@@ -21,16 +21,16 @@ pub use laws::{
 };
 pub use order::TurnOrder;
 
-/// The virtual time of one request at weight 1. At another weight it is the whole part of this over the weight.
+/// The virtual time of one unit at weight 1. At another weight it is the whole part of this over the weight.
 pub const SCALE: u64 = 1 << 60;
 
-/// By how many requests of the contender of the greatest weight another may be ahead.
+/// By how many units of the contender of the greatest weight another may be ahead.
 pub const SLACK: u64 = 8_192;
 
-/// By how many one that was stopped may be ahead to go on.
+/// By how many units of that contender one that was stopped may be ahead to go on.
 pub const RESUME: u64 = 4_096;
 
-/// By how many requests of its own an export may be ahead at least.
+/// By how many units of its own an export may be ahead at least.
 pub const OWN_SLACK: u64 = 8;
 
 /// For how many nanoseconds an export that was seen is waited for.
@@ -48,9 +48,9 @@ pub const PATIENCE: u64 = 1_000_000;
 /// What an export may have.
 #[derive(Clone, Copy, Debug, PartialEq, Eq)]
 pub struct Rates {
-    /// Requests a second that it is to have; 0 for none.
+    /// Units a second that it is to have; 0 for none.
     pub reservation: u32,
-    /// Requests a second that it may have; 0 for any.
+    /// Units a second that it may have before others no longer wait for it; 0 for any.
     pub limit: u32,
     /// Its part, against the weights of the others. 0 counts as 1.
     pub weight: u32,

@@ -136,7 +136,7 @@ impl<A: Allocator> TurnOrder<A> {
         );
     }
 
-    /// Asks for a turn with so many requests: where it has come the export is charged, and else a session waits.
+    /// Asks for a turn of so many units: where it has come the export is charged, and else a session is to wait.
     pub fn ask(&mut self, export: u32, now: Moment, cost: u32) -> Turn
         ensures answer { result ≡ answer export now self.old }
         ensures order { self.new ≡ asked export now cost self.old }

@@ -9,7 +9,7 @@ mod many;
 // A call of a turn order, moments in microseconds, and what it is to answer.
 #[derive(Clone, Copy)]
 enum Call {
-    // An export is asked for so many requests, and its turn has come.
+    // An export asks for so many units, and its turn has come.
     Goes(u32, u32, u32),
     // Its turn hasn't come, and it waits for a millisecond at most.
     Waits(u32, u32, u32),

@@ -9,14 +9,14 @@ fn next(random: u64) -> u64 {
         .wrapping_add(1_442_695_040_888_963_407)
 }
 
-// How many requests of each export had their turn.
+// How many units of each export had their turn.
 #[derive(Clone, Copy)]
 struct Had {
     first: u64,
     second: u64,
 }
 
-// One of the two asks for 1 to 8 requests, the first twice as often.
+// One of the two asks for 1 to 8 units, the first twice as often.
 fn ask_at_random<A: Allocator>(order: &mut TurnOrder<A>, now: Moment, random: u64, had: &mut Had) {
     let of_second = (random >> 33) % 3 == 0;
     let cost = 1 + ((random >> 40) % 8) as u32;
@@ -56,7 +56,7 @@ fn weights_of_1_and_3(rt: HostRuntime) {
     assert!(rt; had.first.abs_diff(had.second / 3) <= 2_740);
 }
 
-// So many times the first export asks for so many requests, and has its turn.
+// So many times the first export asks for so many units, and has its turn.
 fn goes_on<A: Allocator>(order: &mut TurnOrder<A>, times: u32, cost: u32) -> bool {
     for _ in 0..times {
         if !is_answered(order, 0, 0, cost, Turn::Go) {
