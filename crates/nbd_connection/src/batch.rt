@@ -17,7 +17,7 @@ use std::alloc::Global;
 use std::sync::ledger::Ledger;
 use std::sync::{MutexGuard, Wait};
 use std::time;
-use tag_clock::Clock;
+use tag_clock::{Clock, Moment};
 
 /// Where a reader has its requests from, and what it keeps for its holds of the server.
 #[derive(Drop)]
@@ -59,8 +59,9 @@ pub struct BatchOutcome {
     pub reads_long: bool,
     /// Whether a WRITE carries long data.
     pub writes_long: bool,
-    /// Whether something waits to be chosen.
+    /// Whether something waits to be chosen, and when that is due. None where it waits for something else than time.
     pub waits: bool,
+    pub due: Option<Moment>,
     /// How many requests were handed in.
     pub arrived: u64,
     /// What prefetching for these requests came to.
@@ -104,6 +105,15 @@ impl Admission {
             (Some(arrival), Some(_)) => admitted.with(arrival.head, performed),
             _ => admitted,
         }
+    }
+}
+
+/// When the first of what waits is due, where something waits.
+pub fn due_of<L: Ledger>(disks: &Disks<L>, waits: bool) -> Option<Moment> {
+    if waits {
+        disks.server().next_due()
+    } else {
+        None
     }
 }
 
@@ -161,6 +171,7 @@ impl<'a, 'b, R: Wait + time::Clock> RequestSource<'a, 'b, R> {
         }
         link.bytes.add(admitted);
         batch.waits = disks.server().waiting() > 0;
+        batch.due = due_of(disks, batch.waits);
         disks.catch_up(link.session.export, QUEUED_WORK);
         disks.sweep(link.session.export, &mut self.outdated);
         batch
@@ -211,6 +222,7 @@ impl BatchOutcome {
             reads_long: admission.size == RequestSize::LongRead,
             writes_long: admission.size == RequestSize::LongWrite,
             waits: false,
+            due: None,
             arrived: admission.arrival.is_some() as u64,
             prefetched,
         }

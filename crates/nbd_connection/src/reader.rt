@@ -124,7 +124,7 @@ fn read_on<L: Ledger, R: Wait + time::Clock>(
 ) -> (Turn<Global>, bool) {
     if let Some(head) = offer.head() {
         link.seat
-            .wait_for_turn(rt, head, source.frames.ready(), BATCH);
+            .wait_for_turn(rt, head, source.frames.ready(), BATCH, link.under_way());
     }
     let mut outlet = link.outlet.try_lock();
     let before = match &outlet {
@@ -152,7 +152,7 @@ fn read_on<L: Ledger, R: Wait + time::Clock>(
         make_ready(rt, service, link, &mut source.wakeups, pass);
     }
     if wakes_worker(batch.waits, batch.reads_long, link.bytes.is_unread()) {
-        service.bells.work.ring_one();
+        service.bells.ring_for(batch.due);
     }
     let ahead = batch.writes_long
         && service.is_wide

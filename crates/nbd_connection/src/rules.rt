@@ -37,9 +37,9 @@ pub fn wakes_worker(waits: bool, reads_long: bool, is_unread: bool) -> bool
     waits && (is_unread || !reads_long)
 }
 
-/// Whether a writer goes on by itself: something waits, and this round wasn't for nothing.
-pub fn writer_goes_on(waits: bool, wrote: bool, performed: bool) -> bool
-    ensures { result ≡ (waits && (wrote || performed)) }
+/// Whether a writer goes on by itself: something is due, and this round wasn't for nothing.
+pub fn writer_goes_on(is_due: bool, wrote: bool, performed: bool) -> bool
+    ensures { result ≡ (is_due && (wrote || performed)) }
 {
-    waits && (wrote || performed)
+    is_due && (wrote || performed)
 }

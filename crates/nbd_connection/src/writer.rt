@@ -1,8 +1,10 @@
 //! The thread of a connection that writes replies.
 
+use crate::batch::due_of;
 use crate::outlet::Outlet;
 use crate::rules::writer_goes_on;
 use crate::session_link::SessionLink;
+use nbd_service::policy::is_due;
 use nbd_service::{Service, Wakeups};
 use server_lock::Pass;
 use session_turns::{ReadyReply, Stop};
@@ -11,7 +13,7 @@ use std::net::Shutdown;
 use std::sync::Wait;
 use std::sync::ledger::Ledger;
 use std::time;
-use tag_clock::Clock;
+use tag_clock::{Clock, Moment};
 
 /// What a round of a writer came to.
 #[derive(Clone, Copy, Debug, PartialEq, Eq)]
@@ -29,8 +31,11 @@ enum Round {
 struct DrainOutcome {
     /// Why no more replies were taken.
     stop: Stop,
-    /// Whether something waits to be chosen.
+    /// Whether something waits to be chosen, and when that is due. None where it waits for something else than time.
     waits: bool,
+    due: Option<Moment>,
+    /// Whether it is due by now.
+    is_due: bool,
     /// Whether a request was performed.
     performed: bool,
 }
@@ -87,6 +92,8 @@ fn write_on<L: Ledger, R: Wait + time::Clock>(
     let DrainOutcome {
         stop,
         waits,
+        due,
+        is_due,
         performed,
     } = take_on(rt, service, link, outlet, pass, wakeups);
     let wrote = outlet.unwritten() > 0;
@@ -97,14 +104,14 @@ fn write_on<L: Ledger, R: Wait + time::Clock>(
     if wrote {
         link.room.ring();
     }
-    let goes_on = writer_goes_on(waits, wrote, performed);
+    let goes_on = writer_goes_on(is_due, wrote, performed);
     match stop {
         Stop::Full => Round::Going,
         Stop::Empty => {
             if wrote && goes_on {
                 return Round::Going;
             }
-            send(rt, service, link, outlet, pass, goes_on, waits)
+            send(rt, service, link, outlet, pass, goes_on, waits, due)
         }
         Stop::End if !link.ready.is_empty(rt) => Round::Going,
         Stop::End | Stop::Refused(_) => {
@@ -134,12 +141,15 @@ fn take_on<L: Ledger, R: Wait + time::Clock>(
         stop = outlet.take(&mut *disks, pass, link.session);
     }
     let waits = disks.server().waiting() > 0;
+    let due = due_of(&*disks, waits);
     service.let_go(rt, disks, began);
     link.note_taken(outlet.unwritten().saturating_sub(before));
     let performed = wakeups.wake(&service.bells);
     DrainOutcome {
         stop,
         waits,
+        due,
+        is_due: is_due(due, clock.now()),
         performed,
     }
 }
@@ -171,6 +181,7 @@ fn send<L: Ledger, R: Wait + time::Clock>(
     pass: &mut Pass<L>,
     goes_on: bool,
     waits: bool,
+    due: Option<Moment>,
 ) -> Round {
     if !outlet.send() {
         service.give_up(rt, link.session, pass);
@@ -180,7 +191,7 @@ fn send<L: Ledger, R: Wait + time::Clock>(
         return Round::Going;
     }
     if waits {
-        service.bells.work.ring_one();
+        service.bells.ring_for(due);
     }
     if link.patience().is_none() {
         link.seat.note_idle(rt);

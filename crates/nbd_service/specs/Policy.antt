@@ -67,6 +67,20 @@ yields_by bytes many = nat_le many bytes
 abbrev pub is_forgotten_by : ℕ → ℕ → Bool
 is_forgotten_by latest moment = nat_lt 1000000000 (moment - latest)
 
+-- nobody looks by then, or nobody knows when it is due
+abbrev pub wakes_for_by : Option ℕ → ℕ → Bool
+wakes_for_by None looks_at = true
+wakes_for_by (Some due) looks_at = nat_lt due looks_at
+
+-- that moment has come
+abbrev pub is_due_by : Option ℕ → ℕ → Bool
+is_due_by None now = false
+is_due_by (Some due) now = nat_le due now
+
+-- ready behind it, under way, or behind the long WRITE before this one
+abbrev pub has_more_by : Bool → ℕ → Bool → Bool
+has_more_by ready under_way behind = ready || nat_lt 0 under_way || behind
+
 -- 200 microseconds
 abbrev pub still_defers_by : ℕ → Bool
 still_defers_by passed = nat_lt passed 200000

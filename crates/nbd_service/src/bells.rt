@@ -1,12 +1,13 @@
 //! Where the threads of a server sleep, and who is woken by what.
 
-use crate::policy::{SESSION_BELLS, bell_of};
+use crate::policy::{LAST_MOMENT_NS, SESSION_BELLS, bell_of, wakes_for};
 use nbd_base::NoMemory;
 use nbd_commands::{Config, ExportConfig};
 use nbd_workers::Bell;
 use server_core::{SessionId, Ticket};
 use std::alloc::Global;
 use std::sync::atomic::{AtomicBool, AtomicU64, Ordering};
+use tag_clock::Moment;
 
 /// The bells of a server.
 #[derive(Drop)]
@@ -15,6 +16,8 @@ pub struct Bells {
     pub work: Bell,
     // Whether something waits until fewer are in service.
     crowded: AtomicBool,
+    // When a worker looks for work by itself, in nanoseconds. The last moment that there is where none sleeps until one.
+    looks_at: AtomicU64,
     desks: Vec<Desk>,
 }
 
@@ -37,8 +40,30 @@ impl Bells {
         Ok(Bells {
             work: Bell::new(),
             crowded: AtomicBool::new(false),
+            looks_at: AtomicU64::new(LAST_MOMENT_NS),
             desks,
         })
+    }
+
+    /// A worker looks for work from now on: who rings meanwhile has it look once more.
+    pub fn note_looking(&self) {
+        self.looks_at.store(LAST_MOMENT_NS, Ordering::SeqCst);
+    }
+
+    /// A worker that found nothing to do sleeps until something is due, or until it is woken.
+    pub fn note_asleep(&self, due: Option<Moment>) {
+        let until = match due {
+            Some(due) => due.nanoseconds(),
+            None => LAST_MOMENT_NS,
+        };
+        self.looks_at.store(until, Ordering::SeqCst);
+    }
+
+    /// Something waits that is due at a moment, or for something else than time: wakes a worker, unless one looks by then.
+    pub fn ring_for(&self, due: Option<Moment>) {
+        if wakes_for(due, self.looks_at.load(Ordering::SeqCst)) {
+            self.work.ring_one();
+        }
     }
 
     /// A worker found as many in service as may be, while something waits. It looks once more after this, before it sleeps.

@@ -43,6 +43,7 @@ impl<'a, L: Ledger, R: Wait + time::Clock> WorkerGate<'a, L, R> {
 impl<'a, L: Ledger, R: Wait + time::Clock> Clock for WorkerGate<'a, L, R> {
     fn now(&self) -> Moment {
         self.heard.set(self.service.bells.work.heard());
+        self.service.bells.note_looking();
         self.service.clock(self.rt).now()
     }
 }
@@ -59,6 +60,7 @@ impl<'a, L: Ledger, R: Wait + time::Clock> Gate for WorkerGate<'a, L, R> {
             Some(due) => Some(due),
             None => self.due_after_all(),
         };
+        self.service.bells.note_asleep(due);
         let now = self.service.clock(self.rt).now();
         let at_most = due.map(|due| until(now, due));
         self.service

@@ -95,7 +95,8 @@ impl<L: Ledger> Pass<L> {
         self.last
     }
 
-    /// How many of the requests that it chose it has not performed. It stops at its greatest value.
+    /// How many of its choices were not performed as its latest: a choice adds one, and a perform of the latest choice takes one away.
+    /// So where it chose two requests, a perform of the first leaves it at 2. It stops at its greatest value.
     pub fn held(&self) -> u64
         ensures { result ≡ self.now.held }
     {
