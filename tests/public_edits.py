@@ -78,7 +78,6 @@ NONE = {
     "session_turns Door::into_pass": MADE_OF,
     "session_turns ReplyWriter::into_writer": MADE_OF,
     "reply_box ReplyBox::laws": CONTRACT_ALONE,
-    "server_core Server::kept": CONTRACT_ALONE,
     "server_lock Booked::note_hold": OUT_OF_VIEW,
     "server_lock Booked::set_tally": OUT_OF_VIEW,
     "server_lock Booked::tally": OUT_OF_VIEW,

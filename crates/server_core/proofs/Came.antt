@@ -10,7 +10,7 @@ use Rattle.server_table.specs.Parts.{Entry, Part}
 use Rattle.server_table.specs.Order.{TagBefore, Before, BeforeAll, IsRising, IsNumbered}
 use Rattle.server_table.specs.Ways.{part_tags, accepted_part}
 use Rattle.server_core.specs.Kept.{AllEntries, BelowLast, IsOptionWithin, TagsWithin, SameKind, LastKind, IsOptionShort, IsPart, picked}
-use Rattle.server_core.proofs.Entries.{all_both, all_push, numbered_push}
+use Rattle.server_core.proofs.Entries.{all_to, all_both, all_push, numbered_push}
 use Rattle.server_core.proofs.Bounds.{next_within, own_within}
 
 before_push : (a : Tags) (entries : List Entry) (x : Entry) → BeforeAll a entries → Before a x.tags → BeforeAll a (entries ++ x ∷ [])
@@ -95,6 +95,8 @@ part_accepted_kept total s t q p h room lt =
       kinds = all_push (λ e. SameKind p.rates.r_interval e.tags.r) (λ e. SameKind p.rates.r_interval e.tags.r) (λ e k. k) p.waiting x h.kinds (new_kind p.last_r p.rates.r_interval t);
       last_kind = new_last_kind p.last_r p.rates.r_interval t;
       tags = subst (λ j. AllEntries (λ e. TagsWithin (total + 1) (p.next + 1) j e.tags) (p.waiting ++ x ∷ [])) (sym picks) (all_push (λ e. TagsWithin total p.next k e.tags) (λ e. TagsWithin (total + 1) (p.next + 1) k e.tags) (λ e w. more_tags total p.next k e.tags w) p.waiting x h.tags new);
+      sent = subst (λ j. AllEntries (λ e. TagsWithin (total + 1) (p.next + 1) j e.tags) p.out) (sym picks)
+          (all_to (λ e. TagsWithin total p.next k e.tags) (λ e. TagsWithin (total + 1) (p.next + 1) k e.tags) (λ e w. more_tags total p.next k e.tags w) p.out h.sent);
       last_r = subst (λ j. IsOptionWithin (j * 2 ^ 30) (2 ^ 62 + (p.next + 1) * 2 ^ 30) tags.r) (sym picks) new.r;
       last_l = new.l;
       last_p = new.p;

@@ -34,11 +34,11 @@ members_more P (x ∷ xs) zero m lt at all one = (subst P at one, tt)
 members_more P (x ∷ xs) (suc e) m lt at all one = (all.0, members_more P xs e m (omega arith) at all.1 one)
 
 -- ---- of each
-record There (ms : List Standing) (e : ℕ) : Type 0 where
-  member : Standing
-  at : member ≡ get_or ms e member
+pub record There (ms : List Standing) (e : ℕ) : Type 0 where
+  pub member : Standing
+  pub at : member ≡ get_or ms e member
 
-there : (ms : List Standing) (e : ℕ) → e < length ms → There ms e
+pub there : (ms : List Standing) (e : ℕ) → e < length ms → There ms e
 there [] e lt = absurd (omega arith)
 there (x ∷ xs) zero lt = record { member = x; at = refl }
 there (x ∷ xs) (suc e) lt = let rest = there xs e (omega arith) in record { member = rest.member; at = rest.at }

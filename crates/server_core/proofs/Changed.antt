@@ -18,7 +18,7 @@ use Rattle.server_table.specs.Picks.{front, part_sent, part_credited, part_picke
 use Rattle.server_table.specs.Ways.{part_shifted, least_first_p, parts_for, way_for, part_tags, accepted_part}
 use Rattle.server_table.proofs.Dispatch.{Chosen}
 use Rattle.server_table.proofs.Arrived.{Admits, way_same, way_length}
-use Rattle.server_core.specs.Kept.{AllEntries, BelowLast, IsPart, IsServer, total, outs, TagsInRange}
+use Rattle.server_core.specs.Kept.{AllEntries, BelowLast, TagsWithin, IsPart, IsServer, picked, total, outs, TagsInRange}
 use Rattle.server_core.proofs.Entries.{all_to, all_set, parts_to, part_at}
 use Rattle.server_core.proofs.Picked.{part_picked_kept, part_in_range, total_small, head_in_range}
 use Rattle.server_core.proofs.Came.{part_accepted_kept}
@@ -64,6 +64,7 @@ seated_part t state p more h = record {
   kinds = h.kinds;
   last_kind = h.last_kind;
   tags = h.tags;
+  sent = h.sent;
   last_r = h.last_r;
   last_l = h.last_l;
   last_p = h.last_p;
@@ -118,6 +119,14 @@ all_without P n (x ∷ xs) w h = by_test (x.number == n) (all_without P n xs w h
     by_test true rest = rest
     by_test false rest = (h.0, rest)
 
+all_left : (P : Entry → Type 0) (n : ℕ) (out : List Entry) → AllEntries P out → AllEntries P (without n out)
+all_left P n [] h = tt
+all_left P n (x ∷ xs) h = by_test (x.number == n) (all_left P n xs h.1)
+  where
+    by_test : (b : Bool) → AllEntries P (without n xs) → AllEntries P (cond (not b) (x ∷ without n xs) (without n xs))
+    by_test true rest = rest
+    by_test false rest = (h.0, rest)
+
 numbered_front : (out w : List Entry) → IsNumbered (out ++ w) → IsNumbered out
 numbered_front [] w h = tt
 numbered_front (x ∷ xs) w h = (above_front x.number xs w h.0, numbered_front xs w h.1)
@@ -139,6 +148,7 @@ done_part t n state p more h = record {
   kinds = h.kinds;
   last_kind = h.last_kind;
   tags = h.tags;
+  sent = all_left (λ entry. TagsWithin t p.next (picked p) entry.tags) n p.out h.sent;
   last_r = h.last_r;
   last_l = h.last_l;
   last_p = h.last_p;

@@ -19,16 +19,14 @@ use Rattle.server_table.specs.Table.{Row, Side, Table, Setup, Choice, side, wait
 use Rattle.server_table.specs.Steps.{Outcome, outcome, step, changed, seated, with_sessions, with_rates, is_out_row, outstanding_in, new_row, sent, is_by_weight, with_credit, with_last, done_side, undone_side, accepted_in}
 use Rattle.server_table.specs.Shares.{mark_of}
 use Rattle.tag_clock.specs.declared.Tags.{Tags}
-use Rattle.server_table.proofs.Dispatch.{outs_of}
 use Rattle.server_table.specs.Parts.{Entry, Part, row_of, part_rows, rows_from, side_of}
 use Rattle.lone_export.proofs.Cases.{if_one, some_one}
 use Rattle.core_laws.proofs.Lists.{all-append, find_passes}
 use Rattle.core_laws.proofs.Order.{Mem, mem_all, mem_of_filter, foremost_mem}
 use Rattle.core_laws.proofs.Chosen.{IsChosen, is_chosen}
-use Rattle.server_core.specs.Counted.{rise, counted_steps, IsSound}
-use Rattle.server_core.specs.Journals.{EachComesOfJournal}
+use Rattle.server_core.specs.Counted.{rise, counted_steps}
 use Rattle.server_core.specs.Members.{Standing}
-use Rattle.server_core.specs.Served.{Served, parts, journals_of, served_of, IsServed, Stepped}
+use Rattle.server_core.specs.Served.{Served, parts, served_of, Stepped}
 
 abbrev total : List Side → ℕ
 total sides = sum_by (λ (one : Side). one.count) sides
@@ -226,16 +224,6 @@ fits_served ms now inflight =
       sides = length-map ps side_of ∙ sym terms;
       rows = rows_there 0 (length (map (λ (p : Part). p.terms) ps)) ps (omega (arith, terms));
     }
-
-pub sound : (ms : List Standing) (slots : List (Option Tags)) (asked now inflight out : ℕ) → IsServed ms slots asked now inflight out → EachComesOfJournal (served_of ms now inflight) → IsSound (served_of ms now inflight)
-sound ms slots asked now inflight out kept comes =
-    let fits = fits_served ms now inflight in
-    let here = outs_of 0 (parts ms) in
-    let counted = kept.server.counted in
-    let within = kept.server.within in
-    let long : length (journals_of ms) ≡ length (map (λ (p : Part). p.terms) (parts ms)) =
-    length-map ms (λ (m : Standing). m.journal) ∙ sym (length-map ms (λ (m : Standing). m.part)) ∙ sym (length-map (parts ms) (λ (p : Part). p.terms)) in
-    record { within = omega (arith, here, counted, within); sides = fits.sides; journals = long; comes = comes; rows = fits.rows }
 
 module _ {A : Type 0} where
   counted_from : (old new : Served) (event : Event A) (answer : Answer A) → Fits old.setup old.table → Stepped old event new answer → counted_steps new ≡ counted_steps old + rise answer

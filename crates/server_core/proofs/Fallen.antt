@@ -86,6 +86,7 @@ part_more total p h = record {
   kinds = h.kinds;
   last_kind = h.last_kind;
   tags = all_to (λ e. TagsWithin total p.next (picked p) e.tags) (λ e. TagsWithin (total + 1) p.next (picked p) e.tags) (λ e t. more_total total p.next (picked p) e.tags t) p.waiting h.tags;
+  sent = all_to (λ e. TagsWithin total p.next (picked p) e.tags) (λ e. TagsWithin (total + 1) p.next (picked p) e.tags) (λ e t. more_total total p.next (picked p) e.tags t) p.out h.sent;
   last_r = h.last_r;
   last_l = h.last_l;
   last_p = more_p total p.last_p h.last_p;
@@ -124,6 +125,8 @@ active_fallen total t m p x xs is hm lt first h =
       tags = subst (λ j. AllEntries (λ e. TagsWithin (total + 1) p.next (p.next - j) e.tags) (map f p.waiting)) (sym n)
           (all_mapped f (λ e. (m ≤ℤ e.tags.p) × TagsWithin total p.next k e.tags) (λ e. TagsWithin (total + 1) p.next k e.tags) (λ e b. fallen_tags total p.next k t m e.tags hm b.0 lt b.1) p.waiting
           (all_both (λ e. m ≤ℤ e.tags.p) (λ e. TagsWithin total p.next k e.tags) p.waiting above h.tags));
+      sent = subst (λ j. AllEntries (λ e. TagsWithin (total + 1) p.next (p.next - j) e.tags) p.out) (sym n)
+          (all_to (λ e. TagsWithin total p.next k e.tags) (λ e. TagsWithin (total + 1) p.next k e.tags) (λ e t. more_total total p.next k e.tags t) p.out h.sent);
       last_r = subst (λ j. IsOptionWithin ((p.next - j) * 2 ^ 30) (2 ^ 62 + p.next * 2 ^ 30) p.last_r) (sym n) h.last_r;
       last_l = h.last_l;
       last_p = fallen_last total t m x.tags.p p.last_p hm head_above head_below.p lt h.last_p;

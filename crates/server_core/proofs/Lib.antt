@@ -23,3 +23,4 @@ pub mod NextDue
 pub mod Journals
 pub mod Cells
 pub mod Retuned
+pub mod Sound

@@ -42,6 +42,7 @@ new_part terms h = record {
   kinds = tt;
   last_kind = last_kind terms.rates.r_interval;
   tags = tt;
+  sent = tt;
   last_r = tt;
   last_l = tt;
   last_p = tt;

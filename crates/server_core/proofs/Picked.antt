@@ -5,6 +5,7 @@ use Rattle.std.proofs.lemmas.Int.{ints}
 use Rattle.std.proofs.lemmas.List.{length-map, append_assoc}
 use Rattle.std.proofs.lemmas.List.Sums.{sum_by-cons}
 use Rattle.tag_clock.specs.Tags.{AreInRange}
+use Rattle.tag_clock.specs.declared.Tags.{Tags}
 use Rattle.tag_clock.specs.Clocks.{lowered}
 use Rattle.tag_clock.specs.declared.Phase.{Phase}
 use Rattle.tag_clock.specs.declared.Phase.TheVariants.{Reservation, Weight}
@@ -13,7 +14,7 @@ use Rattle.server_table.specs.Parts.{Entry, Part}
 use Rattle.server_table.specs.Order.{TagBefore, BeforeAll, IsRising, IsNumbered, AllParts, head_tags}
 use Rattle.server_table.specs.Picks.{entry_credited, part_credited, front, part_sent, part_picked}
 use Rattle.server_core.specs.Kept.{AllEntries, BelowLast, IsOptionWithin, TagsWithin, SameKind, LastKind, IsOptionShort, IsPart, picked, total, TagsInRange, EntriesInRange}
-use Rattle.server_core.proofs.Entries.{all_to, all_both, all_mapped, numbered_behind, below_behind}
+use Rattle.server_core.proofs.Entries.{all_to, all_both, all_mapped, all_push, numbered_behind, below_behind}
 use Rattle.server_core.proofs.Bounds.{in_range, option_in_range}
 
 -- ---- a request is out: the others stay
@@ -31,7 +32,8 @@ part_sent_kept total p head rest is h =
     let joined : (p.out ++ front p.waiting) ++ drop 1 p.waiting ≡ p.out ++ p.waiting =
     ap (λ (l : List Entry). (p.out ++ front l) ++ drop 1 l) is ∙ append_assoc p.out (head ∷ []) rest ∙ ap (λ l. p.out ++ l) (sym is) in
     let below : AllEntries (BelowLast p) rest = (subst (AllEntries (BelowLast p)) is h.below).1 in
-    let tags : AllEntries (λ entry. TagsWithin total p.next k entry.tags) rest = (subst (AllEntries (λ entry. TagsWithin total p.next k entry.tags)) is h.tags).1 in
+    let tagged : AllEntries (λ entry. TagsWithin total p.next k entry.tags) (head ∷ rest) = subst (AllEntries (λ entry. TagsWithin total p.next k entry.tags)) is h.tags in
+    let more : (e : Entry) → TagsWithin total p.next k e.tags → TagsWithin total p.next (k + 1) e.tags = λ e t. record { r = more_picked k (2 ^ 62 + p.next * 2 ^ 30) e.tags.r t.r; l = t.l; p = t.p } in
     record {
       rates = h.rates;
       accepted = h.accepted;
@@ -45,7 +47,10 @@ part_sent_kept total p head rest is h =
       last_kind = h.last_kind;
       tags = subst (λ j. AllEntries (λ entry. TagsWithin total p.next j entry.tags) (drop 1 p.waiting)) (sym picks)
           (subst (λ (l : List Entry). AllEntries (λ entry. TagsWithin total p.next (k + 1) entry.tags) (drop 1 l)) (sym is)
-          (all_to (λ entry. TagsWithin total p.next k entry.tags) (λ entry. TagsWithin total p.next (k + 1) entry.tags) (λ e t. record { r = more_picked k (2 ^ 62 + p.next * 2 ^ 30) e.tags.r t.r; l = t.l; p = t.p }) rest tags));
+          (all_to (λ entry. TagsWithin total p.next k entry.tags) (λ entry. TagsWithin total p.next (k + 1) entry.tags) more rest tagged.1));
+      sent = subst (λ j. AllEntries (λ entry. TagsWithin total p.next j entry.tags) (p.out ++ front p.waiting)) (sym picks)
+          (subst (λ (l : List Entry). AllEntries (λ entry. TagsWithin total p.next (k + 1) entry.tags) (p.out ++ front l)) (sym is)
+          (all_push (λ entry. TagsWithin total p.next k entry.tags) (λ entry. TagsWithin total p.next (k + 1) entry.tags) more p.out head h.sent (more head tagged.0)));
       last_r = subst (λ j. IsOptionWithin (j * 2 ^ 30) (2 ^ 62 + p.next * 2 ^ 30) p.last_r) (sym picks) (more_picked k (2 ^ 62 + p.next * 2 ^ 30) p.last_r h.last_r);
       last_l = h.last_l;
       last_p = h.last_p;
@@ -104,6 +109,7 @@ part_credited_kept total by k p short picks tight tight_last h =
       tags = subst (λ j. AllEntries (λ e. TagsWithin total p.next j e.tags) (map f p.waiting)) (sym picks')
           (all_mapped f (λ e. IsOptionWithin (k * 2 ^ 30) high e.tags.r × TagsWithin total p.next (k + 1) e.tags) (λ e. TagsWithin total p.next (k + 1) e.tags) (λ e t. record { r = credit_within by k high e.tags.r short t.0; l = t.1.l; p = t.1.p }) p.waiting
           (all_both (λ e. IsOptionWithin (k * 2 ^ 30) high e.tags.r) (λ e. TagsWithin total p.next (k + 1) e.tags) p.waiting tight h_tags));
+      sent = subst (λ j. AllEntries (λ e. TagsWithin total p.next (p.next - j) e.tags) p.out) (sym n) h.sent;
       last_r = subst (λ j. IsOptionWithin (j * 2 ^ 30) high after.last_r) (sym picks') (credit_within by k high p.last_r short tight_last);
       last_l = h.last_l;
       last_p = h.last_p;
@@ -128,12 +134,19 @@ part_picked_kept total Weight p head rest is h = by_interval p.rates.r_interval 
     by_interval (Some by) short = part_credited_kept total by (picked p) (part_sent p) short (let some = h.waiting in let a = n in let b = m in omega arith) tight h.last_r (part_sent_kept total p head rest is h)
 
 -- ---- tags within the bounds are in range
+pub tags_in_range : (total next k : ℕ) (tags : Tags) → total ≤ 2 ^ 62 + 1 → next ≤ 2 ^ 56 → k ≤ next → TagsWithin total next k tags → AreInRange tags
+tags_in_range total next k tags t n le h = (
+  option_in_range (k * 2 ^ 30) (2 ^ 62 + next * 2 ^ 30) tags.r (omega arith) (omega arith) h.r,
+  in_range 0 (2 ^ 62 + next * 2 ^ 30) tags.l (omega arith) (omega arith) h.l,
+  in_range 0 (total * 2 ^ 63) tags.p (omega arith) (omega arith) h.p,
+)
+
 entries_in_range : (total next k : ℕ) (entries : List Entry) → total ≤ 2 ^ 62 + 1 → next ≤ 2 ^ 56 → k ≤ next → AllEntries (λ entry. TagsWithin total next k entry.tags) entries → EntriesInRange entries
 entries_in_range total next k [] t n le h = λ i d lt. absurd (omega arith)
 entries_in_range total next k (x ∷ xs) t n le h = at (entries_in_range total next k xs t n le h.1)
   where
     at : EntriesInRange xs → (i : ℕ) (d : Entry) → i < suc (length xs) → AreInRange (get_or (x ∷ xs) i d).tags
-    at rest zero d lt = (option_in_range (k * 2 ^ 30) (2 ^ 62 + next * 2 ^ 30) x.tags.r (omega arith) (omega arith) h.0.r, in_range 0 (2 ^ 62 + next * 2 ^ 30) x.tags.l (omega arith) (omega arith) h.0.l, in_range 0 (total * 2 ^ 63) x.tags.p (omega arith) (omega arith) h.0.p)
+    at rest zero d lt = tags_in_range total next k x.tags t n le h.0
     at rest (suc i) d lt = rest i d (omega arith)
 
 pub part_in_range : (total : ℕ) (p : Part) → total ≤ 2 ^ 62 + 1 → IsPart total p → TagsInRange p

@@ -186,6 +186,7 @@ retuned_part t rates p short none h = record {
   kinds = no_entries _ p.waiting none;
   last_kind = kind_for rates.r_interval p.last_r;
   tags = h.tags;
+  sent = h.sent;
   last_r = last_within _ _ rates.r_interval p.last_r h.last_r;
   last_l = h.last_l;
   last_p = h.last_p;

@@ -77,6 +77,7 @@ pub record IsPart (total : ℕ) (part : Part) : Type 0 where
   pub kinds : AllEntries (λ entry. SameKind part.rates.r_interval entry.tags.r) part.waiting
   pub last_kind : LastKind part.rates.r_interval part.last_r
   pub tags : AllEntries (λ entry. TagsWithin total part.next (picked part) entry.tags) part.waiting
+  pub sent : AllEntries (λ entry. TagsWithin total part.next (picked part) entry.tags) part.out
   pub last_r : IsOptionWithin (picked part * 2 ^ 30) (2 ^ 62 + part.next * 2 ^ 30) part.last_r
   pub last_l : IsOptionWithin 0 (2 ^ 62 + part.next * 2 ^ 30) part.last_l
   pub last_p : IsOptionWithin 0 (total * 2 ^ 63) part.last_p

@@ -53,6 +53,11 @@ abbrev pub slot_in : List Seat → ℕ → Option ℕ
 slot_in [] n = None
 slot_in (seat ∷ seats) n = if seat.number == n then Some seat.slot else slot_in seats n
 
+-- each request that is out has a seat, in the same order; no two are in one slot
+pub record IsSeated (standing : Standing) : Type 0 where
+  pub each : map (λ seat. seat.number) standing.seats ≡ map (λ entry. entry.number) standing.part.out
+  pub differ : (m n slot : ℕ) → slot_in standing.seats m ≡ Some slot → slot_in standing.seats n ≡ Some slot → m ≡ n
+
 -- ---- as it is kept: the export alone with its journal, and the tags beside it
 pub record Kept : Type 0 where
   pub whole : Whole

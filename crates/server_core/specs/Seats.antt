@@ -1,12 +1,18 @@
 -- How the seats of the requests that are out move.
-use Rattle.std.specs.Prelude.{◌≡◌, ℕ, [], ◌∷◌, ◌++◌}
+use Rattle.std.specs.Prelude.{◌≡◌, ℕ, [], ◌∷◌, ◌++◌, map, get_or}
 use Rattle.nbd_base.specs.Words.{change_at}
+use Rattle.server_table.specs.Table.{part}
 use Rattle.server_table.specs.declared.event.Event.{Event}
 use Rattle.server_table.specs.declared.event.Event.TheVariants.{Attach, Arrive, Dispatch, Perform, Take, Leave, Gone, Retune}
 use Rattle.server_table.specs.declared.event.Answer.{Answer}
 use Rattle.server_table.specs.declared.event.Answer.TheVariants.{Picked, Performed}
 use Rattle.server_core.specs.Members.{seats_without}
-use Rattle.server_core.specs.Served.{Served}
+use Rattle.server_core.specs.Served.{Served, Holds}
+
+-- of export e, each request in service has a seat, in the same order, and no other has one; no slot holds two of them
+pub record AreSeated (served : Served) (e : ℕ) : Type 0 where
+  pub each : map (λ seat. seat.number) (get_or served.seats e []) ≡ map (λ job. job.number) (part e served.table).out
+  pub differ : (m n slot : ℕ) → Holds served (record { export = e; number = m; slot = slot }) → Holds served (record { export = e; number = n; slot = slot }) → m ≡ n
 
 module _ {A : Type 0} where
   -- a dispatch gives a seat to the request that it chose, if any

@@ -51,7 +51,7 @@ impl<I: Image> Model for Member<I> {
 }
 
 impl<I: Image> Member<I> {
-    ghost use Rattle.server_core.specs.Members.{opening_standing, slot_in, with_log, logged_as, Went, WentOr, Retunes, IsLetIn, IsReservedAt, WantsMemory, Performs, Picks, AdmitsAt, Arrives, shifted_standing, told_tags};
+    ghost use Rattle.server_core.specs.Members.{opening_standing, slot_in, IsSeated, with_log, logged_as, Went, WentOr, Retunes, IsLetIn, IsReservedAt, WantsMemory, Performs, Picks, AdmitsAt, Arrives, shifted_standing, told_tags};
     ghost use Rattle.server_table.specs.Ways.{part_shifted};
     ghost use Rattle.server_table.specs.Order.{IsNumbered, head_tags};
     ghost use Rattle.server_table.specs.Picks.{part_picked};
@@ -165,9 +165,11 @@ impl<I: Image> Member<I> {
 
     /// Does nothing: its contract says what is true of every member.
     pub(crate) fn kept(&self)
-        ensures { ComesOfJournal self.now }
+        ensures journal { ComesOfJournal self.now }
+        ensures seated { IsSeated self.now }
     {
         self.cell.laws();
+        self.cell.live().laws();
     }
 
     /// The slot in which the request of this number is in service.

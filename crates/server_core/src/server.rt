@@ -10,7 +10,7 @@ ghost use Rattle.nbd_commands.specs.Terms.{terms_of};
 ghost use Rattle.nbd_commands.specs.Exports.{IsWithin};
 ghost use Rattle.std.specs.List.{All, sum_by};
 ghost use Rattle.server_core.specs.Kept.{AreShort};
-ghost use Rattle.server_core.specs.Members.{opening_standing, seats_without};
+ghost use Rattle.server_core.specs.Members.{IsSeated, opening_standing, seats_without};
 ghost use Rattle.server_core.specs.Served.{AllMembers};
 ghost use Rattle.server_core.specs.Journals.{ComesOfJournal};
 ghost use Rattle.server_core.specs.Here.{here as told_here, attached as told_attached, retuned as told_retuned, arrived as told_arrived, refusal_here};
@@ -104,7 +104,8 @@ fn steps_of<I: Image>(members: &[Member<I>]) -> u128
 
 /// Asks each of these exports what is true of it.
 fn kept_each<I: Image>(members: &[Member<I>])
-    ensures { AllMembers ComesOfJournal members.now }
+    ensures journal { AllMembers ComesOfJournal members.now }
+    ensures seated { AllMembers IsSeated members.now }
 {
     for member in members {
         member.kept();
