@@ -20,8 +20,8 @@ use std::time::Duration;
 use tag_clock::{Clock, Moment};
 
 /// Reads requests until there are no more. Each goes in under one hold of the server, with others that are at hand, and is
-/// performed under it. Replies that are there by then and short it writes itself; others it leaves to the writer, as it
-/// does READs of long data.
+/// performed under it where the server chooses it first or second; READs of long data are left to the writer. Replies that
+/// are there by then and short the reader writes itself; others it leaves to the writer.
 pub fn read_requests<'s, E, L: Ledger, R: Wait + Sync + time::Clock>(
     rt: &'s R,
     scope: &Scope<'s, E>,

@@ -48,8 +48,8 @@ server_figures = server.Uptime ∷ server.Connections ∷ server.InService ∷ s
 
 abbrev pub export_row : ExportFigure → Row
 export_row export.Size = gauge (codes "size_bytes") (codes "Size of the disk.")
-export_row export.HeldBytes = gauge (codes "held_bytes") (codes "Bytes of the disk that have memory.")
-export_row export.BaseBytes = gauge (codes "base_bytes") (codes "Bytes that have memory of the disk before its latest steps.")
+export_row export.HeldBytes = gauge (codes "held_bytes") (codes "Bytes of pages that have memory or are kept as zeros.")
+export_row export.BaseBytes = gauge (codes "base_bytes") (codes "Bytes of such pages of the disk before its latest steps.")
 export_row export.LogBytes = gauge (codes "log_bytes") (codes "Bytes of WRITEs in its latest steps.")
 export_row export.Sessions = gauge (codes "sessions") (codes "Sessions that are open.")
 export_row export.Waiting = gauge (codes "requests_waiting") (codes "Requests that wait.")

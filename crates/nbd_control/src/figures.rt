@@ -118,6 +118,7 @@ fn gauge(name: &'static str, help: &'static str) -> Row
 }
 
 impl ServerFigure {
+    /// Its name, what it means, and its kind.
     pub fn row(self) -> Row
         ensures { row_of result ≡ server_row self }
     {
@@ -133,6 +134,7 @@ impl ServerFigure {
         }
     }
 
+    /// Its value.
     pub fn reading(self, stats: &ServerStats) -> Reading
         ensures { result ≡ server_reading stats.now self }
     {
@@ -147,15 +149,19 @@ impl ServerFigure {
 }
 
 impl ExportFigure {
+    /// Its name, what it means, and its kind.
     pub fn row(self) -> Row
         ensures { row_of result ≡ export_row self }
     {
         match self {
             ExportFigure::Size => gauge("size_bytes", "Size of the disk."),
-            ExportFigure::HeldBytes => gauge("held_bytes", "Bytes of the disk that have memory."),
+            ExportFigure::HeldBytes => gauge(
+                "held_bytes",
+                "Bytes of pages that have memory or are kept as zeros.",
+            ),
             ExportFigure::BaseBytes => gauge(
                 "base_bytes",
-                "Bytes that have memory of the disk before its latest steps.",
+                "Bytes of such pages of the disk before its latest steps.",
             ),
             ExportFigure::LogBytes => gauge("log_bytes", "Bytes of WRITEs in its latest steps."),
             ExportFigure::Sessions => gauge("sessions", "Sessions that are open."),
@@ -192,6 +198,7 @@ impl ExportFigure {
         }
     }
 
+    /// Its value.
     pub fn reading(self, stats: &ExportStats<'_>) -> Reading
         ensures { result ≡ export_reading stats.now self }
     {

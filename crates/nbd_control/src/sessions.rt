@@ -22,11 +22,11 @@ pub struct SessionLine<'a> {
     pub address: &'a [u8],
     /// Since the session was opened, in nanoseconds.
     pub connected: u64,
-    /// That the client sent since then.
+    /// That were handed in since then.
     pub requests: u64,
-    /// Requests whose replies the client didn't take yet.
+    /// Those of them whose replies aren't taken to be sent yet.
     pub outstanding: u64,
-    /// Of these requests and of their replies.
+    /// The data of READs that aren't written to the client yet, and of WRITEs that wait.
     pub under_way_bytes: u64,
 }
 

@@ -24,9 +24,9 @@ pub struct ServerStats {
     pub connections: u64,
     /// Requests of all exports that are in service.
     pub in_service: u64,
-    /// How often the server was held.
+    /// How often threads of sessions held the server.
     pub holds: u64,
-    /// The longest hold of the last whole second.
+    /// The longest of these holds that ended in the last whole second.
     pub longest_hold: u64,
 }
 
@@ -36,7 +36,7 @@ pub struct ExportStats<'a> {
     pub name: &'a [u8],
     /// In bytes.
     pub size: u64,
-    /// The bytes of its pages that have memory.
+    /// The bytes of its pages that have memory, and of those that are kept as zeros.
     pub held_bytes: u64,
     /// Those of the disk as it was before the steps of its log. None where that isn't known while steps are queued for it.
     pub base_bytes: Option<u64>,
@@ -54,13 +54,13 @@ pub struct ExportStats<'a> {
     pub by_weight: u64,
     /// Requests that were answered with an error.
     pub errors: u64,
-    /// What READs brought.
+    /// The bytes that READs asked for, those aside that were refused as they arrived.
     pub read_bytes: u64,
-    /// What WRITEs brought.
+    /// The bytes that WRITEs carried, likewise.
     pub written_bytes: u64,
     /// Those in force.
     pub rates: Rates,
-    /// How long the latest 1,024 requests waited.
+    /// How long the latest 1,024 requests that were chosen had waited.
     pub waits: WaitQuantiles,
 }
 

@@ -15,12 +15,12 @@ use std::sync::Wait;
 use std::sync::ledger::Ledger;
 use turn_order::Rates;
 
-/// The bytes that have memory for an export.
+/// What an export takes, in bytes. Image, base and log have most of their memory in common.
 #[derive(Clone, Copy, Debug, PartialEq, Eq, Drop)]
 pub struct HeldBytes {
-    /// In the pages of the disk.
+    /// Those of the disk's pages that have memory, and of those that are kept as zeros.
     pub image: u64,
-    /// In those of the disk as it was before the steps of its log. None where steps are queued for it.
+    /// The same of the disk as it was before the steps of its log. None where steps are queued for it.
     pub base: Option<u64>,
     /// The data of the WRITEs in its log.
     pub log: u64,

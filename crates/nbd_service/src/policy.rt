@@ -38,15 +38,15 @@ pub const LAST_MOMENT_NS: u64 = (1 << 62) - 1;
 
 // ---- Clients that are silent
 
-/// How many milliseconds a client has for each option of its handshake, and for its flags. A client asks and waits for the answer, so
-/// this is some hundred times a long way to it.
+/// How many milliseconds a client has for each option of its handshake, and for its flags. It asks once and waits
+/// for the answer; how long that takes over slow networks wasn't looked at.
 pub const OPTION_MS: u64 = 10_000;
 
-/// How many milliseconds it has for the whole handshake: six options, of which most clients send one to three.
+/// How many milliseconds it has for the whole handshake: as many as for six options. 1,000 of almost `OPTION_MS` each would be hours.
 pub const HANDSHAKE_MS: u64 = 60_000;
 
-/// How many milliseconds a reply waits for a client that reads nothing, before its session ends: more than the longest time in which
-/// a client that is stopped and goes on is expected back.
+/// How many milliseconds a reply waits for a client that reads nothing, before its session ends. A client that is stopped for a moment
+/// and goes on, as a machine that is moved, is to keep its session; for how long such are stopped wasn't looked at.
 pub const STALLED_WRITE_MS: u64 = 60_000;
 
 /// After how many seconds without a byte a connection over TCP is probed, how many lie between two probes, and how many
@@ -90,8 +90,8 @@ pub const SHORT_READ_BYTES: u32 = 16_384;
 /// The longest data, in bytes, of a WRITE that isn't long.
 pub const SHORT_WRITE_BYTES: u32 = 65_535;
 
-/// The longest range, in bytes, of a TRIM or WRITE_ZEROES that isn't long: what a hold lets go of 1 MiB takes it some microseconds,
-/// and of 256 MiB a millisecond.
+/// The longest range, in bytes, of a TRIM or WRITE_ZEROES that isn't long. A TRIM with 256 MiB of pages in its range took
+/// a millisecond in all (docs/PERFORMANCE.md), and 1 MiB is 1/256 of that.
 pub const SHORT_ZERO_BYTES: u32 = 1_048_576;
 
 /// How many requests a reader mostly hands in under one hold of the server: what a hold costs is shared by them, and whoever
@@ -140,8 +140,9 @@ pub const LOCK_LOOKS: usize = 16_384;
 
 pub const LOCK_LOOKS_IN_A_ROW: usize = 32;
 
-/// How often a socket is looked at before its reader sleeps: some 20 microseconds, and a short request and its reply take 16 to 21.
-/// Were other threads let run between the looks, a client that asks for little would wait longer beside those that move much.
+/// How often a socket is looked at before its reader sleeps: that took some 20 microseconds, and a short request with its reply 17 to
+/// 19 (docs/PERFORMANCE.md). With other threads in between a paced client waited 1.4 to 1.7 times as long beside long requests
+/// (docs/notes/tries.md).
 pub const SOCKET_LOOKS: usize = 50;
 
 /// In how many reads a socket isn't looked at, at least, once nothing came at a look.
@@ -162,13 +163,13 @@ pub const BUSY_NS: u64 = 5_000_000;
 pub const LINGER_NS: u64 = 250_000;
 
 /// How many units of a session's requests may go on before it asks for a turn again, which is charged with them, and for how many
-/// nanoseconds they may: asking for each request had sessions with one at a time spend a third of their time on the lock of turns.
+/// nanoseconds they may. Each asking takes the lock of turns; 64 units are a hundredth of how far an export may be ahead.
 pub const UNITS_A_TURN: u32 = 64;
 
 pub const TURN_NS: u64 = 1_000_000;
 
 /// For how many nanoseconds a bulk session lets interactive ones go first to the server. Without end, eight clients that send one
-/// request at a time kept eight that flood another export from 49 in 50 of their requests.
+/// request at a time came to 60,000 a second, and eight that flood another export to 3,700 (docs/notes/tries.md).
 pub const DEFERENCE_NS: u64 = 200_000;
 
 /// For how many holds with one request a session counts as one that mostly has several.

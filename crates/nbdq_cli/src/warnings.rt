@@ -9,7 +9,7 @@ use nbd_text::or_no_memory;
 use std::alloc::Allocator;
 use std::io::Write;
 
-/// So many 4 KiB WRITEs a second were performed where it was measured (docs/PERFORMANCE.md). READs came to more, and requests of
+/// A round number near the most 4 KiB WRITEs a second that were measured (docs/PERFORMANCE.md). READs came to more, and requests of
 /// longer data to fewer.
 const MEASURED_A_SECOND: u64 = 400_000;
 

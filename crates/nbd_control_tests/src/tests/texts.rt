@@ -153,7 +153,7 @@ nbdq_holds_total 1000
 # TYPE nbdq_export_size_bytes gauge
 nbdq_export_size_bytes{export=\"a\"} 4096
 nbdq_export_size_bytes{export=\"b \\\"\\\\\\n\x01\x7f\xc3\xa9\"} 8192
-# HELP nbdq_export_held_bytes Bytes of the disk that have memory.
+# HELP nbdq_export_held_bytes Bytes of pages that have memory or are kept as zeros.
 ",
     b"
 nbdq_export_base_bytes{export=\"a\"} NaN
