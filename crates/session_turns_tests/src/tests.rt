@@ -29,6 +29,10 @@ type Heap<'a> = &'a Refusing<Global>;
 
 type Tried<'a, L> = Shared<L, Flat<Heap<'a>>, Listed<Heap<'a>>>;
 
+type Wire<'a> = FrameReader<Source, Heap<'a>>;
+
+type Text<'a> = ReplyWriter<Sink<'a>, Heap<'a>>;
+
 /// A WRITE of `deadbeef` at 4,092.
 const WRITE: &[u8; 32] =
     b"\x25\x60\x95\x13\x00\x00\x00\x01\x00\x00\x00\x00\x00\x00\x00\x01\x00\x00\x00\x00\x00\x00\x0f\xfc\x00\x00\x00\x04\xde\xad\xbe\xef";
@@ -55,14 +59,42 @@ impl Clock for Still {
     }
 }
 
+/// What a client sends and takes.
+#[derive(Clone, Copy)]
+struct Client {
+    /// What it sends, and whether its connection fails then; else it ends.
+    bytes: &'static [u8],
+    fails: bool,
+    /// How many requests of its session may be under way.
+    window: u64,
+    /// So many replies are taken at once.
+    row: usize,
+    /// So many bytes it takes, before a write fails.
+    room: usize,
+    /// What is written to it, as far as it takes that.
+    text: &'static [u8],
+}
+
+/// A client that takes all, and is written nothing.
+fn client_of(bytes: &'static [u8]) -> Client {
+    Client {
+        bytes,
+        fails: false,
+        window: 1,
+        row: 1,
+        room: usize::MAX,
+        text: b"",
+    }
+}
+
 /// Gives bytes, and then ends or fails.
 #[derive(Drop)]
-struct Source<'a> {
-    bytes: &'a [u8],
+struct Source {
+    bytes: &'static [u8],
     fails: bool,
 }
 
-impl Read for Source<'_> {
+impl Read for Source {
     fn read(&mut self, buf: &mut [u8]) -> io::Result<usize> {
         if self.fails && self.bytes.is_empty() {
             return Err(io::Error::from(io::ErrorKind::TimedOut));
@@ -71,6 +103,29 @@ impl Read for Source<'_> {
         buf[..count].copy_from_slice(&self.bytes[..count]);
         self.bytes = &self.bytes[count..];
         Ok(count)
+    }
+}
+
+/// Takes so many bytes, and then fails.
+#[derive(Drop)]
+struct Sink<'a> {
+    taken: Vec<u8, Heap<'a>>,
+    room: usize,
+}
+
+impl Write for Sink<'_> {
+    fn write(&mut self, buf: &[u8]) -> io::Result<usize> {
+        let count = buf.len().min(self.room);
+        if count == 0 {
+            return Err(io::Error::from(io::ErrorKind::BrokenPipe));
+        }
+        self.taken.extend_from_slice(&buf[..count])?;
+        self.room -= count;
+        Ok(count)
+    }
+
+    fn flush(&mut self) -> io::Result<()> {
+        Ok(())
     }
 }
 
@@ -102,21 +157,20 @@ const GONE: EventTrace = EventTrace::Gone {
     session: 0,
 };
 
-/// Replies that are written to memory.
-type Text<'a> = ReplyWriter<Vec<u8, Heap<'a>>, Heap<'a>>;
+/// The first session of the export.
+const FIRST: SessionId = SessionId {
+    export: 0,
+    number: 0,
+};
 
-/// Where one reply at a time is taken.
-fn text_of(heap: Heap<'_>) -> Option<Text<'_>> {
-    ReplyWriter::new(heap, Vec::new(heap), 1).ok()
-}
-
-/// A session of an export of 4,096 bytes whose window is 1, and the pass that makes its turns.
+/// A session of an export of 4,096 bytes, the pass that makes its turns, and the two ways of its client.
 #[derive(Drop)]
 struct Seated<'a, L: Ledger> {
     shared: Tried<'a, L>,
     pass: Pass<L>,
-    session: SessionId,
     held: Option<Request<Heap<'a>>>,
+    reader: Wire<'a>,
+    replies: Text<'a>,
 }
 
 type Disk<'a> = Server<Flat<Heap<'a>>, Listed<Heap<'a>>>;
@@ -133,10 +187,10 @@ fn config_of(heap: Heap<'_>, window: u64) -> Option<Config<Heap<'_>>> {
 }
 
 fn server_of(heap: Heap<'_>, window: u64) -> Option<Disk<'_>> {
-    let Some(config) = config_of(heap, window) else {
-        return None;
-    };
-    Server::new(heap, &config).ok()
+    match config_of(heap, window) {
+        Some(config) => Server::new(heap, &config).ok(),
+        None => None,
+    }
 }
 
 /// A server that threads may share, and the only pass.
@@ -161,34 +215,48 @@ fn shared_of<'a, L: Ledger>(
     }
 }
 
-fn opened<'a, L: Ledger, R: Wait>(rt: &R, heap: Heap<'a>, blank: Blank) -> Option<Seated<'a, L>>
+fn replies_of<'a>(heap: Heap<'a>, client: Client) -> Option<Text<'a>> {
+    let sink = Sink {
+        taken: Vec::new(heap),
+        room: client.room,
+    };
+    ReplyWriter::new(heap, sink, client.row).ok()
+}
+
+fn seat_of<'a, L: Ledger>(heap: Heap<'a>, blank: Blank, client: Client) -> Option<Seated<'a, L>>
     requires name { blank.name ≡ L.name }
     requires parts { blank.parts ≡ L.parts }
     requires one { blank.parts ≡ 1 }
 {
-    match shared_of::<L>(heap, 1, blank) {
-        Some((shared, pass)) => with_a_seat(rt, shared, pass),
+    let Some(replies) = replies_of(heap, client) else {
+        return None;
+    };
+    match shared_of::<L>(heap, client.window, blank) {
+        Some((shared, pass)) => Some(Seated {
+            shared,
+            pass,
+            held: None,
+            reader: reader_of(heap, client),
+            replies,
+        }),
         None => None,
     }
 }
 
-fn with_a_seat<'a, L: Ledger, R: Wait>(
-    rt: &R,
-    shared: Tried<'a, L>,
-    mut pass: Pass<L>,
-) -> Option<Seated<'a, L>> {
-    match shared.turn_attach(rt, &mut pass, 0) {
-        Ok(session) => Some(Seated {
-            shared,
-            pass,
-            session,
-            held: None,
-        }),
-        Err(_) => None,
-    }
+fn reader_of<'a>(heap: Heap<'a>, client: Client) -> Wire<'a> {
+    let source = Source {
+        bytes: client.bytes,
+        fails: client.fails,
+    };
+    FrameReader::new(heap, Counted::new(source))
 }
 
 impl<'a, L: Ledger> Seated<'a, L> {
+    /// Whether the first session is opened.
+    fn sits<R: Wait>(&mut self, rt: &R) -> bool {
+        self.shared.turn_attach(rt, &mut self.pass, 0) == Ok(FIRST)
+    }
+
     fn seen(&mut self, turn: Turn<Heap<'a>>) -> Seen {
         let came = match turn {
             Turn::Going(arrival) => Came::Going(arrival),
@@ -202,65 +270,51 @@ impl<'a, L: Ledger> Seated<'a, L> {
         (came, self.pass.last())
     }
 
-    fn read<R: Wait, S: Read>(&mut self, rt: &R, reader: &mut FrameReader<S, Heap<'a>>) -> Seen {
+    fn read<R: Wait>(&mut self, rt: &R) -> Seen {
         let turn = read_turn(
             rt,
             &self.shared,
             &mut self.pass,
-            self.session,
-            reader,
+            FIRST,
+            &mut self.reader,
             &Still,
         );
         self.seen(turn)
     }
 
     /// Whether a turn comes to this.
-    fn reads<R: Wait, S: Read>(
-        &mut self,
-        rt: &R,
-        reader: &mut FrameReader<S, Heap<'a>>,
-        seen: Seen,
-    ) -> bool {
-        self.read(rt, reader) == seen
+    fn reads<R: Wait>(&mut self, rt: &R, seen: Seen) -> bool {
+        self.read(rt) == seen
     }
 
     /// Whether the session has left, and a turn of its reader tells this.
-    fn ends<R: Wait, S: Read>(
-        &mut self,
-        rt: &R,
-        reader: &mut FrameReader<S, Heap<'a>>,
-        answer: AnswerTrace,
-    ) -> bool {
-        self.reads(rt, reader, (Came::Ended, traced(LEAVE, answer)))
+    fn ends<R: Wait>(&mut self, rt: &R, answer: AnswerTrace) -> bool {
+        self.reads(rt, (Came::Ended, traced(LEAVE, answer)))
     }
 
     /// Whether a turn of its writer comes to this.
-    fn writes<R: Wait, O: Write + Drop>(
+    fn writes<R: Wait>(
         &mut self,
         rt: &R,
-        replies: &mut ReplyWriter<O, Heap<'a>>,
         turn: WriteTurn,
         event: EventTrace,
         answer: AnswerTrace,
     ) -> bool {
-        let put = write_turn(rt, &self.shared, &mut self.pass, self.session, replies);
+        let put = write_turn(rt, &self.shared, &mut self.pass, FIRST, &mut self.replies);
         (put, self.pass.last()) == (turn, traced(event, answer))
     }
 
     /// Whether the request that was handed back is offered again, and that comes to this.
     fn offers<R: Wait>(&mut self, rt: &R, seen: Seen) -> bool {
-        let Some(request) = self.held.take() else {
-            return false;
-        };
-        let turn = offer(
-            rt,
-            &self.shared,
-            &mut self.pass,
-            self.session,
-            request,
-            &Still,
-        );
-        self.seen(turn) == seen
+        match self.held.take() {
+            Some(request) => self.offer(rt, request) == seen,
+            None => false,
+        }
+    }
+
+    fn offer<R: Wait>(&mut self, rt: &R, request: Request<Heap<'a>>) -> Seen {
+        let turn = offer(rt, &self.shared, &mut self.pass, FIRST, request, &Still);
+        self.seen(turn)
     }
 
     /// Serves the request that waits. False where none does.
@@ -271,6 +325,76 @@ impl<'a, L: Ledger> Seated<'a, L> {
             }
             None => false,
         }
+    }
+
+    /// The session is gone by another's turn.
+    fn is_gone<R: Wait>(&mut self, rt: &R) -> bool {
+        self.shared.turn_gone(rt, &mut self.pass, FIRST).is_ok()
+    }
+
+    fn into_replies(self) -> Text<'a> {
+        let Seated { replies, .. } = self;
+        replies
+    }
+}
+
+/// What the turns of a session are to come to.
+#[derive(Clone, Copy)]
+enum Trial {
+    /// The READ is held, and the session then gone by another's turn.
+    GoneWhileHeld,
+    /// A request is answered with EINVAL.
+    IsAnswered,
+    /// The session leaves at its reader's first turn. The growth of this number is refused, or none at 0.
+    Leaves(u64),
+    /// A reply's write fails.
+    Fails,
+}
+
+impl Trial {
+    fn holds<'a, L: Ledger, R: Wait>(
+        self,
+        rt: &R,
+        heap: Heap<'a>,
+        one: &mut Seated<'a, L>,
+    ) -> bool {
+        match self {
+            Trial::GoneWhileHeld => going::it_is_gone(rt, one),
+            Trial::IsAnswered => going::is_answered(rt, one),
+            Trial::Leaves(nth) => ending::is_left(rt, heap, one, nth),
+            Trial::Fails => ending::is_dropped(rt, one),
+        }
+    }
+}
+
+/// Whether what was written is the client's text, as far as it took that, and one write failed where it didn't take all.
+fn is_text(replies: Text<'_>, client: Client) -> bool {
+    let writer = replies.into_writer();
+    let failures = writer.failures();
+    let Sink { taken, .. } = writer.into_inner();
+    let end = client.room.min(client.text.len());
+    let cut = (end < client.text.len()) as u64;
+    (failures == cut) & (client.text.get(..end) == Some(taken.as_slice()))
+}
+
+/// Whether a client's session comes out so, and the client is written its text.
+fn comes_out<'a, L: Ledger, R: Wait>(
+    rt: &R,
+    heap: Heap<'a>,
+    blank: Blank,
+    client: Client,
+    trial: Trial,
+) -> bool
+    requires name { blank.name ≡ L.name }
+    requires parts { blank.parts ≡ L.parts }
+    requires one { blank.parts ≡ 1 }
+{
+    match seat_of::<L>(heap, blank, client) {
+        Some(mut one) => {
+            let held = one.sits(rt) && trial.holds(rt, heap, &mut one);
+            held & is_text(one.into_replies(), client)
+        }
+        None => false,
     }
 }
 

@@ -35,16 +35,22 @@ fn enters<'a, L: Ledger, R: Wait>(
 
 /// Whether its session is told by the door.
 fn is_told<'a, L: Ledger, R: Wait>(heap: Heap<'a>, door: &mut Entrance<'a, '_, L, R>) -> bool {
-    let Some(table) = table(heap) else {
-        return false;
-    };
-    door.session() == None && enters(heap, &table, door) && door.session() == Some(SECOND)
+    match table(heap) {
+        Some(table) => {
+            (door.session() == None) & enters(heap, &table, door) & (door.session() == Some(SECOND))
+        }
+        None => false,
+    }
 }
 
 /// The client is given the export's second session.
-fn is_second<'a, L: Ledger, R: Wait>(rt: &R, heap: Heap<'a>, one: Seated<'a, L>) -> bool {
-    let Seated { shared, pass, .. } = one;
-    let mut door = Door::new(rt, &shared, pass);
+fn is_second<'a, L: Ledger, R: Wait>(
+    rt: &R,
+    heap: Heap<'a>,
+    shared: &Tried<'a, L>,
+    pass: Pass<L>,
+) -> bool {
+    let mut door = Door::new(rt, shared, pass);
     let event = EventTrace::Attach { export: 0 };
     let told = is_told(heap, &mut door);
     told & (door.into_pass().last() == traced(event, AnswerTrace::Session(1)))
@@ -55,8 +61,11 @@ fn comes_in<'a, L: Ledger, R: Wait>(rt: &R, heap: Heap<'a>, blank: Blank) -> boo
     requires parts { blank.parts ≡ L.parts }
     requires one { blank.parts ≡ 1 }
 {
-    match opened::<L, R>(rt, heap, blank) {
-        Some(one) => is_second(rt, heap, one),
+    match shared_of::<L>(heap, 1, blank) {
+        Some((shared, mut pass)) => {
+            let sat = shared.turn_attach(rt, &mut pass, 0) == Ok(FIRST);
+            sat & is_second(rt, heap, &shared, pass)
+        }
         None => false,
     }
 }

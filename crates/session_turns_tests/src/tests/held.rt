@@ -12,42 +12,37 @@ const SENT: &[u8; 80] =
 
 type Disks<'a, L> = Booked<L, Flat<Heap<'a>>, Listed<Heap<'a>>>;
 
-type Wire<'a> = FrameReader<&'static [u8], Heap<'a>>;
-
-/// A server whose one session has a window of 2, and the pass that makes its turns.
+/// The server of a session whose window is 2, the pass that makes its turns, and the two ways of its client.
 #[derive(Drop)]
-pub struct Unshared<'a, L: Ledger> {
-    pub disks: Disks<'a, L>,
-    pub pass: Pass<L>,
-    pub session: SessionId,
+pub(super) struct Unshared<'a, L: Ledger> {
+    pub(super) disks: Disks<'a, L>,
+    pub(super) pass: Pass<L>,
+    reader: Wire<'a>,
+    pub(super) replies: Text<'a>,
 }
 
-fn attached<'a, L: Ledger>(heap: Heap<'a>, blank: Blank) -> Option<Unshared<'a, L>>
-    requires name { blank.name ≡ L.name }
-    requires parts { blank.parts ≡ L.parts }
-    requires one { blank.parts ≡ 1 }
-{
-    match shared_of::<L>(heap, 2, blank) {
-        Some((shared, pass)) => taken_apart(shared.end(), pass),
-        None => None,
-    }
-}
-
-fn taken_apart<'a, L: Ledger>(
-    mut disks: Disks<'a, L>,
-    mut pass: Pass<L>,
-) -> Option<Unshared<'a, L>> {
-    match turn_attach(&mut disks, &mut pass, 0) {
-        Ok(session) => Some(Unshared {
-            disks,
-            pass,
-            session,
-        }),
-        Err(_) => None,
+fn taken_apart<'a, L: Ledger>(one: Seated<'a, L>) -> Unshared<'a, L> {
+    let Seated {
+        shared,
+        pass,
+        held: _,
+        reader,
+        replies,
+    } = one;
+    Unshared {
+        disks: shared.end(),
+        pass,
+        reader,
+        replies,
     }
 }
 
 impl<'a, L: Ledger> Unshared<'a, L> {
+    /// Whether the first session is opened.
+    fn sits(&mut self) -> bool {
+        turn_attach(&mut self.disks, &mut self.pass, 0) == Ok(FIRST)
+    }
+
     fn seen(&self, turn: Turn<Heap<'a>>) -> Seen {
         let came = match turn {
             Turn::Going(arrival) => Came::Going(arrival),
@@ -58,19 +53,19 @@ impl<'a, L: Ledger> Unshared<'a, L> {
     }
 
     /// Whether the next request is read and handed in, and that comes to this.
-    fn reads(&mut self, reader: &mut Wire<'a>, seen: Seen) -> bool {
-        let frame = reader.next();
-        let turn = hand_in(&mut self.disks, &mut self.pass, self.session, frame, &Still);
+    fn reads(&mut self, seen: Seen) -> bool {
+        let frame = self.reader.next();
+        let turn = hand_in(&mut self.disks, &mut self.pass, FIRST, frame, &Still);
         self.seen(turn) == seen
     }
 
     /// Hands in the next request, where it was read already.
-    fn read_ready(&mut self, reader: &mut Wire<'a>) -> Option<Seen> {
+    fn read_ready(&mut self) -> Option<Seen> {
         let turn = read_ready(
             &mut self.disks,
             &mut self.pass,
-            self.session,
-            reader,
+            FIRST,
+            &mut self.reader,
             &Still,
         );
         match turn {
@@ -79,8 +74,16 @@ impl<'a, L: Ledger> Unshared<'a, L> {
         }
     }
 
+    /// The first request is read and handed in. The second was read with it, and what there is of the third isn't one.
+    fn are_handed_in(&mut self) -> bool {
+        self.reads(waits(1, 0))
+            && self.reader.ready().len() == 1
+            && self.read_ready() == Some(waits(0, 1))
+            && self.read_ready() == None
+    }
+
     /// Serves a request that waits. False where none does.
-    pub fn serve(&mut self) -> bool {
+    fn serve(&mut self) -> bool {
         match turn_dispatch(&mut self.disks, &mut self.pass, Still.now()) {
             Some(chosen) => {
                 turn_perform(&mut self.disks, &mut self.pass, chosen.ticket) == Some(true)
@@ -89,77 +92,102 @@ impl<'a, L: Ledger> Unshared<'a, L> {
         }
     }
 
+    /// Both requests are served.
+    pub(super) fn serves_both(&mut self) -> bool {
+        self.serve() && self.serve()
+    }
+
     /// Nothing more arrives on the session.
     fn leave(&mut self) -> bool {
-        turn_leave(&mut self.disks, &mut self.pass, self.session).is_ok()
+        turn_leave(&mut self.disks, &mut self.pass, FIRST).is_ok()
     }
 
     /// The session is dropped.
     fn close(&mut self) -> bool {
-        turn_gone(&mut self.disks, &mut self.pass, self.session).is_ok()
+        turn_gone(&mut self.disks, &mut self.pass, FIRST).is_ok()
     }
 
     /// Whether a list with room for so many replies gets those of this text, and why no more.
     fn takes(&mut self, heap: Heap<'a>, room: usize, stop: Stop, text: &[u8]) -> bool {
-        let Ok(mut replies) = Vec::with_capacity(heap, room) else {
-            return false;
-        };
-        take_replies(&mut self.disks, &mut self.pass, self.session, &mut replies) == stop
-            && is_text(heap, &replies, text)
+        match Vec::with_capacity(heap, room) {
+            Ok(mut replies) => {
+                let stopped = take_replies(&mut self.disks, &mut self.pass, FIRST, &mut replies);
+                (stopped == stop) & are_text(heap, &replies, text)
+            }
+            Err(_) => false,
+        }
     }
 }
 
-fn is_text<'a>(heap: Heap<'a>, replies: &[Reply<Heap<'a>>], text: &[u8]) -> bool {
-    let mut writer = Counted::new(Vec::new(heap));
+fn are_put<'a>(replies: &[Reply<Heap<'a>>], writer: &mut Counted<Vec<u8, Heap<'a>>>) -> bool {
     for reply in replies {
-        if put_reply(reply, &mut writer).is_err() {
+        if put_reply(reply, writer).is_err() {
             return false;
         }
     }
-    writer.into_inner().as_slice() == text
+    true
 }
 
-/// The first request is read and handed in. The second was read with it, and what there is of the third isn't one.
-fn are_handed_in<'a, L: Ledger>(one: &mut Unshared<'a, L>, reader: &mut Wire<'a>) -> bool {
-    one.reads(reader, waits(1, 0))
-        && reader.ready().len() == 1
-        && one.read_ready(reader) == Some(waits(0, 1))
-        && one.read_ready(reader) == None
+fn are_text<'a>(heap: Heap<'a>, replies: &[Reply<Heap<'a>>], text: &[u8]) -> bool {
+    let mut writer = Counted::new(Vec::new(heap));
+    let put = are_put(replies, &mut writer);
+    put & (writer.into_inner().as_slice() == text)
 }
 
-fn all_go_in<'a, L: Ledger>(heap: Heap<'a>, one: &mut Unshared<'a, L>) -> bool {
-    let mut reader = FrameReader::new(heap, Counted::new(SENT.as_slice()));
-    are_handed_in(one, &mut reader)
+/// What becomes of both requests, once they are handed in.
+#[derive(Clone, Copy)]
+enum Both {
+    /// They are left so.
+    HandedIn,
+    /// Their replies are taken in a row.
+    Taken,
+    /// Their replies are written, in the order in which they were taken.
+    Written,
+    /// They are written, one of them made ready.
+    MadeReady,
 }
 
-/// A session whose two requests are handed in.
-fn asked<'a, L: Ledger>(heap: Heap<'a>, blank: Blank) -> Option<Unshared<'a, L>>
-    requires name { blank.name ≡ L.name }
-    requires parts { blank.parts ≡ L.parts }
-    requires one { blank.parts ≡ 1 }
-{
-    let Some(mut one) = attached::<L>(heap, blank) else {
-        return None;
-    };
-    if all_go_in(heap, &mut one) {
-        Some(one)
-    } else {
-        None
+fn holds<'a, L: Ledger>(heap: Heap<'a>, one: &mut Unshared<'a, L>, both: Both) -> bool {
+    match both {
+        Both::HandedIn => true,
+        Both::Taken => are_taken(heap, one) && none_is_taken(heap, one),
+        Both::Written => writing::in_order(one),
+        Both::MadeReady => writing::ready_first(heap, one),
     }
 }
 
-fn goes_in<'a, L: Ledger>(heap: Heap<'a>, blank: Blank) -> bool
+/// Whether two requests of a session are handed in, all comes out so, and the client is written its text.
+fn comes_out_held<'a, L: Ledger>(
+    heap: Heap<'a>,
+    blank: Blank,
+    text: &'static [u8],
+    both: Both,
+) -> bool
     requires name { blank.name ≡ L.name }
     requires parts { blank.parts ≡ L.parts }
     requires one { blank.parts ≡ 1 }
 {
-    asked::<L>(heap, blank).is_some()
+    let client = Client {
+        window: 2,
+        row: 3,
+        text,
+        ..client_of(SENT.as_slice())
+    };
+    match seat_of::<L>(heap, blank, client) {
+        Some(seated) => {
+            let mut one = taken_apart(seated);
+            let went = one.sits() && one.are_handed_in() && holds(heap, &mut one, both);
+            let Unshared { replies, .. } = one;
+            went & is_text(replies, client)
+        }
+        None => false,
+    }
 }
 
 #[test]
 fn what_was_read_is_handed_in(rt: HostRuntime) {
     let heap = Refusing::new(rt.alloc(), 0);
-    assert!(rt; goes_in::<Brand>(&heap, Blank::new(1)));
+    assert!(rt; comes_out_held::<Brand>(&heap, Blank::new(1), b"", Both::HandedIn));
 }
 
 /// The reply to the WRITE.
@@ -171,8 +199,7 @@ const OF_READ: &[u8; 20] =
 
 /// Both requests are served, and both replies are taken.
 fn are_taken<'a, L: Ledger>(heap: Heap<'a>, one: &mut Unshared<'a, L>) -> bool {
-    one.serve()
-        && one.serve()
+    one.serves_both()
         && one.takes(heap, 1, Stop::Full, OF_WRITE.as_slice())
         && one.takes(heap, 3, Stop::Empty, OF_READ.as_slice())
 }
@@ -185,31 +212,27 @@ fn none_is_taken<'a, L: Ledger>(heap: Heap<'a>, one: &mut Unshared<'a, L>) -> bo
         && one.takes(heap, 3, Stop::Refused(SessionRefusal::NotOpen), b"")
 }
 
-fn takes_in_a_row<'a, L: Ledger>(heap: Heap<'a>, blank: Blank) -> bool
-    requires name { blank.name ≡ L.name }
-    requires parts { blank.parts ≡ L.parts }
-    requires one { blank.parts ≡ 1 }
-{
-    match asked::<L>(heap, blank) {
-        Some(mut one) => are_taken(heap, &mut one) && none_is_taken(heap, &mut one),
-        None => false,
-    }
-}
-
 #[test]
 fn replies_are_taken_in_a_row(rt: HostRuntime) {
     let heap = Refusing::new(rt.alloc(), 0);
-    assert!(rt; takes_in_a_row::<Brand>(&heap, Blank::new(1)));
+    assert!(rt; comes_out_held::<Brand>(&heap, Blank::new(1), b"", Both::Taken));
 }
 
-/// Whether replies are written by one of the two ways, and what was written is this text.
-pub fn writes<'a, L: Ledger>(heap: Heap<'a>, blank: Blank, is_ready: bool, text: &[u8]) -> bool
+/// Whether both replies are written, and what was written is this text.
+pub(super) fn writes<'a, L: Ledger>(
+    heap: Heap<'a>,
+    blank: Blank,
+    is_ready: bool,
+    text: &'static [u8],
+) -> bool
     requires name { blank.name ≡ L.name }
     requires parts { blank.parts ≡ L.parts }
     requires one { blank.parts ≡ 1 }
 {
-    match asked::<L>(heap, blank) {
-        Some(mut one) => writing::is_written(heap, &mut one, is_ready, text),
-        None => false,
-    }
+    let both = if is_ready {
+        Both::MadeReady
+    } else {
+        Both::Written
+    };
+    comes_out_held::<L>(heap, blank, text, both)
 }

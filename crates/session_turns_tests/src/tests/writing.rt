@@ -3,6 +3,7 @@ ghost use Rattle.std.specs.Prelude.{◌≡◌};
 
 use super::held::{Unshared, writes};
 use super::*;
+use nbd_wire::Reply;
 
 /// The replies to the READ and then the WRITE.
 const TURNED_ROUND: &[u8; 36] =
@@ -13,12 +14,14 @@ fn has(replies: &Text<'_>, unwritten: usize, data: usize, bytes: usize) -> bool 
     replies.unwritten() == unwritten && replies.data() == data && replies.bytes() == bytes
 }
 
-/// One reply is taken, and then what there is besides. Both are written.
-fn in_order<'a, L: Ledger>(one: &mut Unshared<'a, L>, replies: &mut Text<'a>) -> bool {
-    let first = replies.take_one(&mut one.disks, &mut one.pass, one.session) == Stop::Full;
-    let waits = has(replies, 1, 0, 16);
-    let all = replies.take(&mut one.disks, &mut one.pass, one.session) == Stop::Empty;
-    first & waits & all & has(replies, 2, 4, 36)
+/// One reply is taken.
+fn takes_one<'a, L: Ledger>(one: &mut Unshared<'a, L>) -> bool {
+    one.replies.take_one(&mut one.disks, &mut one.pass, FIRST) == Stop::Full
+}
+
+/// What there is besides is taken.
+fn takes_all<'a, L: Ledger>(one: &mut Unshared<'a, L>) -> bool {
+    one.replies.take(&mut one.disks, &mut one.pass, FIRST) == Stop::Empty
 }
 
 /// What waits is written and sent, and none waits.
@@ -26,56 +29,46 @@ fn go_out(replies: &mut Text<'_>) -> bool {
     replies.write().is_ok() && replies.unwritten() == 0 && replies.send().is_ok()
 }
 
-/// The READ's reply is made ready, in memory that has other bytes.
-fn made_ready<'a, L: Ledger>(
-    heap: Heap<'a>,
-    one: &mut Unshared<'a, L>,
-) -> Option<ReadyReply<Heap<'a>>> {
-    let Ok(memory) = Vec::from_array(heap, *b"old") else {
-        return None;
-    };
-    match take_reply(&mut one.disks, &mut one.pass, one.session) {
-        Ok(reply) => Some(ReadyReply::of(reply, memory, 4)),
+/// Both requests are served. One reply is taken, and then what there is besides. Both are written.
+pub(super) fn in_order<'a, L: Ledger>(one: &mut Unshared<'a, L>) -> bool {
+    one.serves_both()
+        && takes_one(one)
+        && has(&one.replies, 1, 0, 16)
+        && takes_all(one)
+        && has(&one.replies, 2, 4, 36)
+        && go_out(&mut one.replies)
+}
+
+/// A reply made ready, in memory that has other bytes.
+fn ready_of<'a>(heap: Heap<'a>, reply: Reply<Heap<'a>>) -> Option<ReadyReply<Heap<'a>>> {
+    match Vec::from_array(heap, *b"old") {
+        Ok(memory) => Some(ReadyReply::of(reply, memory, 4)),
         Err(_) => None,
     }
 }
 
-/// It goes before the WRITE's, which was taken first and waits.
-fn goes_first<'a, L: Ledger>(
+/// The READ's reply is made ready.
+fn made_ready<'a, L: Ledger>(
     heap: Heap<'a>,
     one: &mut Unshared<'a, L>,
-    replies: &mut Text<'a>,
-) -> bool {
-    if replies.take_one(&mut one.disks, &mut one.pass, one.session) != Stop::Full {
-        return false;
+) -> Option<ReadyReply<Heap<'a>>> {
+    match take_reply(&mut one.disks, &mut one.pass, FIRST) {
+        Ok(reply) => ready_of(heap, reply),
+        Err(_) => None,
     }
+}
+
+/// It is written.
+fn goes_first<'a, L: Ledger>(heap: Heap<'a>, one: &mut Unshared<'a, L>) -> bool {
     match made_ready(heap, one) {
-        Some(ready) => ready.data() == 4 && replies.write_ready(&ready).is_ok(),
+        Some(ready) => (ready.data() == 4) & one.replies.write_ready(&ready).is_ok(),
         None => false,
     }
 }
 
-/// Both requests are served, and their replies written by one of the two ways: this text.
-pub fn is_written<'a, L: Ledger>(
-    heap: Heap<'a>,
-    one: &mut Unshared<'a, L>,
-    is_ready: bool,
-    text: &[u8],
-) -> bool {
-    if !one.serve() || !one.serve() {
-        return false;
-    }
-    let Ok(mut replies) = ReplyWriter::new(heap, Vec::new(heap), 3) else {
-        return false;
-    };
-    let begun = if is_ready {
-        goes_first(heap, one, &mut replies)
-    } else {
-        in_order(one, &mut replies)
-    };
-    let out = go_out(&mut replies);
-    let written = replies.into_writer().into_inner();
-    begun & out & (written.as_slice() == text)
+/// Both requests are served. The READ's reply goes before the WRITE's, which was taken first and waits.
+pub(super) fn ready_first<'a, L: Ledger>(heap: Heap<'a>, one: &mut Unshared<'a, L>) -> bool {
+    one.serves_both() && takes_one(one) && goes_first(heap, one) && go_out(&mut one.replies)
 }
 
 #[test]

@@ -1,4 +1,4 @@
 use Rattle.session_turns_tests.proofs.tests.ending.refused_memory_leaves.Given as goal
 
-abbrev pub ghosts-leaves : goal.ghosts-leaves
-ghosts-leaves g a = record { name = a.blank.name; parts = a.blank.parts }
+abbrev pub ghosts-comes_out : goal.ghosts-comes_out
+ghosts-comes_out g a = record { name = a.blank.name; parts = a.blank.parts }
