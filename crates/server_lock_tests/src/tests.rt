@@ -1,4 +1,4 @@
-ghost use Rattle.std.specs.Prelude.{◌≡◌};
+ghost use Rattle.std.specs.Prelude.{◌≡◌, ◌≤◌};
 
 mod lines;
 mod scripts;
@@ -28,6 +28,9 @@ type Live<E> = Server<Paged<Global>, E>;
 
 type Tried<L> = Shared<L, Paged<Global>, Heaped<Global>>;
 
+// Each export by its reservation, limit, weight, depth and window; and how many requests may be in service.
+type Exports<'a> = (&'a [[u64; 5]], u64);
+
 const FIRST: SessionId = SessionId {
     export: 0,
     number: 0,
@@ -38,8 +41,8 @@ const SECOND: SessionId = SessionId {
     number: 1,
 };
 
-// An export's reservation, limit, weight, depth and window where nothing else is said.
-const PLAIN: [u64; 5] = [0, 0, 1, 1024, 256];
+// What is served where nothing else is said.
+const PLAIN: Exports<'static> = (&[[0, 0, 1, 1024, 256]], 32);
 
 // Of an export of 4,096 bytes.
 fn settings(name: &'static [u8], rates: &[u64; 5]) -> ExportSettings<'static> {
@@ -52,29 +55,24 @@ fn settings(name: &'static [u8], rates: &[u64; 5]) -> ExportSettings<'static> {
     settings
 }
 
-fn config_of<A: Allocator + Copy>(
-    alloc: A,
-    exports: &[[u64; 5]],
-    inflight: u64,
-) -> Option<Config<A>> {
+fn config_of<A: Allocator + Copy>(alloc: A, exports: Exports<'_>) -> Option<Config<A>> {
     let mut list = ExportList::new(alloc);
-    for (name, rates) in [b"a", b"b"].iter().zip(exports) {
+    for (name, rates) in [b"a", b"b"].iter().zip(exports.0) {
         if list.add(&settings(name.as_slice(), rates)).is_err() {
             return None;
         }
     }
-    Config::new(list, inflight).ok()
+    Config::new(list, exports.1).ok()
 }
 
 fn server_of<E: Eligibility<Alloc = A>, A: Allocator + Copy>(
     alloc: A,
-    exports: &[[u64; 5]],
-    inflight: u64,
+    exports: Exports<'_>,
 ) -> Option<Server<Paged<A>, E>> {
-    let Some(config) = config_of(alloc, exports, inflight) else {
-        return None;
-    };
-    Server::new(alloc, &config).ok()
+    match config_of(alloc, exports) {
+        Some(config) => Server::new(alloc, &config).ok(),
+        None => None,
+    }
 }
 
 // A read of four bytes.
@@ -114,33 +112,18 @@ fn write_of(alloc: Global, cookie: u64) -> Option<Request<Global>> {
     Some(Request::new(head, payload))
 }
 
-// A shared server, and its only pass.
-fn alone<L: Ledger>(alloc: Global, blank: Blank) -> Option<(Tried<L>, Pass<L>)>
-    requires name { blank.name ≡ L.name }
-    requires parts { blank.parts ≡ L.parts }
-    requires one { blank.parts ≡ 1 }
-{
-    let Some(server) = server_of(alloc, &[PLAIN], 32) else {
-        return None;
-    };
-    shared_alone(alloc, server, blank)
-}
-
 // A server that is shared, and its only pass.
-fn shared_alone<L: Ledger>(
+fn shared_of<L: Ledger>(
     alloc: Global,
-    server: Server<Paged<Global>, Heaped<Global>>,
+    exports: Exports<'_>,
     blank: Blank,
-) -> Option<(Tried<L>, Pass<L>)>
+) -> Option<(Tried<L>, Vec<Pass<L>>)>
     requires name { blank.name ≡ L.name }
     requires parts { blank.parts ≡ L.parts }
     requires one { blank.parts ≡ 1 }
 {
-    let Ok((shared, mut passes)) = Tried::<L>::new(alloc, server, blank, 1) else {
-        return None;
-    };
-    match passes.pop() {
-        Some(pass) => Some((shared, pass)),
+    match server_of(alloc, exports) {
+        Some(server) => Tried::<L>::new(alloc, server, blank, 1).ok(),
         None => None,
     }
 }
@@ -156,12 +139,69 @@ fn settled<L: Ledger, E: Eligibility<Alloc = A>, A: Allocator + Copy>(
     Some(settle(booked, passes))
 }
 
-fn settled_alone<L: Ledger>(alloc: Global, shared: Tried<L>, pass: Pass<L>) -> Option<u128> {
-    let mut passes = Vec::new(alloc);
-    if passes.push(pass).is_err() {
-        return None;
+// What is done with a server that is shared, by its only pass.
+#[derive(Clone, Copy)]
+enum Play<'a> {
+    Sessions,
+    Due,
+    // The turns of a script.
+    Script(&'a str),
+}
+
+fn goes<L: Ledger, R: Wait>(
+    rt: &R,
+    alloc: Global,
+    shared: &Tried<L>,
+    pass: &mut Pass<L>,
+    play: Play<'_>,
+) -> bool {
+    match play {
+        Play::Sessions => two_sessions(rt, alloc, shared, pass),
+        Play::Due => tells_due(rt, shared, pass),
+        Play::Script(turns) => wrappers::answers_each(rt, alloc, shared, pass, turns),
     }
-    settled(shared.end(), passes)
+}
+
+fn steps_of<L: Ledger, R: Wait>(rt: &R, shared: &Tried<L>) -> u128 {
+    shared.hold(rt).server().steps()
+}
+
+// The server's steps behind a play that goes as it should.
+fn steps_behind<L: Ledger, R: Wait>(
+    rt: &R,
+    alloc: Global,
+    shared: &Tried<L>,
+    passes: &mut Vec<Pass<L>>,
+    play: Play<'_>,
+) -> Option<u128> {
+    let Some(pass) = passes.get_mut(0) else {
+        return None;
+    };
+    if goes(rt, alloc, shared, pass, play) {
+        Some(steps_of(rt, shared))
+    } else {
+        None
+    }
+}
+
+// Whether a play goes as it should, and the steps that are settled are those that the server counted.
+fn plays<L: Ledger, R: Wait>(
+    rt: &R,
+    alloc: Global,
+    exports: Exports<'_>,
+    blank: Blank,
+    play: Play<'_>,
+) -> bool
+    requires name { blank.name ≡ L.name }
+    requires parts { blank.parts ≡ L.parts }
+    requires one { blank.parts ≡ 1 }
+{
+    let Some((shared, mut passes)) = shared_of::<L>(alloc, exports, blank) else {
+        return false;
+    };
+    let steps = steps_behind(rt, alloc, &shared, &mut passes, play);
+    let ended = settled(shared.end(), passes);
+    steps.is_some() && ended == steps
 }
 
 // Whether the first session's WRITE arrives.
@@ -265,78 +305,65 @@ fn leaves<L: Ledger, R: Wait>(rt: &R, shared: &Tried<L>, pass: &mut Pass<L>) -> 
         && shared.turn_gone(rt, pass, SECOND).is_ok()
 }
 
-#[derive(Clone, Copy)]
-struct Ran {
-    opened: bool,
-    written: bool,
-    read: bool,
-    taken: bool,
-    left: bool,
-    last: Option<Trace>,
-    turns: u64,
-    held: u64,
-    steps: Option<u128>,
-}
-
-fn two_sessions<L: Ledger, R: Wait>(rt: &R, alloc: Global, blank: Blank) -> Option<Ran>
-    requires name { blank.name ≡ L.name }
-    requires parts { blank.parts ≡ L.parts }
-    requires one { blank.parts ≡ 1 }
-{
-    let Some((shared, mut pass)) = alone::<L>(alloc, blank) else {
-        return None;
-    };
-    let first = shared.turn_attach(rt, &mut pass, 0) == Ok(FIRST);
-    let second = shared.turn_attach(rt, &mut pass, 0) == Ok(SECOND);
-    let sent = is_sent(rt, alloc, &shared, &mut pass);
-    let performed = is_performed_once(rt, &shared, &mut pass);
-    let read = is_read(rt, &shared, &mut pass);
-    let taken = are_taken(rt, &shared, &mut pass);
-    let left = leaves(rt, &shared, &mut pass);
-    let (last, turns, held) = (pass.last(), pass.turns(), pass.held());
-    Some(Ran {
-        opened: first && second,
-        written: sent && performed,
-        read,
-        taken,
-        left,
-        last,
-        turns,
-        held,
-        steps: settled_alone(alloc, shared, pass),
-    })
-}
-
-#[test]
-fn gone_is_still_served(rt: HostRuntime) {
-    let ran = two_sessions::<Brand, _>(&rt, rt.alloc(), Blank::new(1)).expect(&rt, "a server");
-    assert!(rt; ran.opened, "opened");
-    assert!(rt; ran.written, "written");
-    assert!(rt; ran.read, "read");
-    assert!(rt; ran.taken, "taken");
-    assert!(rt; ran.left, "left");
+// Whether the pass remembers that the second session has gone, as the last of its turns, and holds nothing.
+fn remembers<L: Ledger>(pass: &Pass<L>) -> bool {
     let event = EventTrace::Gone {
         export: 0,
         session: 1,
     };
     let answer = AnswerTrace::Dropped;
-    assert!(rt; ran.last == Some(Trace { event, answer }));
-    assert!(rt; (ran.turns, ran.held) == (16, 0));
-    assert!(rt; ran.steps == Some(12));
+    pass.last() == Some(Trace { event, answer }) && (pass.turns(), pass.held()) == (16, 0)
 }
 
-type Old<A> = Server<Paged<A>, Listed<A>>;
+fn are_opened<L: Ledger, R: Wait>(rt: &R, shared: &Tried<L>, pass: &mut Pass<L>) -> bool {
+    shared.turn_attach(rt, pass, 0) == Ok(FIRST) && shared.turn_attach(rt, pass, 0) == Ok(SECOND)
+}
 
-// Seven counted steps: of three requests one is performed, one is in service and one waits.
-fn serves<A: Allocator + Copy>(server: &mut Old<A>) -> bool {
-    if server.attach(0) != Ok(FIRST) {
-        return false;
-    }
+fn two_sessions<L: Ledger, R: Wait>(
+    rt: &R,
+    alloc: Global,
+    shared: &Tried<L>,
+    pass: &mut Pass<L>,
+) -> bool {
+    are_opened(rt, shared, pass)
+        && is_sent(rt, alloc, shared, pass)
+        && is_performed_once(rt, shared, pass)
+        && is_read(rt, shared, pass)
+        && are_taken(rt, shared, pass)
+        && leaves(rt, shared, pass)
+        && remembers(pass)
+        && steps_of(rt, shared) == 12
+}
+
+#[test]
+fn gone_is_still_served(rt: HostRuntime) {
+    let well = plays::<Brand, _>(&rt, rt.alloc(), PLAIN, Blank::new(1), Play::Sessions);
+    assert!(rt; well);
+}
+
+type Memory<'a> = &'a Refusing<Global>;
+
+type Old<'a> = Server<Paged<Memory<'a>>, Listed<Memory<'a>>>;
+
+type Opened<'a, L> = Shared<L, Paged<Memory<'a>>, Listed<Memory<'a>>>;
+
+type Ended<'a, L> = Booked<L, Paged<Memory<'a>>, Listed<Memory<'a>>>;
+
+// Whether three requests wait.
+fn are_sent(server: &mut Old) -> bool {
     for cookie in 0..3u64 {
         let request = flush_of(cookie);
         if server.arrive(FIRST, Moment::zero(), request).is_err() {
             return false;
         }
+    }
+    true
+}
+
+// Seven counted steps: of three requests one is performed, one is in service and one waits.
+fn serves(server: &mut Old) -> bool {
+    if server.attach(0) != Ok(FIRST) || !are_sent(server) {
+        return false;
     }
     let Some(chosen) = server.dispatch(Moment::zero()) else {
         return false;
@@ -344,19 +371,8 @@ fn serves<A: Allocator + Copy>(server: &mut Old<A>) -> bool {
     server.dispatch(Moment::zero()).is_some() && server.perform(chosen.ticket).is_some()
 }
 
-fn served<A: Allocator + Copy>(alloc: A) -> Option<Old<A>> {
-    let Some(mut server) = server_of(alloc, &[PLAIN], 32) else {
-        return None;
-    };
-    if serves(&mut server) {
-        Some(server)
-    } else {
-        None
-    }
-}
-
 // Whether a server shows those steps: its count, what waits, and the requests that are found in service.
-fn is_served<A: Allocator + Copy>(server: &Old<A>) -> bool {
+fn is_served(server: &Old) -> bool {
     server.steps() == 7
         && server.waiting() == 1
         && server.find(0, 0).is_none()
@@ -365,90 +381,96 @@ fn is_served<A: Allocator + Copy>(server: &Old<A>) -> bool {
 }
 
 // Whether the tags of what waits in such a server are those of the third of three arrivals at the first moment.
-fn has_tags<A: Allocator + Copy>(alloc: A, server: &Old<A>) -> bool {
+fn has_tags<'a>(memory: Memory<'a>, server: &Old<'a>) -> bool {
     let third = Tags {
         r: None,
         l: 0,
         p: 2_000_000_000,
     };
-    match server.tags(alloc, 0) {
+    match server.tags(memory, 0) {
         Ok(told) => told.as_slice() == [(2, third)].as_slice(),
         Err(_) => false,
     }
 }
 
+fn becomes_served<'a>(memory: Memory<'a>, server: &mut Old<'a>) -> bool {
+    serves(server) && is_served(server) && has_tags(memory, server)
+}
+
+fn served<'a>(memory: Memory<'a>) -> Option<Old<'a>> {
+    let Some(mut server) = server_of(memory, PLAIN) else {
+        return None;
+    };
+    if becomes_served(memory, &mut server) {
+        Some(server)
+    } else {
+        None
+    }
+}
+
 // Whether a sweep leaves such a server as it was, and its base's catching up.
-fn is_swept<L: Ledger>(
-    alloc: Global,
-    booked: &mut Booked<L, Paged<Global>, Listed<Global>>,
-) -> bool {
-    let Ok(mut outdated) = Outdated::with_room(alloc, 4) else {
+fn is_swept<'a, L: Ledger>(memory: Memory<'a>, booked: &mut Ended<'a, L>) -> bool {
+    let Ok(mut outdated) = Outdated::with_room(memory, 4) else {
         return false;
     };
     booked.sweep(0, &mut outdated);
     booked.catch_up(0, 1);
-    is_served(booked.server()) && has_tags(alloc, booked.server())
+    is_served(booked.server()) && has_tags(memory, booked.server())
 }
 
-// Whether such a server is as it was before it was shared, and behind that; and what is settled.
-fn opened_and_ended<L: Ledger>(alloc: Global, blank: Blank) -> Option<(bool, bool, Option<u128>)>
+// Whether a server that was shared is as it was before. A sweep takes memory, and goes only where none is refused any more.
+fn is_kept<'a, L: Ledger>(memory: Memory<'a>, booked: &mut Ended<'a, L>) -> bool {
+    is_served(booked.server()) && (memory.is_armed() || is_swept(memory, booked))
+}
+
+// The same, and its seven steps are settled.
+fn ends<'a, L: Ledger>(
+    memory: Memory<'a>,
+    shared: Opened<'a, L>,
+    passes: Vec<Pass<L>, Memory<'a>>,
+) -> bool {
+    let mut booked = shared.end();
+    let kept = is_kept(memory, &mut booked);
+    settled(booked, passes) == Some(7) && kept
+}
+
+// The same where the growth that was to be refused was: the server and the blank came back, with which this call succeeds.
+fn opens_again<'a, L: Ledger>(memory: Memory<'a>, server: Old<'a>, blank: Blank, n: u64) -> bool
+    requires some { 1 ≤ n }
     requires name { blank.name ≡ L.name }
     requires parts { blank.parts ≡ L.parts }
-    requires three { blank.parts ≡ 3 }
+    requires passes { n ≡ blank.parts }
 {
-    let Some(server) = served(alloc) else {
-        return None;
+    let back = !memory.is_armed() && is_served(&server);
+    match Opened::<'a, L>::new(memory, server, blank, n) {
+        Ok((shared, passes)) => ends(memory, shared, passes) && back,
+        Err(_) => false,
+    }
+}
+
+// Whether a server is shared, at the second time where this growth is refused, and then ended.
+fn opens<'a, L: Ledger>(memory: Memory<'a>, blank: Blank, n: u64, nth: u64) -> bool
+    requires some { 1 ≤ n }
+    requires name { blank.name ≡ L.name }
+    requires parts { blank.parts ≡ L.parts }
+    requires passes { n ≡ blank.parts }
+{
+    let Some(server) = served(memory) else {
+        return false;
     };
-    let before = is_served(&server) && has_tags(alloc, &server);
-    let made = Shared::<L, Paged<Global>, Listed<Global>>::new(alloc, server, blank, 3);
-    let Ok((shared, passes)) = made else {
-        return None;
-    };
-    let mut booked = shared.end();
-    let behind = is_swept(alloc, &mut booked);
-    Some((before, behind, settled(booked, passes)))
+    memory.arm(nth);
+    match Opened::<'a, L>::new(memory, server, blank, n) {
+        Ok((shared, passes)) => ends(memory, shared, passes),
+        Err((_, server, blank)) => opens_again::<L>(memory, server, blank, n),
+    }
 }
 
 // The steps counted so far are the first pass's share, and nothing else changes.
 #[test]
 fn earlier_steps_are_settled(rt: HostRuntime) {
-    let ended = opened_and_ended::<Brand>(rt.alloc(), Blank::new(3));
-    assert!(rt; ended == Some((true, true, Some(7))));
-}
-
-type Memory<'a> = &'a Refusing<Global>;
-
-type Opened<'a, L> = Shared<L, Paged<Memory<'a>>, Listed<Memory<'a>>>;
-
-type Ended = (bool, Option<u128>);
-
-// Whether a server that is shared is as it was before, and what is settled.
-fn ended<'a, L: Ledger>(shared: Opened<'a, L>, passes: Vec<Pass<L>, Memory<'a>>) -> Ended {
-    let booked = shared.end();
-    (is_served(booked.server()), settled(booked, passes))
-}
-
-// The same where this growth is refused: the server and the blank come back, with which the next call succeeds.
-fn refused_then_opened<'a, L: Ledger>(memory: Memory<'a>, blank: Blank, nth: u64) -> Option<Ended>
-    requires name { blank.name ≡ L.name }
-    requires parts { blank.parts ≡ L.parts }
-    requires two { blank.parts ≡ 2 }
-{
-    let Some(server) = served(memory) else {
-        return None;
-    };
-    memory.arm(nth);
-    let (server, blank) = match Opened::<'a, L>::new(memory, server, blank, 2) {
-        Ok((shared, passes)) => return Some(ended(shared, passes)),
-        Err((_, server, blank)) => (server, blank),
-    };
-    if memory.is_armed() || !is_served(&server) {
-        return None;
-    }
-    match Opened::<'a, L>::new(memory, server, blank, 2) {
-        Ok((shared, passes)) => Some(ended(shared, passes)),
-        Err(_) => None,
-    }
+    let memory = Refusing::new(rt.alloc(), 0);
+    let well = opens::<Brand>(&memory, Blank::new(3), 3, 0);
+    assert!(rt; well);
 }
 
 // There is one growth: the second isn't come to.
@@ -456,8 +478,8 @@ fn refused_then_opened<'a, L: Ledger>(memory: Memory<'a>, blank: Blank, nth: u64
 fn refused_memory_hands_back(rt: HostRuntime) {
     for nth in 1..3u64 {
         let memory = Refusing::new(rt.alloc(), 0);
-        let opened = refused_then_opened::<Brand>(&memory, Blank::new(2), nth);
-        assert!(rt; opened == Some((true, Some(7))) && memory.is_armed() == (nth == 2));
+        let well = opens::<Brand>(&memory, Blank::new(2), 2, nth);
+        assert!(rt; well && memory.is_armed() == (nth == 2));
     }
 }
 
@@ -473,19 +495,9 @@ fn tells_due<L: Ledger, R: Wait>(rt: &R, shared: &Tried<L>, pass: &mut Pass<L>) 
     shared.turn_arrive(rt, pass, FIRST, late, request).is_ok() && shared.next_due(rt) == Some(late)
 }
 
-fn told_due<L: Ledger, R: Wait>(rt: &R, alloc: Global, blank: Blank) -> bool
-    requires name { blank.name ≡ L.name }
-    requires parts { blank.parts ≡ L.parts }
-    requires one { blank.parts ≡ 1 }
-{
-    let Some((shared, mut pass)) = alone::<L>(alloc, blank) else {
-        return false;
-    };
-    tells_due(rt, &shared, &mut pass)
-}
-
 // What is due next is told through the lock.
 #[test]
 fn what_is_due_is_told(rt: HostRuntime) {
-    assert!(rt; told_due::<Brand, _>(&rt, rt.alloc(), Blank::new(1)));
+    let well = plays::<Brand, _>(&rt, rt.alloc(), PLAIN, Blank::new(1), Play::Due);
+    assert!(rt; well);
 }

@@ -85,35 +85,45 @@ pub fn event_of(alloc: Global, line: &str) -> Option<Event<Global>> {
     }
 }
 
-fn reply_text(alloc: Global, reply: &Reply<Global>) -> Option<String<Global>> {
+// Adds a reply's numbers and its data.
+fn is_reply_told(text: &mut String<Global>, alloc: Global, reply: &Reply<Global>) -> bool {
     let mut content = Vec::new(alloc);
     if reply.content().append(&mut content).is_err() {
-        return None;
+        return false;
     }
     let (cookie, error) = (reply.cookie(), reply.error());
-    format!(in alloc; "reply {cookie} {error} {content:?}").ok()
+    write!(text, "reply {cookie} {error} {content:?}").is_ok()
 }
 
-pub fn text_of(alloc: Global, answer: &Answer<Global>) -> Option<String<Global>> {
+// Adds an answer.
+fn is_told(text: &mut String<Global>, alloc: Global, answer: &Answer<Global>) -> bool {
     match answer {
-        Answer::Session(number) => format!(in alloc; "session {number}").ok(),
+        Answer::Session(number) => write!(text, "session {number}").is_ok(),
         Answer::Accepted { number, limit_tag } => {
-            format!(in alloc; "accepted {number} {limit_tag}").ok()
+            write!(text, "accepted {number} {limit_tag}").is_ok()
         }
-        Answer::Answered(error) => format!(in alloc; "answered {error}").ok(),
+        Answer::Answered(error) => write!(text, "answered {error}").is_ok(),
         Answer::Picked {
             export,
             number,
-            phase,
-        } => {
-            let phase = match phase {
-                Phase::Reservation => "reservation",
-                Phase::Weight => "weight",
-            };
-            format!(in alloc; "{phase} {export} {number}").ok()
-        }
-        Answer::Reply(reply) => reply_text(alloc, reply),
-        other => String::from_str(alloc, word_of(other)).ok(),
+            phase: Phase::Reservation,
+        } => write!(text, "reservation {export} {number}").is_ok(),
+        Answer::Picked {
+            export,
+            number,
+            phase: Phase::Weight,
+        } => write!(text, "weight {export} {number}").is_ok(),
+        Answer::Reply(reply) => is_reply_told(text, alloc, reply),
+        other => text.push_str(word_of(other)).is_ok(),
+    }
+}
+
+pub fn text_of(alloc: Global, answer: &Answer<Global>) -> Option<String<Global>> {
+    let mut text = String::new(alloc);
+    if is_told(&mut text, alloc, answer) {
+        Some(text)
+    } else {
+        None
     }
 }
 

@@ -1,15 +1,13 @@
 //! Scripts of events, each on a server, by `run` and through the lock, with both forms of eligibility where there is no lock.
 //! The expected tags, choices and answers were worked out from the rules of the scheduler, apart from this program.
-ghost use Rattle.std.specs.Prelude.{◌≡◌};
 
 use super::lines::{event_of, tags_of, text_of};
-use super::wrappers::goes_under_lock;
 use super::*;
 use server_core::run;
 
 // What a script shows; its exports, each by its reservation, limit, weight, depth and window; how many requests may be in
 // service; and its turns, `EVENT: ANSWER`.
-pub type Script<'a> = (&'a str, &'a [[u64; 5]], u64, &'a str);
+type Script<'a> = (&'a str, &'a [[u64; 5]], u64, &'a str);
 
 const SCRIPTS: [Script<'static>; 18] = [
     (
@@ -258,10 +256,10 @@ fn answers_each<E: Eligibility<Alloc = Global>>(
 
 // Whether a server answers each turn of a script as it says.
 fn serves<E: Eligibility<Alloc = Global>>(alloc: Global, script: &Script) -> bool {
-    let Some(mut server) = server_of::<E, _>(alloc, script.1, script.2) else {
-        return false;
-    };
-    answers_each(alloc, &mut server, script.3)
+    match server_of::<E, _>(alloc, (script.1, script.2)) {
+        Some(mut server) => answers_each(alloc, &mut server, script.3),
+        None => false,
+    }
 }
 
 // Adds the event of a turn, where it is one.
@@ -314,21 +312,23 @@ fn are_told(alloc: Global, answers: &[Answer<Global>], turns: &str) -> bool {
 
 fn answers_of<E: Eligibility<Alloc = Global>>(
     alloc: Global,
-    script: &Script,
+    config: &Config<Global>,
+    turns: &str,
 ) -> Option<Vec<Answer<Global>>> {
-    let Some(config) = config_of(alloc, script.1, script.2) else {
-        return None;
-    };
-    let Some(events) = events_of(alloc, script.3) else {
-        return None;
-    };
-    run::<Paged<Global>, E>(alloc, &config, events).ok()
+    match events_of(alloc, turns) {
+        Some(events) => run::<Paged<Global>, E>(alloc, config, events).ok(),
+        None => None,
+    }
 }
 
 // Whether `run` answers the events of a script as it says.
-fn runs<E: Eligibility<Alloc = Global>>(alloc: Global, script: &Script) -> bool {
-    match answers_of::<E>(alloc, script) {
-        Some(answers) => are_told(alloc, answers.as_slice(), script.3),
+fn runs<E: Eligibility<Alloc = Global>>(
+    alloc: Global,
+    config: &Config<Global>,
+    turns: &str,
+) -> bool {
+    match answers_of::<E>(alloc, config, turns) {
+        Some(answers) => are_told(alloc, answers.as_slice(), turns),
         None => false,
     }
 }
@@ -339,7 +339,13 @@ fn goes(alloc: Global, script: &Script) -> bool {
 }
 
 fn goes_by_run(alloc: Global, script: &Script) -> bool {
-    runs::<Listed<Global>>(alloc, script) && runs::<Heaped<Global>>(alloc, script)
+    match config_of(alloc, (script.1, script.2)) {
+        Some(config) => {
+            runs::<Listed<Global>>(alloc, &config, script.3)
+                && runs::<Heaped<Global>>(alloc, &config, script.3)
+        }
+        None => false,
+    }
 }
 
 #[test]
@@ -355,40 +361,26 @@ fn scripts_go_as_they_say(rt: HostRuntime) {
 #[test]
 fn scripts_go_under_the_lock(rt: HostRuntime) {
     for script in &SCRIPTS {
-        let well = goes_under_lock::<Brand, _>(&rt, rt.alloc(), Blank::new(1), script);
+        let exports = (script.1, script.2);
+        let play = Play::Script(script.3);
+        let well = plays::<Brand, _>(&rt, rt.alloc(), exports, Blank::new(1), play);
         assert!(rt; well, "{}", script.0);
     }
 }
 
-fn crowd_goes(alloc: Global, crowd: &Crowd) -> bool {
-    let Some(turns) = turns_of(alloc, crowd) else {
-        return false;
-    };
-    let script = (crowd.0, crowd.1, 32, turns.as_str());
-    goes(alloc, &script) && goes_by_run(alloc, &script)
-}
-
-fn crowd_goes_under_lock<L: Ledger, R: Wait>(
-    rt: &R,
-    alloc: Global,
-    blank: Blank,
-    crowd: &Crowd,
-) -> bool
-    requires name { blank.name ≡ L.name }
-    requires parts { blank.parts ≡ L.parts }
-    requires one { blank.parts ≡ 1 }
-{
-    let Some(turns) = turns_of(alloc, crowd) else {
-        return false;
-    };
-    goes_under_lock::<L, R>(rt, alloc, blank, &(crowd.0, crowd.1, 32, turns.as_str()))
-}
-
 #[test]
 fn crowds_go_as_they_say(rt: HostRuntime) {
+    let alloc = rt.alloc();
     for crowd in &CROWDS {
-        assert!(rt; crowd_goes(rt.alloc(), crowd), "{}", crowd.0);
-        let well = crowd_goes_under_lock::<Brand, _>(&rt, rt.alloc(), Blank::new(1), crowd);
+        let turns = turns_of(alloc, crowd).expect(&rt, "memory");
+        let script = (crowd.0, crowd.1, 32, turns.as_str());
+        assert!(rt;
+            goes(alloc, &script) && goes_by_run(alloc, &script),
+            "{}",
+            crowd.0
+        );
+        let play = Play::Script(turns.as_str());
+        let well = plays::<Brand, _>(&rt, alloc, (crowd.1, 32), Blank::new(1), play);
         assert!(rt; well, "{}, under the lock", crowd.0);
     }
 }

@@ -1,8 +1,7 @@
 //! A script through the lock: each of its events is the turn of its kind, by the wrapper, with one pass.
-ghost use Rattle.std.specs.Prelude.{◌≡◌};
 
 use super::lines::{event_of, text_of};
-use super::scripts::{Script, asks, told_of};
+use super::scripts::{asks, told_of};
 use super::*;
 use server_core::{ArriveRefusal, NotArrived, NotRetuned, Ticket};
 
@@ -284,8 +283,26 @@ fn told_under_lock<L: Ledger, R: Wait>(
     }
 }
 
+// Whether a turn is answered as it says.
+fn answers<L: Ledger, R: Wait>(
+    rt: &R,
+    alloc: Global,
+    shared: &Tried<L>,
+    pass: &mut Pass<L>,
+    tickets: &mut Vec<Ticket>,
+    turn: &str,
+) -> bool {
+    let Some((line, expected)) = turn.split_once(": ") else {
+        return false;
+    };
+    match told_under_lock(rt, alloc, shared, pass, tickets, line) {
+        Some(told) => told.as_str() == expected,
+        None => false,
+    }
+}
+
 // Whether each turn is answered as it says.
-fn answers_each<L: Ledger, R: Wait>(
+pub fn answers_each<L: Ledger, R: Wait>(
     rt: &R,
     alloc: Global,
     shared: &Tried<L>,
@@ -294,35 +311,9 @@ fn answers_each<L: Ledger, R: Wait>(
 ) -> bool {
     let mut tickets = Vec::new(alloc);
     for turn in turns.split("; ") {
-        let Some((line, expected)) = turn.split_once(": ") else {
+        if !answers(rt, alloc, shared, pass, &mut tickets, turn) {
             return false;
-        };
-        match told_under_lock(rt, alloc, shared, pass, &mut tickets, line) {
-            Some(told) if told.as_str() == expected => {}
-            _ => return false,
         }
     }
     true
-}
-
-// Whether a script goes as it says, and the steps that are settled are those that the server counted.
-pub fn goes_under_lock<L: Ledger, R: Wait>(
-    rt: &R,
-    alloc: Global,
-    blank: Blank,
-    script: &Script,
-) -> bool
-    requires name { blank.name ≡ L.name }
-    requires parts { blank.parts ≡ L.parts }
-    requires one { blank.parts ≡ 1 }
-{
-    let Some(server) = server_of(alloc, script.1, script.2) else {
-        return false;
-    };
-    let Some((shared, mut pass)) = shared_alone::<L>(alloc, server, blank) else {
-        return false;
-    };
-    let well = answers_each(rt, alloc, &shared, &mut pass, script.3);
-    let steps = shared.hold(rt).server().steps();
-    well && settled_alone(alloc, shared, pass) == Some(steps)
 }

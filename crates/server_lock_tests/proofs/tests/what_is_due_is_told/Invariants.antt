@@ -1,4 +1,4 @@
 use Rattle.server_lock_tests.proofs.tests.what_is_due_is_told.Given as goal
 
-abbrev pub ghosts-told_due : goal.ghosts-told_due
-ghosts-told_due g a = record { name = a.blank.name; parts = a.blank.parts }
+abbrev pub ghosts-plays : goal.ghosts-plays
+ghosts-plays g a = record { name = a.blank.name; parts = a.blank.parts }
