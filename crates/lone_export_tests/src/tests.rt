@@ -3,7 +3,7 @@ ghost use Rattle.std.specs.Prelude.{◌≡◌};
 use export_store::{Flat, Image, Swept};
 use lone_export::*;
 use nbd_base::NoMemory;
-use nbd_commands::{Config, ExportList, ExportSettings};
+use nbd_commands::{Config, ExportList, ExportSettings, Rates, is_inflight};
 use nbd_wire::protocol::{FLUSH, READ, WRITE};
 use nbd_wire::{Request, RequestHead};
 use payload::Payload;
@@ -59,6 +59,29 @@ fn copied<A: Allocator + Copy>(alloc: A, bytes: &[u8]) -> Option<Payload<A>> {
     }
 }
 
+// A step by values alone.
+#[derive(Clone, Copy)]
+enum Call {
+    Attach,
+    // A READ of a session at so many nanoseconds: its cookie, and how many bytes from 0 on.
+    Read(u64, u64, u64, u32),
+    // A FLUSH of session 0 at 0.
+    Flush(u64),
+    // A WRITE of session 0 at 0, of these bytes at 0.
+    Write(u64, &'static [u8]),
+    Pick,
+    Perform(u64),
+    // A request is performed, and there is no memory for it.
+    Fail(u64),
+    Take(u64),
+    Leave(u64),
+    Gone(u64),
+    Retune(u64, u64, u64),
+}
+
+// A call, and what is written of its answer.
+type Told = (Call, &'static str);
+
 // A request of a session at a moment, which is 0 where it is out of range.
 fn arrival<A: Allocator>(session: u64, nanoseconds: u64, request: Request<A>) -> Step<A> {
     Step::Arrive {
@@ -68,10 +91,80 @@ fn arrival<A: Allocator>(session: u64, nanoseconds: u64, request: Request<A>) ->
     }
 }
 
-fn perform<A: Allocator>(number: u64) -> Step<A> {
-    Step::Perform {
-        number,
-        memory: true,
+fn write_step<A: Allocator + Copy>(alloc: A, cookie: u64, bytes: &[u8]) -> Option<Step<A>> {
+    match write_of(alloc, cookie, bytes) {
+        Some(write) => Some(arrival(0, 0, write)),
+        None => None,
+    }
+}
+
+fn retune_step<A: Allocator>(reservation: u64, limit: u64, weight: u64) -> Option<Step<A>> {
+    match Rates::new(reservation, limit, weight) {
+        Ok(rates) => Some(Step::Retune { rates }),
+        Err(_) => None,
+    }
+}
+
+// None where memory was refused twice, or rates are out of range.
+fn step_of<A: Allocator + Copy>(alloc: A, call: Call) -> Option<Step<A>> {
+    match call {
+        Call::Attach => Some(Step::Attach),
+        Call::Read(session, nanoseconds, cookie, length) => {
+            Some(arrival(session, nanoseconds, read_of(cookie, 0, length)))
+        }
+        Call::Flush(cookie) => Some(arrival(0, 0, flush_of(cookie))),
+        Call::Write(cookie, bytes) => write_step(alloc, cookie, bytes),
+        Call::Pick => Some(Step::Pick),
+        Call::Perform(number) => Some(Step::Perform {
+            number,
+            memory: true,
+        }),
+        Call::Fail(number) => Some(Step::Perform {
+            number,
+            memory: false,
+        }),
+        Call::Take(session) => Some(Step::Take { session }),
+        Call::Leave(session) => Some(Step::Leave { session }),
+        Call::Gone(session) => Some(Step::Gone { session }),
+        Call::Retune(reservation, limit, weight) => retune_step(reservation, limit, weight),
+    }
+}
+
+fn is_appended<A: Allocator + Copy>(
+    alloc: A,
+    steps: &mut Vec<Step<A>, Global>,
+    call: Call,
+) -> bool {
+    match step_of(alloc, call) {
+        Some(step) => steps.push(step).is_ok(),
+        None => false,
+    }
+}
+
+fn are_appended<A: Allocator + Copy>(
+    alloc: A,
+    steps: &mut Vec<Step<A>, Global>,
+    run: &[Told],
+) -> bool {
+    for (call, _wanted) in run {
+        if !is_appended(alloc, steps, *call) {
+            return false;
+        }
+    }
+    true
+}
+
+// The steps of a run.
+fn steps_of<A: Allocator + Copy>(
+    alloc: A,
+    plain: Global,
+    run: &[Told],
+) -> Option<Vec<Step<A>, Global>> {
+    let mut steps = Vec::new(plain);
+    if are_appended(alloc, &mut steps, run) {
+        Some(steps)
+    } else {
+        None
     }
 }
 
@@ -84,18 +177,44 @@ fn configured<A: Allocator + Copy>(
     if list.add(settings).is_err() {
         return Err(NoMemory);
     }
-    Config::new(list, 32).map_err(|_refusal| NoMemory)
+    match Config::new(list, 32) {
+        Ok(config) => Ok(config),
+        Err(_refusal) => Err(NoMemory),
+    }
+}
+
+// The first export of a configuration, with so many requests in service at most, of which there are 1 to 4,096.
+fn first_of<A: Allocator + Copy>(
+    alloc: A,
+    config: &Config<A>,
+    inflight: u64,
+) -> Result<Lone<Flat<A>>, NoMemory> {
+    if !is_inflight(inflight) {
+        return Err(NoMemory);
+    }
+    match config.exports().first() {
+        Some(export) => Lone::new(alloc, export, inflight as usize),
+        None => Err(NoMemory),
+    }
+}
+
+// An export that is configured so, with at most so many requests in service.
+fn opened_for<A: Allocator + Copy>(
+    alloc: A,
+    settings: &ExportSettings<'_>,
+    inflight: u64,
+) -> Result<Lone<Flat<A>>, NoMemory> {
+    match configured(alloc, settings) {
+        Ok(config) => first_of(alloc, &config, inflight),
+        Err(NoMemory) => Err(NoMemory),
+    }
 }
 
 fn opened<A: Allocator + Copy>(
     alloc: A,
     settings: &ExportSettings<'_>,
 ) -> Result<Lone<Flat<A>>, NoMemory> {
-    let config = configured(alloc, settings)?;
-    let Some(export) = config.exports().first() else {
-        return Err(NoMemory);
-    };
-    Lone::new(alloc, export, 32)
+    opened_for(alloc, settings, 32)
 }
 
 // Whether a payload is these bytes, which are few.
@@ -133,11 +252,10 @@ fn sweeps(lone: &mut Alone, alloc: Global) -> bool {
 }
 
 #[test]
-fn a_sweep_is_no_step(rt: HostRuntime) -> Result<(), NoMemory> {
-    let mut lone = opened(rt.alloc(), &ExportSettings::new(b"a", 8))?;
+fn a_sweep_is_no_step(rt: HostRuntime) {
+    let mut lone = opened(rt.alloc(), &ExportSettings::new(b"a", 8)).expect(&rt, "memory");
     assert!(rt; lone.attach() == Ok(0));
     assert!(rt; sweeps(&mut lone, rt.alloc()));
-    Ok(())
 }
 
 // Each law holds, so it can be called anywhere.

@@ -11,10 +11,21 @@ struct Both<A: Allocator + Copy> {
 
 // 768 pages on both sides of 64 MiB.
 fn make_both(alloc: Global) -> Option<Both<Global>> {
-    let paged = Paged::zeros(alloc, 1 << 27).ok()?;
-    let flat = Flat::zeros(alloc, 3 << 20).ok()?;
-    let begin = (1 << 26) - (3 << 19);
-    Some(Both { paged, flat, begin })
+    match Flat::zeros(alloc, 3 << 20) {
+        Ok(flat) => beside(alloc, flat),
+        Err(NoMemory) => None,
+    }
+}
+
+fn beside(alloc: Global, flat: Flat<Global>) -> Option<Both<Global>> {
+    match Paged::zeros(alloc, 1 << 27) {
+        Ok(paged) => Some(Both {
+            paged,
+            flat,
+            begin: (1 << 26) - (3 << 19),
+        }),
+        Err(NoMemory) => None,
+    }
 }
 
 // A number that looks drawn by lot.
@@ -38,6 +49,35 @@ fn range_of(seed: &mut u64) -> (usize, usize) {
     (offset, count.min((3 << 20) - offset))
 }
 
+// Makes a range of both zero.
+fn zeroes_both(
+    both: &mut Both<Global>,
+    place: usize,
+    offset: usize,
+    count: usize,
+    keep: bool,
+) -> bool {
+    zeroes(&mut both.paged, place, count, keep) && zeroes(&mut both.flat, offset, count, keep)
+}
+
+// Writes a byte over and over to both.
+fn writes_both(
+    alloc: Global,
+    both: &mut Both<Global>,
+    place: usize,
+    offset: usize,
+    count: usize,
+    byte: u8,
+) -> bool {
+    match Vec::from_elem(alloc, byte, count.min(30_000)) {
+        Ok(bytes) => {
+            writes(alloc, &mut both.paged, place, bytes.as_slice())
+                && writes(alloc, &mut both.flat, offset, bytes.as_slice())
+        }
+        Err(_) => false,
+    }
+}
+
 // Makes one change to both.
 fn changes(alloc: Global, both: &mut Both<Global>, seed: &mut u64) -> bool {
     let (offset, count) = range_of(seed);
@@ -45,22 +85,20 @@ fn changes(alloc: Global, both: &mut Both<Global>, seed: &mut u64) -> bool {
         return false;
     };
     match next_of(seed) % 4 {
-        0 => {
-            zeroes(&mut both.paged, place, count, true)
-                && zeroes(&mut both.flat, offset, count, true)
-        }
-        1 => {
-            zeroes(&mut both.paged, place, count, false)
-                && zeroes(&mut both.flat, offset, count, false)
-        }
+        0 => zeroes_both(both, place, offset, count, true),
+        1 => zeroes_both(both, place, offset, count, false),
         _ => {
             let byte = (next_of(seed) % 255) as u8 + 1;
-            let Ok(bytes) = Vec::from_elem(alloc, byte, count.min(30_000)) else {
-                return false;
-            };
-            writes(alloc, &mut both.paged, place, bytes.as_slice())
-                && writes(alloc, &mut both.flat, offset, bytes.as_slice())
+            writes_both(alloc, both, place, offset, count, byte)
         }
+    }
+}
+
+// Whether a payload has the bytes of an image in one piece.
+fn has_all(alloc: Global, payload: &Payload<Global>, flat: &Flat<Global>) -> bool {
+    match all_of(alloc, flat) {
+        Ok(bytes) => is_payload(alloc, payload, bytes.as_slice()),
+        Err(NoMemory) => false,
     }
 }
 
@@ -73,28 +111,31 @@ fn are_same(alloc: Global, both: &Both<Global>) -> bool {
     if end > both.paged.size() {
         return false;
     }
-    let (Ok(payload), Ok(flat)) = (both.paged.read(both.begin, size), all_of(alloc, &both.flat))
-    else {
-        return false;
-    };
-    let mut paged = Vec::new(alloc);
-    payload.append(&mut paged).is_ok() && paged.as_slice() == flat.as_slice()
+    match both.paged.read(both.begin, size) {
+        Ok(payload) => has_all(alloc, &payload, &both.flat),
+        Err(NoMemory) => false,
+    }
 }
 
-fn goes_as_one_piece(alloc: Global, mut seed: u64) -> bool {
-    let Some(mut both) = make_both(alloc) else {
-        return false;
-    };
+// Whether both stay the same over many changes.
+fn stay_same(alloc: Global, both: &mut Both<Global>, mut seed: u64) -> bool {
     for step in 0..96u32 {
-        if !changes(alloc, &mut both, &mut seed) {
+        if !changes(alloc, both, &mut seed) {
             return false;
         }
-        if step % 16 == 15 && !are_same(alloc, &both) {
+        if step % 16 == 15 && !are_same(alloc, both) {
             return false;
         }
     }
     let end = both.paged.size();
     zeroes(&mut both.paged, 0, end, false) && both.paged.held() == 0
+}
+
+fn goes_as_one_piece(alloc: Global, seed: u64) -> bool {
+    match make_both(alloc) {
+        Some(mut both) => stay_same(alloc, &mut both, seed),
+        None => false,
+    }
 }
 
 #[test]

@@ -19,19 +19,32 @@ fn insisted<A: Allocator + Copy>(
     }
 }
 
-// An export of 8 bytes, for which a growth is refused from here on.
+// The first export of a configuration, for which a growth is refused from here on.
+fn armed_of<'a>(
+    heap: &'a Refusing<Global>,
+    config: &Config<&'a Refusing<Global>>,
+    nth: u64,
+) -> Result<Refused<'a>, NoMemory> {
+    match config.exports().first() {
+        Some(export) => {
+            heap.arm(nth);
+            insisted(heap, export)
+        }
+        None => Err(NoMemory),
+    }
+}
+
+// The same of an export of 8 bytes.
 fn armed(heap: &Refusing<Global>, nth: u64) -> Result<Lone<Flat<&Refusing<Global>>>, NoMemory> {
     let settings = ExportSettings {
         depth: 2,
         window: 2,
         ..ExportSettings::new(b"a", 8)
     };
-    let config = configured(heap, &settings)?;
-    let Some(export) = config.exports().first() else {
-        return Err(NoMemory);
-    };
-    heap.arm(nth);
-    insisted(heap, export)
+    match configured(heap, &settings) {
+        Ok(config) => armed_of(heap, &config, nth),
+        Err(NoMemory) => Err(NoMemory),
+    }
 }
 
 // Whether a session of this number is attached, at the second time where the first found no memory and changed nothing.
@@ -88,19 +101,25 @@ fn reads<A: Allocator + Copy>(lone: &mut Lone<Flat<A>>) -> bool {
     }
 }
 
-// Whether an export is made, and two sessions, a WRITE and a READ are served, with this refusal.
+// Whether two sessions, a WRITE and a READ are served.
+fn serves_all<'a>(heap: &'a Refusing<Global>, lone: &mut Refused<'a>) -> bool {
+    attaches(lone, 0) && attaches(lone, 1) && writes(heap, lone) && reads(lone)
+}
+
+// Whether an export is made and serves them, with this refusal.
 fn is_whole(heap: &Refusing<Global>, nth: u64) -> bool {
-    let Ok(mut lone) = armed(heap, nth) else {
-        return false;
-    };
-    attaches(&mut lone, 0) && attaches(&mut lone, 1) && writes(heap, &mut lone) && reads(&mut lone)
+    match armed(heap, nth) {
+        Ok(mut lone) => serves_all(heap, &mut lone),
+        Err(NoMemory) => false,
+    }
 }
 
 #[test]
 fn each_growth_is_refused_in_turn(rt: HostRuntime) {
+    let heap = Refusing::new(rt.alloc(), 0);
     let mut refused = 0u64;
     for nth in 1..1000u64 {
-        let heap = Refusing::new(rt.alloc(), 0);
+        heap.arm(0);
         assert!(rt; is_whole(&heap, nth), "at {nth}");
         if heap.is_armed() {
             break;
@@ -143,40 +162,51 @@ fn end_with<A: Allocator>(answers: &[StepAnswer<A>], plain: Global, wanted: &str
     answers.len() == 9 && is_told(plain, last, wanted)
 }
 
-// Whether a list of nine steps is replayed in two goes at most.
-fn is_replayed<'a>(heap: &'a Refusing<Global>, lone: &mut Refused<'a>, plain: Global) -> bool {
-    let Some(write) = write_of(heap, 1, b"\xde\xad\xbe\xef") else {
-        return false;
-    };
-    let steps = [
-        Step::Attach,
-        arrival(0, 0, write),
-        Step::Pick,
-        perform(0),
-        arrival(0, 0, read_of(2, 0, 4)),
-        Step::Pick,
-        perform(1),
-        Step::Take { session: 0 },
-        Step::Take { session: 0 },
-    ];
+// Whether these nine steps are replayed in two goes at most.
+fn ends_well<'a>(
+    heap: &'a Refusing<Global>,
+    lone: &mut Refused<'a>,
+    steps: &[Step<&'a Refusing<Global>>],
+    plain: Global,
+) -> bool {
     let mut answers = Vec::new(heap);
-    resumed(lone, &steps, &mut answers) == Some(9)
-        && end_with(&answers, plain, "reply 2 0 [222, 173, 190, 239]")
+    resumed(lone, steps, &mut answers) == Some(9)
+        && end_with(answers.as_slice(), plain, "reply 2 0 [222, 173, 190, 239]")
+}
+
+// The same of a list of them.
+fn is_replayed<'a>(heap: &'a Refusing<Global>, lone: &mut Refused<'a>, plain: Global) -> bool {
+    let run = [
+        (Call::Attach, "session 0"),
+        (Call::Write(1, b"\xde\xad\xbe\xef"), "accepted 0 0"),
+        (Call::Pick, "request 0"),
+        (Call::Perform(0), "performed true"),
+        (Call::Read(0, 0, 2, 4), "accepted 1 0"),
+        (Call::Pick, "request 1"),
+        (Call::Perform(1), "performed true"),
+        (Call::Take(0), "reply 1 0 []"),
+        (Call::Take(0), "reply 2 0 [222, 173, 190, 239]"),
+    ];
+    match steps_of(heap, plain, &run) {
+        Some(steps) => ends_well(heap, lone, steps.as_slice(), plain),
+        None => false,
+    }
 }
 
 // Whether an export is made, and a list of steps replayed, with this refusal.
 fn is_resumed(heap: &Refusing<Global>, nth: u64, plain: Global) -> bool {
-    let Ok(mut lone) = armed(heap, nth) else {
-        return false;
-    };
-    is_replayed(heap, &mut lone, plain)
+    match armed(heap, nth) {
+        Ok(mut lone) => is_replayed(heap, &mut lone, plain),
+        Err(NoMemory) => false,
+    }
 }
 
 #[test]
 fn each_growth_of_a_list_is_refused_in_turn(rt: HostRuntime) {
+    let heap = Refusing::new(rt.alloc(), 0);
     let mut refused = 0u64;
     for nth in 1..1000u64 {
-        let heap = Refusing::new(rt.alloc(), 0);
+        heap.arm(0);
         assert!(rt; is_resumed(&heap, nth, rt.alloc()), "at {nth}");
         if heap.is_armed() {
             break;

@@ -1,77 +1,54 @@
 //! Rates that change while an export runs.
 
-use super::runs::{Run, went};
+use super::runs::first_wrong;
 use super::said::remade;
 use super::*;
-use nbd_commands::Rates;
 use refusing::Refusing;
 
-fn retune<A: Allocator>(reservation: u64, limit: u64, weight: u64) -> Option<Step<A>> {
-    match Rates::new(reservation, limit, weight) {
-        Ok(rates) => Some(Step::Retune { rates }),
-        Err(_) => None,
-    }
-}
-
 // From ten requests a second to four, and then to no limit. The tags go on from the last one. While a request waits the rates stay.
-fn four_and_then_no_limit(alloc: Global) -> Option<Run> {
-    let (refused, four, none) = (retune(0, 4, 1)?, retune(0, 4, 1)?, retune(0, 0, 1)?);
-    let run = vec![in alloc;
-        (Step::Attach, "session 0"),
-        (arrival(0, 0, read_of(1, 0, 0)), "accepted 0 0"),
-        (refused, "waiting"),
-        (Step::Pick, "request 0"),
-        (four, "retuned"),
-        (arrival(0, 0, read_of(2, 0, 0)), "accepted 1 250000000"),
-        (arrival(0, 0, read_of(3, 0, 0)), "accepted 2 500000000"),
-        (Step::Pick, "request 1"),
-        (Step::Pick, "request 2"),
-        (none, "retuned"),
-        (arrival(0, 0, read_of(4, 0, 0)), "accepted 3 500000000"),
-    ];
-    run.ok()
-}
-
 #[test]
 fn tags_go_on_over_a_retune(rt: HostRuntime) {
     let settings = ExportSettings {
         limit: 10,
         ..ExportSettings::new(b"a", 4096)
     };
+    let run = [
+        (Call::Attach, "session 0"),
+        (Call::Read(0, 0, 1, 0), "accepted 0 0"),
+        (Call::Retune(0, 4, 1), "waiting"),
+        (Call::Pick, "request 0"),
+        (Call::Retune(0, 4, 1), "retuned"),
+        (Call::Read(0, 0, 2, 0), "accepted 1 250000000"),
+        (Call::Read(0, 0, 3, 0), "accepted 2 500000000"),
+        (Call::Pick, "request 1"),
+        (Call::Pick, "request 2"),
+        (Call::Retune(0, 0, 1), "retuned"),
+        (Call::Read(0, 0, 4, 0), "accepted 3 500000000"),
+    ];
     for by_replay in [false, true] {
-        let run = four_and_then_no_limit(rt.alloc());
-        let went = went(rt.alloc(), &settings, run, by_replay);
-        assert!(rt; went == Some((11, 10)), "{went:?}, by replay: {by_replay}");
+        let wrong = first_wrong(rt.alloc(), &settings, &run, 10, by_replay);
+        assert!(rt; wrong == 0, "call {wrong}, by replay: {by_replay}");
     }
 }
 
 // From no limit to two requests a second, and to ten at a later moment.
-fn a_limit_comes(alloc: Global) -> Option<Run> {
-    let (two, ten) = (retune(1, 2, 7)?, retune(0, 10, 1)?);
-    let run = vec![in alloc;
-        (Step::Attach, "session 0"),
-        (two, "retuned"),
-        (arrival(0, 5, read_of(1, 0, 0)), "accepted 0 5"),
-        (arrival(0, 6, read_of(2, 0, 0)), "accepted 1 500000005"),
-        (Step::Pick, "request 0"),
-        (Step::Pick, "request 1"),
-        (ten, "retuned"),
-        (arrival(0, 7, read_of(3, 0, 0)), "accepted 2 600000005"),
-        (
-            arrival(0, 900_000_000, read_of(4, 0, 0)),
-            "accepted 3 900000000"
-        ),
-    ];
-    run.ok()
-}
-
 #[test]
 fn a_limit_may_come_later(rt: HostRuntime) {
     let settings = ExportSettings::new(b"a", 4096);
+    let run = [
+        (Call::Attach, "session 0"),
+        (Call::Retune(1, 2, 7), "retuned"),
+        (Call::Read(0, 5, 1, 0), "accepted 0 5"),
+        (Call::Read(0, 6, 2, 0), "accepted 1 500000005"),
+        (Call::Pick, "request 0"),
+        (Call::Pick, "request 1"),
+        (Call::Retune(0, 10, 1), "retuned"),
+        (Call::Read(0, 7, 3, 0), "accepted 2 600000005"),
+        (Call::Read(0, 900_000_000, 4, 0), "accepted 3 900000000"),
+    ];
     for by_replay in [false, true] {
-        let run = a_limit_comes(rt.alloc());
-        let went = went(rt.alloc(), &settings, run, by_replay);
-        assert!(rt; went == Some((9, 9)), "{went:?}, by replay: {by_replay}");
+        let wrong = first_wrong(rt.alloc(), &settings, &run, 9, by_replay);
+        assert!(rt; wrong == 0, "call {wrong}, by replay: {by_replay}");
     }
 }
 
@@ -106,28 +83,42 @@ fn changes_while_two_are_out(lone: &mut Alone, rates: Rates) -> bool {
 }
 
 #[test]
-fn no_rates_change_while_a_request_waits(rt: HostRuntime) -> Result<(), NoMemory> {
-    let mut lone = opened(rt.alloc(), &ExportSettings::new(b"a", 8))?;
+fn no_rates_change_while_a_request_waits(rt: HostRuntime) {
+    let mut lone = opened(rt.alloc(), &ExportSettings::new(b"a", 8)).expect(&rt, "memory");
     let rates = Rates::new(3, 4, 5).expect(&rt, "in range");
     assert!(rt; lone.attach() == Ok(0));
     assert!(rt; stays_while_one_waits(&mut lone, rates));
     assert!(rt; changes_while_two_are_out(&mut lone, rates));
     assert!(rt; lone.steps() == 6);
     lone.laws();
-    Ok(())
 }
 
-// Whether an export whose heap refuses what it is asked for is retuned, by its own call and by a replay, and asked for nothing.
-fn wants_no_memory(heap: &Refusing<Global>) -> bool {
-    let Ok(mut lone) = opened(heap, &ExportSettings::new(b"a", 8)) else {
-        return false;
-    };
-    let (Ok(rates), Some(step)) = (Rates::new(0, 4, 1), retune(0, 0, 1)) else {
+// Whether an export is retuned by a replay.
+fn is_retuned<'a>(heap: &'a Refusing<Global>, lone: &mut Lone<Flat<&'a Refusing<Global>>>) -> bool {
+    match step_of(heap, Call::Retune(0, 0, 1)) {
+        Some(step) => remade(lone, &step).is_some(),
+        None => false,
+    }
+}
+
+// Whether it is, by its own call before, and asks for no memory.
+fn stays_armed<'a>(
+    heap: &'a Refusing<Global>,
+    lone: &mut Lone<Flat<&'a Refusing<Global>>>,
+) -> bool {
+    let Ok(rates) = Rates::new(0, 4, 1) else {
         return false;
     };
     heap.arm(1);
-    let retuned = lone.retune(rates).is_ok() && remade(&mut lone, &step).is_some();
-    retuned && heap.is_armed() && lone.steps() == 2
+    lone.retune(rates).is_ok() && is_retuned(heap, lone) && heap.is_armed() && lone.steps() == 2
+}
+
+// The same of an export on a heap that refuses what it is asked for.
+fn wants_no_memory(heap: &Refusing<Global>) -> bool {
+    match opened(heap, &ExportSettings::new(b"a", 8)) {
+        Ok(mut lone) => stays_armed(heap, &mut lone),
+        Err(NoMemory) => false,
+    }
 }
 
 #[test]

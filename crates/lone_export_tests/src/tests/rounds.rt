@@ -49,8 +49,8 @@ fn serves_no_other(lone: &mut Alone) -> bool {
 }
 
 #[test]
-fn three_steps_at_once(rt: HostRuntime) -> Result<(), NoMemory> {
-    let mut lone = opened(rt.alloc(), &ExportSettings::new(b"a", 8))?;
+fn three_steps_at_once(rt: HostRuntime) {
+    let mut lone = opened(rt.alloc(), &ExportSettings::new(b"a", 8)).expect(&rt, "memory");
     assert!(rt; opens(&mut lone));
     assert!(rt; writes(rt.alloc(), &mut lone));
     assert!(rt; serves_no_other(&mut lone));
@@ -59,7 +59,6 @@ fn three_steps_at_once(rt: HostRuntime) -> Result<(), NoMemory> {
     assert!(rt; (lone.steps(), lone.next_number()) == (9, 2));
     assert!(rt; is_empty(&mut lone));
     lone.laws();
-    Ok(())
 }
 
 // Whether two READs pass, and leave no reply.
@@ -84,13 +83,12 @@ fn none_passes(lone: &mut Alone) -> bool {
 }
 
 #[test]
-fn a_read_passes(rt: HostRuntime) -> Result<(), NoMemory> {
-    let mut lone = opened(rt.alloc(), &ExportSettings::new(b"a", 8))?;
+fn a_read_passes(rt: HostRuntime) {
+    let mut lone = opened(rt.alloc(), &ExportSettings::new(b"a", 8)).expect(&rt, "memory");
     assert!(rt; lone.attach() == Ok(0));
     assert!(rt; two_pass(&mut lone));
     assert!(rt; none_passes(&mut lone));
     lone.laws();
-    Ok(())
 }
 
 // Whether a READ that finds no memory for its data is no step.
@@ -104,12 +102,11 @@ fn stays(heap: &Refusing<Global>, lone: &mut Lone<Flat<&Refusing<Global>>>) -> b
 
 // The READ is served by the next call.
 #[test]
-fn three_steps_without_memory(rt: HostRuntime) -> Result<(), NoMemory> {
+fn three_steps_without_memory(rt: HostRuntime) {
     let heap = Refusing::new(rt.alloc(), 0);
-    let mut lone = opened(&heap, &ExportSettings::new(b"a", 8))?;
+    let mut lone = opened(&heap, &ExportSettings::new(b"a", 8)).expect(&rt, "memory");
     assert!(rt; lone.attach() == Ok(0));
     assert!(rt; stays(&heap, &mut lone));
     assert!(rt; served(&mut lone, 0, read_of(7, 0, 8)) == Some(true));
     assert!(rt; replies(&mut lone, 7, 0, b"\0\0\0\0\0\0\0\0"));
-    Ok(())
 }

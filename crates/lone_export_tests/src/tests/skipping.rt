@@ -1,18 +1,18 @@
 //! A READ that is performed without its data.
 
+use super::runs::is_replayed;
 use super::*;
 
 // Whether a session's READ is in service under number 0, its FLUSH under 1.
 fn begins(alloc: Global, lone: &mut Alone) -> bool {
-    let steps = [
-        Step::Attach,
-        arrival(0, 0, read_of(7, 0, 8)),
-        arrival(0, 0, flush_of(8)),
-        Step::Pick,
-        Step::Pick,
+    let run = [
+        (Call::Attach, "session 0"),
+        (Call::Read(0, 0, 7, 8), "accepted 0 0"),
+        (Call::Flush(8), "accepted 1 0"),
+        (Call::Pick, "request 0"),
+        (Call::Pick, "request 1"),
     ];
-    let mut answers = Vec::new(alloc);
-    lone.replay_all(&steps, &mut answers) == Ok(5)
+    is_replayed(alloc, lone, &run, 5)
 }
 
 // Whether the READ is known by its number, and isn't skipped under another number or for another session.
@@ -32,8 +32,8 @@ fn tells_its_head(lone: &Alone) -> bool {
 }
 
 #[test]
-fn a_read_is_skipped(rt: HostRuntime) -> Result<(), NoMemory> {
-    let mut lone = opened(rt.alloc(), &ExportSettings::new(b"a", 8))?;
+fn a_read_is_skipped(rt: HostRuntime) {
+    let mut lone = opened(rt.alloc(), &ExportSettings::new(b"a", 8)).expect(&rt, "memory");
     assert!(rt; begins(rt.alloc(), &mut lone));
     assert!(rt; tells_its_head(&lone));
     assert!(rt; skips_no_other(&mut lone));
@@ -41,7 +41,6 @@ fn a_read_is_skipped(rt: HostRuntime) -> Result<(), NoMemory> {
     assert!(rt; (lone.steps(), lone.slot_of(0)) == (7, None));
     assert!(rt; is_empty(&mut lone));
     lone.laws();
-    Ok(())
 }
 
 // Whether the FLUSH is performed.
@@ -54,11 +53,10 @@ fn flushes(lone: &mut Alone) -> bool {
 
 // The FLUSH was done before: its reply is taken first.
 #[test]
-fn no_read_is_skipped_behind_a_reply(rt: HostRuntime) -> Result<(), NoMemory> {
-    let mut lone = opened(rt.alloc(), &ExportSettings::new(b"a", 8))?;
+fn no_read_is_skipped_behind_a_reply(rt: HostRuntime) {
+    let mut lone = opened(rt.alloc(), &ExportSettings::new(b"a", 8)).expect(&rt, "memory");
     assert!(rt; begins(rt.alloc(), &mut lone));
     assert!(rt; flushes(&mut lone));
     assert!(rt; lone.is_reading(0) && !lone.skip_read(0, 0));
     assert!(rt; lone.steps() == 6);
-    Ok(())
 }
