@@ -34,6 +34,7 @@ LAWS = {
     "nbd_session one_conversation": "text_begins_with_the_longer",
     "nbd_session requests_are_plain": "counted_from_the_second",
     "nbd_session handshake_is_haggled": "flags_of_three_bytes",
+    "nbd_session asked_at_the_end": "given_before_the_last",
     "server_table choice_of_first_requests": "one_may_be_out",
     "server_table steps_of_rates": "retune_while_waiting",
     "session_turns replies_in_order": "taken_before_those_that_wait",

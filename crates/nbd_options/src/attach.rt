@@ -1,4 +1,5 @@
-ghost use Rattle.std.specs.Prelude.{◌≡◌, ℕ};
+ghost use Rattle.std.specs.Prelude.{◌≡◌, ℕ, List, [], ◌∷◌, Option, None};
+ghost use Rattle.nbd_options.specs.Asking.{one_asking, Asking, AsksFor};
 ghost use Rattle.nbd_options.specs.declared.attach.Attached.{Attached};
 ghost use Rattle.nbd_options.specs.declared.attach.Attached.TheVariants.{Given};
 
@@ -17,9 +18,13 @@ pub trait Attach {
     /// The answers that may be given for an export.
     ghost may: { ℕ → Attached → Type 0 };
 
+    // What was asked for so far, and the answers, where these are known.
+    ghost askings: { Self → Option (List Asking) } = { λ _. None };
+
     /// Asks for a session of an export, which is named by its place in the table.
     fn attach(&mut self, export: u32) -> Attached
-        ensures answer { may export result };
+        ensures answer { may export result }
+        ensures noted { AsksFor (askings self.old) (askings self.new) (one_asking export result ∷ []) };
 }
 
 /// Always gives a session.

@@ -8,6 +8,8 @@ pub mod ServingLemmas
 pub mod ServeLemmas
 pub mod OfferLemmas
 pub mod HaggleLemmas
+pub mod AskingLemmas
+pub mod AskedLast
 pub mod GreetLemmas
 pub mod OneService
 pub mod OneHaggling

@@ -1,10 +1,12 @@
-ghost use Rattle.std.specs.Prelude.{◌≡◌, OnOk, IsErrOf};
+ghost use Rattle.std.specs.Prelude.{◌≡◌, [], OnOk, IsErrOf};
 ghost use Rattle.std.specs.Int.{w32, to_be_bytes};
 ghost use Rattle.nbd_session.specs.Streams.{Rises};
 ghost use Rattle.nbd_session.specs.Outcomes.{Converses};
 ghost use Rattle.nbd_session.specs.Conversation.{Handshake, IsEntryTold, HagglesOn};
 ghost use Rattle.nbd_session.specs.Options.{MayAnswer, entry_after};
 ghost use Rattle.nbd_session.specs.Haggling.{Answers};
+ghost use Rattle.nbd_session.specs.Askings.{Asks, AsksBehind};
+ghost use Rattle.nbd_options.specs.Asking.{AsksFor, asked_by};
 
 use crate::counted::Counted;
 use crate::fill::{Filled, fill, put};
@@ -35,6 +37,8 @@ pub fn haggle<A: Allocator + Copy, R: Read, W: Write, T: Attach>(
         → Rises writer.old.failures writer.new.failures }
     ensures kept { OnOk result ((reader.new.failures ≡ reader.old.failures)
         × (writer.new.failures ≡ writer.old.failures)) }
+    ensures asked { Asks T.may table.now (T.askings attach.old) (T.askings attach.new)
+        (R.remaining reader.old.inner) (R.remaining reader.new.inner) result }
 {
     put(writer, &greeting())?;
     let mut bytes = [0; 4];
@@ -75,6 +79,8 @@ fn options<A: Allocator + Copy, R: Read, W: Write, T: Attach>(
         → Rises writer.old.failures writer.new.failures }
     ensures kept { OnOk result ((reader.new.failures ≡ reader.old.failures)
         × (writer.new.failures ≡ writer.old.failures)) }
+    ensures asked { AsksBehind T.may table.now bare [] (T.askings attach.old) (T.askings attach.new)
+        (R.remaining reader.old.inner) (R.remaining reader.new.inner) result }
 {
     let mut haggle = Haggle::new(table);
     loop {
@@ -99,6 +105,7 @@ fn answer<A: Allocator + Copy, W: Write, T: Attach>(
     attach: &mut T,
 ) -> Result<Option<HaggleEnd>, TalkFault>
     ensures answered { Answers T.may table.now bare (record { number = number; content = content.now })
+        (T.askings attach.old) (T.askings attach.new)
         (W.contents writer.old.inner) (W.contents writer.new.inner) result }
     ensures failed { IsErrOf result TalkFault.WriteFailed
         → Rises writer.old.failures writer.new.failures }
@@ -114,8 +121,10 @@ fn answer<A: Allocator + Copy, W: Write, T: Attach>(
 }
 
 /// Asks for a session, where the client goes to an export.
+#[tactic(auto, using(crate::proofs::AskingLemmas::asks_no_more))]
 fn attached_to<T: Attach>(next: Next, attach: &mut T) -> Attached
-    ensures { MayAnswer T.may next result }
+    ensures may { MayAnswer T.may next result }
+    ensures noted { AsksFor (T.askings attach.old) (T.askings attach.new) (asked_by next result) }
 {
     match next {
         Next::Go(export) | Next::ByName(export) => attach.attach(export),

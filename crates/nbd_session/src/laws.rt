@@ -1,6 +1,7 @@
 ghost use Rattle.std.specs.Prelude.{List, ℕ};
 ghost use Rattle.nbd_options.specs.declared.attach.Attached.{Attached};
 ghost use Rattle.nbd_options.specs.Exports.{ExportFacts};
+ghost use Rattle.nbd_session.specs.Askings.{AskedAtTheEnd};
 ghost use Rattle.nbd_session.specs.Haggled.{HandshakeIsHaggled};
 ghost use Rattle.nbd_commands.specs.Exports.{Export};
 ghost use Rattle.nbd_session.specs.declared.talking.End.{End};
@@ -30,6 +31,12 @@ pub fn requests_are_plain()
 /// `attach`, and to the head that follows them, if one is refused; and it ends as haggling does.
 pub fn handshake_is_haggled<T: Attach>()
     ensures { (table : List ExportFacts) → HandshakeIsHaggled T.may table }
+{}
+
+/// A handshake that ends in an export asked for a session of it last, and that was given; before that, and where it ends otherwise,
+/// none is given.
+pub fn asked_at_the_end<T: Attach>()
+    ensures { (table : List ExportFacts) → AskedAtTheEnd T.may table }
 {}
 
 /// Conversations that were worked out by hand are those of the definition. `specs/Worked.antt` has the bytes.

@@ -24,7 +24,10 @@ pub use ending::{Ending, Frame};
 pub use fill::{WriteFailed, put};
 pub use frames::FrameReader;
 pub use haggling::haggle;
-pub use laws::{handshake_is_haggled, one_conversation, requests_are_plain, worked_conversations};
+pub use laws::{
+    asked_at_the_end, handshake_is_haggled, one_conversation, requests_are_plain,
+    worked_conversations,
+};
 pub use replies::put_reply;
 pub use talking::{End, Entry, TalkFault};
 pub use transmission::is_disc;

@@ -1,3 +1,4 @@
 mod checks;
 mod command_lines;
+mod dispatch;
 mod warnings;

@@ -361,3 +361,67 @@ fn each_byte_is_the_last_that_is_written(rt: HostRuntime) {
         assert!(rt; fails_behind(rt.alloc(), &texts, room), "at {room}");
     }
 }
+
+/// Tells at first that all sessions are taken, and keeps which exports it was asked for.
+#[derive(Drop)]
+struct Keeps {
+    full: usize,
+    asked: Vec<u32>,
+}
+
+impl Attach for Keeps {
+    ghost may = { λ _ _. Unit {0} };
+
+    fn attach(&mut self, export: u32) -> Attached {
+        if self.asked.push(export).is_err() {
+            return Attached::Other;
+        }
+        if self.asked.len() > self.full {
+            Attached::Given
+        } else {
+            Attached::Full
+        }
+    }
+}
+
+/// GO of `b`.
+const GO_B: &[u8] = b"IHAVEOPT\0\0\0\x07\0\0\0\x07\0\0\0\x01b\0\0";
+
+/// EXPORT_NAME of the empty name, which is that of `a`.
+const UNNAMED: &[u8] = b"IHAVEOPT\0\0\0\x01\0\0\0\0";
+
+/// Whether these are the exports that are asked for, in this order, where a client sends its flags and these options to a server of
+/// `a` and `b` all of whose sessions are taken at first.
+fn asks_for(alloc: Global, options: &[&[u8]], full: usize, exports: &[u32], entry: Entry) -> bool {
+    let mut table = ExportTable::new(alloc);
+    let mut sent = Vec::new(alloc);
+    if table.push(b"a", None, 4096, 0x056d).is_err()
+        || table.push(b"b", None, 8192, 0x056d).is_err()
+        || sent.extend_from_slice(FLAGS.0).is_err()
+    {
+        return false;
+    }
+    for option in options {
+        if sent.extend_from_slice(option).is_err() {
+            return false;
+        }
+    }
+    let asked = Vec::new(alloc);
+    let mut attach = Keeps { full, asked };
+    let mut reader = Counted::new(sent.as_slice());
+    let mut writer = Counted::new(Vec::new(alloc));
+    let went = haggle(alloc, &table, &mut reader, &mut writer, &mut attach);
+    went == Ok(entry) && attach.asked.as_slice() == exports
+}
+
+#[test]
+fn exports_are_asked_for_in_order(rt: HostRuntime) {
+    let alloc = rt.alloc();
+    let [list, listed, info, ..] = OTHERS;
+    let many = [GO_B, list.0, GO.0, info.0, listed.0, GO_B, GO.0];
+    assert!(rt; asks_for(alloc, &many, 2, &[1, 0, 1], Entry::In(1)));
+    assert!(rt; asks_for(alloc, &many, 3, &[1, 0, 1, 0], Entry::In(0)));
+    assert!(rt; asks_for(alloc, &many, 4, &[1, 0, 1, 0], Entry::Out(End::Over)));
+    assert!(rt; asks_for(alloc, &[GO_B, UNNAMED], 1, &[1, 0], Entry::In(0)));
+    assert!(rt; asks_for(alloc, &[GO_B, UNNAMED], 2, &[1, 0], Entry::Refused));
+}

@@ -54,4 +54,5 @@ fn the_laws_are_called() {
     requests_are_plain();
     worked_conversations();
     handshake_is_haggled::<Always>();
+    asked_at_the_end::<Always>();
 }

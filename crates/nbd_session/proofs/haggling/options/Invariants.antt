@@ -1,6 +1,7 @@
 use Rattle.std.proofs.Common.{◌≡◌, ◌-◌, ◌≤◌}
 use Rattle.nbd_session.specs.Conversation.{HagglesOn}
 use Rattle.nbd_session.specs.Outcomes.{Going}
+use Rattle.nbd_session.proofs.AskingLemmas.{HasAsked}
 use Rattle.nbd_session.proofs.haggling.options.Given as goal
 
 abbrev pub invariant-loop-number : goal.invariant-loop-number
@@ -9,6 +10,8 @@ invariant-loop-number g l = record {
       (g.R.Read.remaining l.fn.reader.inner) (g.R.Read.remaining l.reader.inner)
       (g.W.Write.contents l.fn.writer.inner) (g.W.Write.contents l.writer.inner);
   few : l.haggle.seen ≤ 1000;
+  asked : HasAsked g.T.Attach.may l.table l.bare (g.T.Attach.askings l.fn.attach) (g.T.Attach.askings l.attach) (g.R.Read.remaining l.fn.reader.inner)
+      (g.R.Read.remaining l.reader.inner) l.haggle.seen;
   read_kept : l.reader.failures ≡ l.fn.reader.failures;
   write_kept : l.writer.failures ≡ l.fn.writer.failures;
 }
