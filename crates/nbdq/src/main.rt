@@ -23,6 +23,7 @@ use std::thread::Threads;
 use std::time::Clock;
 
 /// The commands over the system's streams, files and sockets.
+#[derive(Drop)]
 struct Program<'a, R> {
     rt: &'a R,
 }
