@@ -26,7 +26,7 @@ returns-in_err-put-clause-conversation g c =
 pub returns-in_err-put-clause-asked : goal.returns-in_err-put-clause-asked
 returns-in_err-put-clause-asked g c =
     let p = err_from_is_err_and c.from_residual.result c.from_residual.ensures.1 in
-    rw (p.1, p.2) (asks_for_none g.T.Attach.may c.args.table.now (g.T.Attach.askings c.args.attach.now) (g.R.Read.remaining c.args.reader.now.inner) (g.R.Read.remaining c.args.reader.now.inner) [] (Err c.in_err-put.field-0.0)
+    rw (p.1, p.2) (asks_for_none g.T.Attach.may c.args.table.now (g.T.Attach.askings c.args.attach.now) (g.R.Read.remaining c.args.reader.now.inner) (g.R.Read.remaining c.args.reader.now.inner) [] (Err faults.WriteFailed)
     (Consumes-none (g.R.Read.remaining c.args.reader.now.inner)) (omega arith) tt)
 
 pub returns-in-Ended-eq0-clause-conversation : goal.returns-in-Ended-eq0-clause-conversation
