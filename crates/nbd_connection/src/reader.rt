@@ -152,7 +152,7 @@ fn read_on<L: Ledger, R: Wait + time::Clock>(
         make_ready(rt, service, link, &mut source.wakeups, pass);
     }
     if wakes_worker(batch.waits, batch.reads_long, link.bytes.is_unread()) {
-        service.bells.ring_for(batch.due);
+        service.bells.ring_for(&batch.due);
     }
     let ahead = batch.writes_long
         && service.is_wide

@@ -145,11 +145,12 @@ fn take_on<L: Ledger, R: Wait + time::Clock>(
     service.let_go(rt, disks, began);
     link.note_taken(outlet.unwritten().saturating_sub(before));
     let performed = wakeups.wake(&service.bells);
+    let is_due = is_due(&due, clock.now());
     DrainOutcome {
         stop,
         waits,
         due,
-        is_due: is_due(due, clock.now()),
+        is_due,
         performed,
     }
 }
@@ -191,7 +192,7 @@ fn send<L: Ledger, R: Wait + time::Clock>(
         return Round::Going;
     }
     if waits {
-        service.bells.ring_for(due);
+        service.bells.ring_for(&due);
     }
     if link.patience().is_none() {
         link.seat.note_idle(rt);

@@ -51,7 +51,7 @@ impl Bells {
     }
 
     /// A worker that found nothing to do sleeps until something is due, or until it is woken.
-    pub fn note_asleep(&self, due: Option<Moment>) {
+    pub fn note_asleep(&self, due: &Option<Moment>) {
         let until = match due {
             Some(due) => due.nanoseconds(),
             None => LAST_MOMENT_NS,
@@ -60,7 +60,7 @@ impl Bells {
     }
 
     /// Something waits that is due at a moment, or for something else than time: wakes a worker, unless one looks by then.
-    pub fn ring_for(&self, due: Option<Moment>) {
+    pub fn ring_for(&self, due: &Option<Moment>) {
         if wakes_for(due, self.looks_at.load(Ordering::SeqCst)) {
             self.work.ring_one();
         }

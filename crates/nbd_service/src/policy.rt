@@ -294,8 +294,8 @@ pub fn asks_for_turn(units: u32, passed: u64) -> bool
 
 /// Whether a worker is woken for what waits and is due at a moment, where another looks by itself at `looks_at`, in nanoseconds.
 /// What waits for something else than time has no moment.
-pub fn wakes_for(due: Option<Moment>, looks_at: u64) -> bool
-    ensures { result ≡ wakes_for_by due looks_at }
+pub fn wakes_for(due: &Option<Moment>, looks_at: u64) -> bool
+    ensures { result ≡ wakes_for_by due.now looks_at }
 {
     match due {
         Some(due) => due.nanoseconds() < looks_at,
@@ -304,8 +304,8 @@ pub fn wakes_for(due: Option<Moment>, looks_at: u64) -> bool
 }
 
 /// Whether what waits is due by now.
-pub fn is_due(due: Option<Moment>, now: Moment) -> bool
-    ensures { result ≡ is_due_by due now }
+pub fn is_due(due: &Option<Moment>, now: Moment) -> bool
+    ensures { result ≡ is_due_by due.now now }
 {
     match due {
         Some(due) => due.nanoseconds() <= now.nanoseconds(),

@@ -38,6 +38,19 @@ impl<'a, L: Ledger, R: Wait + time::Clock> WorkerGate<'a, L, R> {
         self.service.bells.note_crowd();
         self.service.shared.next_due(self.rt)
     }
+
+    /// Sleeps until a moment, and without end where there is none, but no longer than until the bell for work rings.
+    fn sleep_until(&self, due: Option<Moment>) {
+        self.service.bells.note_asleep(&due);
+        let at_most = match due {
+            Some(due) => Some(until(self.service.clock(self.rt).now(), due)),
+            None => None,
+        };
+        self.service
+            .bells
+            .work
+            .wait(self.rt, self.heard.get(), at_most);
+    }
 }
 
 impl<'a, L: Ledger, R: Wait + time::Clock> Clock for WorkerGate<'a, L, R> {
@@ -60,13 +73,7 @@ impl<'a, L: Ledger, R: Wait + time::Clock> Gate for WorkerGate<'a, L, R> {
             Some(due) => Some(due),
             None => self.due_after_all(),
         };
-        self.service.bells.note_asleep(due);
-        let now = self.service.clock(self.rt).now();
-        let at_most = due.map(|due| until(now, due));
-        self.service
-            .bells
-            .work
-            .wait(self.rt, self.heard.get(), at_most);
+        self.sleep_until(due);
         true
     }
 }

@@ -122,11 +122,10 @@ fn head(kind: u16, length: u32) -> RequestHead {
 
 #[test]
 fn who_is_woken_for_what_waits(rt: HostRuntime) {
-    assert!(rt;
-        wakes_for(Moment::new(4), 5) && !wakes_for(Moment::new(5), 5) && wakes_for(None, 5)
-    );
+    assert!(rt; wakes_for(&Moment::new(4), 5) && !wakes_for(&Moment::new(5), 5));
+    assert!(rt; wakes_for(&None, 5));
     let now = Moment::new(5).expect(&rt, "a moment");
-    assert!(rt; is_due(Some(now), now) && !is_due(Moment::new(6), now) && !is_due(None, now));
+    assert!(rt; is_due(&Some(now), now) && !is_due(&Moment::new(6), now) && !is_due(&None, now));
 }
 
 #[test]
