@@ -4,7 +4,7 @@
 use super::*;
 
 // Whether so many reads arrive at the first moment.
-fn are_sent<'a, E: Eligibility<Alloc = Memory<'a>>>(server: &mut Tried<'a, E>, count: u64) -> bool {
+fn are_sent<E: Eligibility<Alloc = Global>>(server: &mut Tried<E>, count: u64) -> bool {
     for _ in 0..count {
         if server.arrive(FIRST, at(0), read_of(0)).is_err() {
             return false;
@@ -13,7 +13,7 @@ fn are_sent<'a, E: Eligibility<Alloc = Memory<'a>>>(server: &mut Tried<'a, E>, c
     true
 }
 
-fn due_of<'a, E: Eligibility<Alloc = Memory<'a>>>(server: &Tried<'a, E>) -> Option<u64> {
+fn due_of<E: Eligibility<Alloc = Global>>(server: &Tried<E>) -> Option<u64> {
     match server.next_due() {
         Some(due) => Some(due.nanoseconds()),
         None => None,
@@ -21,8 +21,8 @@ fn due_of<'a, E: Eligibility<Alloc = Memory<'a>>>(server: &Tried<'a, E>) -> Opti
 }
 
 // What is due once the first of two is in service, and once it is performed.
-fn of_the_first<'a, E: Eligibility<Alloc = Memory<'a>>>(
-    server: &mut Tried<'a, E>,
+fn of_the_first<E: Eligibility<Alloc = Global>>(
+    server: &mut Tried<E>,
 ) -> Option<(Option<u64>, Option<u64>)> {
     let Some(chosen) = server.dispatch(at(7)) else {
         return None;
@@ -35,8 +35,8 @@ fn of_the_first<'a, E: Eligibility<Alloc = Memory<'a>>>(
 }
 
 // What is due once the second was chosen at the moment that it is due at, and once a third waits.
-fn of_the_last<'a, E: Eligibility<Alloc = Memory<'a>>>(
-    server: &mut Tried<'a, E>,
+fn of_the_last<E: Eligibility<Alloc = Global>>(
+    server: &mut Tried<E>,
 ) -> Option<(Option<u64>, Option<u64>)> {
     let Some(due) = due_of(server) else {
         return None;
@@ -53,9 +53,7 @@ fn of_the_last<'a, E: Eligibility<Alloc = Memory<'a>>>(
 
 // What is due next: before anything waits, once two wait, once the first is in service, once there is no room for the
 // second, once there is again, and once it was chosen.
-fn dues<'a, E: Eligibility<Alloc = Memory<'a>>>(
-    server: &mut Tried<'a, E>,
-) -> Option<[Option<u64>; 6]> {
+fn dues<E: Eligibility<Alloc = Global>>(server: &mut Tried<E>) -> Option<[Option<u64>; 6]> {
     if server.attach(0) != Ok(FIRST) {
         return None;
     }
@@ -73,43 +71,30 @@ fn dues<'a, E: Eligibility<Alloc = Memory<'a>>>(
     Some([idle, first, in_service, done, last, third])
 }
 
-fn tells<'a, E: Eligibility<Alloc = Memory<'a>>>(
-    memory: Memory<'a>,
-    exports: Exports<'_>,
-    told: [Option<u64>; 6],
-) -> bool {
-    match server_of::<E>(memory, exports) {
-        Some(mut server) => dues(&mut server) == Some(told),
-        None => false,
-    }
-}
-
-fn both_tell<'a>(
-    memory: Memory<'a>,
-    numbers: [u64; 6],
+fn tells<E: Eligibility<Alloc = Global>>(
+    alloc: Global,
+    rates: [u64; 5],
     inflight: u64,
     told: [Option<u64>; 6],
 ) -> bool {
-    let one = [numbers];
-    let exports = (one.as_slice(), inflight);
-    tells::<Listed<Memory<'a>>>(memory, exports, told)
-        && tells::<Heaped<Memory<'a>>>(memory, exports, told)
+    let Some(mut server) = server_of::<E>(alloc, &[rates], inflight) else {
+        return false;
+    };
+    dues(&mut server) == Some(told)
+}
+
+fn both_tell(alloc: Global, rates: [u64; 5], inflight: u64, told: [Option<u64>; 6]) -> bool {
+    tells::<Listed<Global>>(alloc, rates, inflight, told)
+        && tells::<Heaped<Global>>(alloc, rates, inflight, told)
 }
 
 #[test]
 fn what_is_due_next(rt: HostRuntime) {
-    let memory = Refusing::new(rt.alloc(), 0);
+    let alloc = rt.alloc();
     let (now, second, third) = (Some(0), Some(100_000_000), Some(200_000_000));
-    let limited = [4, 0, 10, 1, 8, 8];
-    assert!(rt;
-        both_tell(
-            &memory,
-            limited,
-            32,
-            [None, now, second, second, None, third]
-        )
-    );
-    assert!(rt; both_tell(&memory, limited, 1, [None, now, None, second, None, None]));
-    let reserved = [4, 4, 0, 1, 8, 8];
-    assert!(rt; both_tell(&memory, reserved, 32, [None, now, now, now, None, now]));
+    let limited = [0, 10, 1, 8, 8];
+    assert!(rt; both_tell(alloc, limited, 32, [None, now, second, second, None, third]));
+    assert!(rt; both_tell(alloc, limited, 1, [None, now, None, second, None, None]));
+    let reserved = [4, 0, 1, 8, 8];
+    assert!(rt; both_tell(alloc, reserved, 32, [None, now, now, now, None, now]));
 }

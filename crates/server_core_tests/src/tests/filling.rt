@@ -1,15 +1,24 @@
 //! A log whose 64 MiB of payload are full, by `Server::event`. Each growth of each attach and arrival is refused in turn: what
 //! found no memory changed nothing but the base, so the next one is refused of the same event.
 
-use super::journals::{counts, is_as_it_was};
+use super::journals::{Kept, counts, is_as_it_was};
 use super::*;
 use nbd_wire::protocol::WRITE;
 use server_table::{Answer, Event};
 
 const SIZE: usize = 33_554_432;
 
-// An export that a WRITE may fill.
-const ONE: Exports<'static> = (&[[33_554_432, 0, 0, 1, 1024, 256]], 32);
+// A server of one export that a WRITE may fill.
+fn made(memory: Memory<'_>) -> Option<Kept<'_>> {
+    let mut list = ExportList::new(memory);
+    if list.add(&ExportSettings::new(b"a", SIZE as u64)).is_err() {
+        return None;
+    }
+    match Config::new(list, 32) {
+        Ok(config) => Server::new(memory, &config).ok(),
+        Err(_) => None,
+    }
+}
 
 fn ones(memory: Memory<'_>) -> Option<Payload<Memory<'_>>> {
     let Ok(bytes) = Vec::from_elem(memory, 1u8, SIZE) else {
@@ -36,13 +45,11 @@ fn write_of<'a>(payload: Payload<Memory<'a>>) -> Option<Request<Memory<'a>>> {
 // A payload's clone, which is made again where it found no memory.
 fn clone_of<'a>(payload: &Payload<Memory<'a>>) -> Option<Payload<Memory<'a>>> {
     let first: Result<_, _> = payload.clone();
-    match first {
-        Ok(clone) => Some(clone),
-        Err(_) => {
-            let second: Result<_, _> = payload.clone();
-            second.ok()
-        }
+    if let Ok(clone) = first {
+        return Some(clone);
     }
+    let second: Result<_, _> = payload.clone();
+    second.ok()
 }
 
 // An attach, or the arrival of the WRITE of this number.
@@ -64,13 +71,12 @@ fn event_of<'a>(payload: &Payload<Memory<'a>>, number: Option<u64>) -> Option<Ev
     }
 }
 
-// Whether session 0 is opened, or the WRITE of this number waits; it isn't for want of memory. None for another answer.
-fn made_of<'a>(answer: &Answer<Memory<'a>>, number: Option<u64>) -> Option<bool> {
+// Whether session 0 is opened, or the WRITE of this number waits.
+fn is_made<'a>(answer: &Answer<Memory<'a>>, number: Option<u64>) -> bool {
     match answer {
-        Answer::NoMemory => Some(false),
-        Answer::Session(0) if number.is_none() => Some(true),
-        Answer::Accepted { number: told, .. } if number == Some(*told) => Some(true),
-        _ => None,
+        Answer::Session(session) => *session == 0 && number.is_none(),
+        Answer::Accepted { number: told, .. } => number == Some(*told),
+        _ => false,
     }
 }
 
@@ -106,22 +112,6 @@ fn judged(memory: Memory, server: &Kept, before: (u64, u64, u64), nth: u64, made
     }
 }
 
-// How an event goes, before which these steps were counted.
-fn attempted<'a>(
-    memory: Memory<'a>,
-    server: &mut Kept<'a>,
-    before: (u64, u64, u64),
-    event: (Event<Memory<'a>>, Option<u64>),
-    nth: u64,
-) -> Attempt {
-    memory.arm(nth);
-    let made = made_of(&server.event(event.0), event.1);
-    match made {
-        Some(made) => judged(memory, server, before, nth, made),
-        None => Attempt::Wrong,
-    }
-}
-
 fn tried<'a>(
     memory: Memory<'a>,
     server: &mut Kept<'a>,
@@ -130,12 +120,14 @@ fn tried<'a>(
     nth: u64,
 ) -> Attempt {
     memory.arm(0);
-    let Some(before) = counts(server, 0) else {
+    let (Some(before), Some(event)) = (counts(server, 0), event_of(payload, number)) else {
         return Attempt::Wrong;
     };
-    match event_of(payload, number) {
-        Some(event) => attempted(memory, server, before, (event, number), nth),
-        None => Attempt::Wrong,
+    memory.arm(nth);
+    match server.event(event) {
+        Answer::NoMemory => judged(memory, server, before, nth, false),
+        answer if is_made(&answer, number) => judged(memory, server, before, nth, true),
+        _ => Attempt::Wrong,
     }
 }
 
@@ -230,7 +222,7 @@ fn fills<'a>(
 
 fn fills_at<'a>(memory: Memory<'a>, payload: &Payload<Memory<'a>>, nth: u64) -> bool {
     memory.arm(0);
-    match server_of(memory, ONE) {
+    match made(memory) {
         Some(mut server) => fills(memory, &mut server, payload, nth),
         None => false,
     }

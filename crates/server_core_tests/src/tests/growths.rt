@@ -1,6 +1,7 @@
 //! Rows of events by `Server::event`, in which each growth is refused in turn. An event that found no memory is made again.
 //! A request that is performed without memory is told 12 (ENOMEM) and changes no byte.
 
+use super::journals::Kept;
 use super::*;
 use nbd_wire::protocol::WRITE;
 use server_table::{Answer, Event};
@@ -114,12 +115,35 @@ const BEHIND_THE_CROWD: [Row; 4] = [
 
 const CROWD: u64 = 1000;
 
-// Of the first export two requests may wait, and 1,024 of the second.
-const TWO: Exports<'static> = (&[[4096, 0, 0, 1, 2, 256], [4096, 0, 0, 1, 1024, 1024]], 32);
+// A server of two exports of 4,096 bytes. Two requests of the first may wait, and 1,024 of the second.
+fn made(memory: Memory<'_>) -> Option<Kept<'_>> {
+    let mut list = ExportList::new(memory);
+    for (name, rates) in [(b"a", [0, 0, 1, 2, 256]), (b"b", [0, 0, 1, 1024, 1024])] {
+        let sized = ExportSettings {
+            size: 4096,
+            ..settings(name.as_slice(), &rates)
+        };
+        if list.add(&sized).is_err() {
+            return None;
+        }
+    }
+    match Config::new(list, 32) {
+        Ok(config) => Server::new(memory, &config).ok(),
+        Err(_) => None,
+    }
+}
 
-// A WRITE of four bytes at the beginning.
-fn write_of<'a>(memory: Memory<'a>, cookie: u64) -> Option<Request<Memory<'a>>> {
-    let Ok(payload) = Payload::copied(memory, 0, [0xde, 0xad, 0xbe, 0xef].as_slice()) else {
+// A request of four bytes at the beginning. A payload that found no memory is made again.
+fn request_of<'a>(memory: Memory<'a>, kind: u16, cookie: u64) -> Option<Request<Memory<'a>>> {
+    if kind != WRITE {
+        return Some(read_of(cookie));
+    }
+    let bytes = [0xde, 0xad, 0xbe, 0xef];
+    let made = match Payload::copied(memory, 0, bytes.as_slice()) {
+        Ok(payload) => Ok(payload),
+        Err(_) => Payload::copied(memory, 0, bytes.as_slice()),
+    };
+    let Ok(payload) = made else {
         return None;
     };
     let head = RequestHead {
@@ -130,17 +154,6 @@ fn write_of<'a>(memory: Memory<'a>, cookie: u64) -> Option<Request<Memory<'a>>> 
         length: 4,
     };
     Some(Request::new(head, payload))
-}
-
-// A request of four bytes at the beginning. A payload that found no memory is made again.
-fn request_of<'a>(memory: Memory<'a>, kind: u16, cookie: u64) -> Option<Request<Memory<'a>>> {
-    if kind != WRITE {
-        return Some(read_of(cookie));
-    }
-    match write_of(memory, cookie) {
-        Some(request) => Some(request),
-        None => write_of(memory, cookie),
-    }
 }
 
 // An arrival: its export, session, moment and cookie.
@@ -359,8 +372,7 @@ fn goes<'a>(
     true
 }
 
-pub fn goes_when_gone<'a>(memory: Memory<'a>, server: &mut Kept<'a>, nth: u64) -> bool {
-    memory.arm(nth);
+fn goes_when_gone<'a>(memory: Memory<'a>, server: &mut Kept<'a>) -> bool {
     let mut lost = 0u64;
     for (waiting, rows) in &GONE {
         if !goes(memory, server, rows, *waiting, &mut lost) {
@@ -384,8 +396,7 @@ fn are_crowded<'a>(memory: Memory<'a>, server: &mut Kept<'a>, lost: &mut u64) ->
     true
 }
 
-pub fn goes_in_a_crowd<'a>(memory: Memory<'a>, server: &mut Kept<'a>, nth: u64) -> bool {
-    memory.arm(nth);
+fn goes_in_a_crowd<'a>(memory: Memory<'a>, server: &mut Kept<'a>) -> bool {
     let mut lost = 0u64;
     goes(memory, server, &BEFORE_THE_CROWD, NONE, &mut lost)
         && are_crowded(memory, server, &mut lost)
@@ -444,8 +455,7 @@ fn goes_round<'a>(memory: Memory<'a>, server: &mut Kept<'a>, number: u64, lost: 
         )
 }
 
-pub fn goes_in_rounds<'a>(memory: Memory<'a>, server: &mut Kept<'a>, nth: u64) -> bool {
-    memory.arm(nth);
+fn goes_in_rounds<'a>(memory: Memory<'a>, server: &mut Kept<'a>) -> bool {
     let mut lost = 0u64;
     for (waiting, rows) in &BEFORE_THE_ROUNDS {
         if !goes(memory, server, rows, *waiting, &mut lost) {
@@ -460,10 +470,44 @@ pub fn goes_in_rounds<'a>(memory: Memory<'a>, server: &mut Kept<'a>, nth: u64) -
     server.steps() == 84
 }
 
+#[derive(Clone, Copy)]
+enum Play {
+    Gone,
+    Crowd,
+    Rounds,
+}
+
+// Whether events are answered as they should be where this growth is refused.
+fn goes_at(memory: Memory, nth: u64, play: Play) -> bool {
+    let Some(mut server) = made(memory) else {
+        return false;
+    };
+    memory.arm(nth);
+    match play {
+        Play::Gone => goes_when_gone(memory, &mut server),
+        Play::Crowd => goes_in_a_crowd(memory, &mut server),
+        Play::Rounds => goes_in_rounds(memory, &mut server),
+    }
+}
+
+// How many growths there are, each of which was refused in turn. 0 where an answer was wrong, or there is no end.
+fn growths_of(alloc: Global, play: Play) -> u64 {
+    for nth in 1..1000u64 {
+        let memory = Refusing::new(alloc, 0);
+        if !goes_at(&memory, nth, play) {
+            return 0;
+        }
+        if memory.is_armed() {
+            return nth - 1;
+        }
+    }
+    0
+}
+
 // In each row an outbox and a log for each attach, and a log's growth for each doubling.
 #[test]
 fn each_growth_of_two_exports_is_refused_in_turn(rt: HostRuntime) {
-    assert!(rt; growths_of(rt.alloc(), TWO, Play::Gone) >= 5);
-    assert!(rt; growths_of(rt.alloc(), TWO, Play::Crowd) >= 6);
-    assert!(rt; growths_of(rt.alloc(), TWO, Play::Rounds) >= 6);
+    assert!(rt; growths_of(rt.alloc(), Play::Gone) >= 5);
+    assert!(rt; growths_of(rt.alloc(), Play::Crowd) >= 6);
+    assert!(rt; growths_of(rt.alloc(), Play::Rounds) >= 6);
 }

@@ -3,8 +3,28 @@
 use super::*;
 use export_cell::Outdated;
 
-// Two requests of a session may be under way.
-pub const TWO: Exports<'static> = (&[[4, 0, 0, 1, 2, 2], [4, 0, 0, 1, 2, 2]], 4);
+pub type Kept<'a> = Server<Paged<Memory<'a>>, Heaped<Memory<'a>>>;
+
+// Two exports; two requests of a session may be under way.
+fn configured<'a>(memory: Memory<'a>) -> Option<Config<Memory<'a>>> {
+    let mut list = ExportList::new(memory);
+    for name in [b"a", b"b"] {
+        if list
+            .add(&settings(name.as_slice(), &[0, 0, 1, 2, 2]))
+            .is_err()
+        {
+            return None;
+        }
+    }
+    Config::new(list, 4).ok()
+}
+
+pub fn made<'a>(memory: Memory<'a>) -> Option<Kept<'a>> {
+    let Some(config) = configured(memory) else {
+        return None;
+    };
+    Server::new(memory, &config).ok()
+}
 
 // How many steps an export counted, how many its log has, and how many its base has made.
 pub fn counts(server: &Kept, export: u32) -> Option<(u64, u64, u64)> {
@@ -57,21 +77,20 @@ pub fn attaches(server: &mut Kept, number: u64) -> bool {
     }
 }
 
-// Whether an arrival that found no memory changed nothing but the base, and this request came back.
-fn is_back<'a>(server: &Kept<'a>, before: (u64, u64, u64), request: &Request<Memory<'a>>) -> bool {
-    is_as_it_was(server, before) && server.waiting() == 0 && request.head().cookie == 7
-}
-
-// The same, and the request then waits.
+// Whether an arrival that found no memory changed nothing but the base, and the same request then waits.
 fn arrives_again<'a>(
     server: &mut Kept<'a>,
     before: (u64, u64, u64),
     request: Request<Memory<'a>>,
 ) -> bool {
-    let back = is_back(server, before, &request);
-    let base = counts(server, 0).unwrap_or(before).2;
-    let arrived = server.arrive(FIRST, at(0), request).is_ok();
-    back && arrived && is_within(server, base)
+    let Some((_, _, base)) = counts(server, 0) else {
+        return false;
+    };
+    is_as_it_was(server, before)
+        && server.waiting() == 0
+        && request.head().cookie == 7
+        && server.arrive(FIRST, at(0), request).is_ok()
+        && is_within(server, base)
 }
 
 // Whether a READ of session 0 of export 0 waits, at the second time where the first found no memory.
@@ -111,53 +130,68 @@ pub fn is_served(server: &mut Kept, session: u64, rounds: u64) -> bool {
     true
 }
 
-// Whether this session is opened and so many READs are served, and export 0 then counts this.
-fn counts_behind(server: &mut Kept, session: u64, rounds: u64, wanted: (u64, u64, u64)) -> bool {
-    is_served(server, session, rounds) && counts(server, 0) == Some(wanted)
-}
-
-// Whether nothing is counted of export 0 at first, there is no export 2, and export 1 opens a session.
-fn is_begun(server: &mut Kept) -> bool {
-    counts(server, 0) == Some((0, 0, 0)) && counts(server, 2).is_none() && server.attach(1).is_ok()
-}
-
 // The oldest steps go into the base, and other exports keep theirs.
-pub fn are_kept(server: &mut Kept) -> bool {
-    is_begun(server)
-        && counts_behind(server, 0, 1024, (4097, 4097, 0))
-        && counts_behind(server, 1, 6, (4122, 4099, 23))
-        && counts(server, 1) == Some((1, 1, 0))
-        && server.steps() == 4123
-}
-
 #[test]
 fn each_export_keeps_its_journal(rt: HostRuntime) {
-    assert!(rt; goes_well(rt.alloc(), TWO, Play::Journal));
+    let memory = Refusing::new(rt.alloc(), 0);
+    let mut server = made(&memory).expect(&rt, "a server");
+    assert!(rt; counts(&server, 0) == Some((0, 0, 0)) && counts(&server, 2).is_none());
+    assert!(rt; server.attach(1).is_ok());
+    assert!(rt; is_served(&mut server, 0, 1024));
+    assert!(rt; counts(&server, 0) == Some((4097, 4097, 0)));
+    assert!(rt; is_served(&mut server, 1, 6));
+    assert!(rt; counts(&server, 0) == Some((4122, 4099, 23)));
+    assert!(rt; counts(&server, 1) == Some((1, 1, 0)));
+    assert!(rt; server.steps() == 4123);
 }
 
-pub fn log_grows<'a>(memory: Memory<'a>, server: &mut Kept<'a>, nth: u64) -> bool {
+fn log_grows(memory: Memory, nth: u64) -> bool {
+    let Some(mut server) = made(memory) else {
+        return false;
+    };
     memory.arm(nth);
-    counts_behind(server, 0, 100, (401, 401, 0))
+    is_served(&mut server, 0, 100) && counts(&server, 0) == Some((401, 401, 0))
 }
 
 // From the opening on, while the log grows.
 #[test]
 fn each_growth_of_a_log_is_refused_in_turn(rt: HostRuntime) {
-    assert!(rt; growths_of(rt.alloc(), TWO, Play::Log) >= 8);
+    let mut refused = 0u64;
+    for nth in 1..1000u64 {
+        let memory = Refusing::new(rt.alloc(), 0);
+        assert!(rt; log_grows(&memory, nth), "at {nth}");
+        if memory.is_armed() {
+            break;
+        }
+        refused = nth;
+    }
+    assert!(rt; refused >= 8);
 }
 
-pub fn base_grows<'a>(memory: Memory<'a>, server: &mut Kept<'a>, nth: u64) -> bool {
-    if !is_served(server, 0, 1024) {
+fn base_grows(memory: Memory, nth: u64) -> bool {
+    let Some(mut server) = made(memory) else {
+        return false;
+    };
+    if !is_served(&mut server, 0, 1024) {
         return false;
     }
     memory.arm(nth);
-    counts_behind(server, 1, 6, (4122, 4099, 23))
+    is_served(&mut server, 1, 6) && counts(&server, 0) == Some((4122, 4099, 23))
 }
 
 // Where the log is full, the steps that go into the base may want memory too.
 #[test]
 fn each_growth_of_a_base_is_refused_in_turn(rt: HostRuntime) {
-    assert!(rt; growths_of(rt.alloc(), TWO, Play::Base) >= 3);
+    let mut refused = 0u64;
+    for nth in 1..1000u64 {
+        let memory = Refusing::new(rt.alloc(), 0);
+        assert!(rt; base_grows(&memory, nth), "at {nth}");
+        if memory.is_armed() {
+            break;
+        }
+        refused = nth;
+    }
+    assert!(rt; refused >= 3);
 }
 
 // Of an export that is there, and of one that isn't.
@@ -172,11 +206,11 @@ fn sweeps<'a>(memory: Memory<'a>, server: &mut Kept<'a>) -> bool {
     true
 }
 
-pub fn is_swept<'a>(memory: Memory<'a>, server: &mut Kept<'a>) -> bool {
-    attaches(server, 0) && sweeps(memory, server) && counts(server, 0) == Some((1, 1, 0))
-}
-
 #[test]
 fn a_sweep_is_no_step(rt: HostRuntime) {
-    assert!(rt; goes_well(rt.alloc(), TWO, Play::Sweep));
+    let memory = Refusing::new(rt.alloc(), 0);
+    let mut server = made(&memory).expect(&rt, "a server");
+    assert!(rt; attaches(&mut server, 0));
+    assert!(rt; sweeps(&memory, &mut server));
+    assert!(rt; counts(&server, 0) == Some((1, 1, 0)));
 }

@@ -3,9 +3,15 @@
 
 use super::*;
 
-type Small<'a> = Tried<'a, Listed<Memory<'a>>>;
+type Small<'a> = Server<Paged<Memory<'a>>, Listed<Memory<'a>>>;
 
-const ONE: Exports<'static> = (&[[4, 0, 0, 1, 8, 8]], 4);
+fn config_in<'a>(memory: Memory<'a>) -> Option<Config<Memory<'a>>> {
+    let mut list = ExportList::new(memory);
+    if list.add(&settings(b"a", &[0, 0, 1, 8, 8])).is_err() {
+        return None;
+    }
+    Config::new(list, 4).ok()
+}
 
 fn flush_in<'a>() -> Request<Memory<'a>> {
     let head = RequestHead {
@@ -20,42 +26,48 @@ fn flush_in<'a>() -> Request<Memory<'a>> {
 
 // Whether a server is made, while memory is refused as armed.
 fn is_made<'a>(memory: Memory<'a>, config: &Config<Memory<'a>>) -> bool {
-    let made: Result<Kept<'a>, _> = Server::new(memory, config);
+    let made: Result<Server<Paged<Memory<'a>>, Heaped<Memory<'a>>>, _> = Server::new(
+        memory, config,
+    );
     made.is_ok()
 }
 
 // Whether a server is made while the nth growth is refused; where it isn't, one is made behind it. None where even that
 // isn't.
-fn is_made_at<'a>(memory: Memory<'a>, config: &Config<Memory<'a>>, nth: u64) -> Option<bool> {
+fn is_made_at(memory: Memory, nth: u64) -> Option<bool> {
+    let Some(config) = config_in(memory) else {
+        return None;
+    };
     memory.arm(nth);
-    if is_made(memory, config) {
+    if is_made(memory, &config) {
         return Some(true);
     }
-    if is_made(memory, config) {
+    if is_made(memory, &config) {
         Some(false)
     } else {
         None
     }
 }
 
-// How many growths of `new` there are, each of which was refused in turn. None where no server was made behind one.
-fn refusals<'a>(memory: Memory<'a>, config: &Config<Memory<'a>>) -> Option<u64> {
-    for nth in 1..100u64 {
-        match is_made_at(memory, config, nth) {
-            Some(true) => return Some(nth - 1),
-            Some(false) => {}
-            None => return None,
-        }
-    }
-    None
-}
-
 #[test]
 fn new_wants_memory(rt: HostRuntime) {
-    let memory = Refusing::new(rt.alloc(), 0);
-    let config = config_of(&memory, ONE).expect(&rt, "a configuration");
-    let refused = refusals(&memory, &config).expect(&rt, "made behind each refusal");
+    let mut refused = 0u64;
+    for nth in 1..100u64 {
+        let memory = Refusing::new(rt.alloc(), 0);
+        let made = is_made_at(&memory, nth).expect(&rt, "made behind the refusal");
+        if made {
+            break;
+        }
+        refused = nth;
+    }
     assert!(rt; refused > 0);
+}
+
+fn small<'a>(memory: Memory<'a>) -> Option<Small<'a>> {
+    let Some(config) = config_in(memory) else {
+        return None;
+    };
+    Server::new(memory, &config).ok()
 }
 
 // Whether the request that waits is chosen and performed, and its reply taken.
@@ -95,18 +107,15 @@ fn back_of<'a>(server: &mut Small<'a>) -> Option<Request<Memory<'a>>> {
     None
 }
 
-fn is_back<'a>(server: &Small<'a>, request: &Request<Memory<'a>>) -> bool {
-    request.head().cookie == 7 && server.waiting() == 0
-}
-
 // Whether a request comes back for want of memory, and then waits alone.
 fn arrives_behind(memory: Memory, server: &mut Small) -> bool {
     memory.arm(1);
     let Some(request) = back_of(server) else {
         return false;
     };
-    let back = is_back(server, &request);
-    server.arrive(FIRST, at(0), request).is_ok() && back
+    request.head().cookie == 7
+        && server.waiting() == 0
+        && server.arrive(FIRST, at(0), request).is_ok()
 }
 
 // Whether the tags want memory once.
@@ -115,25 +124,15 @@ fn tells_behind<'a>(memory: Memory<'a>, server: &Small<'a>) -> bool {
     matches!(server.tags(memory, 0), Err(NoTags::NoMemory)) && server.tags(memory, 0).is_ok()
 }
 
-// Whether what follows the arrival takes no memory.
-fn takes_none(memory: Memory, server: &mut Small) -> bool {
-    memory.arm(1);
-    is_done(server)
-        && server.leave(FIRST).is_ok()
-        && server.gone(FIRST).is_ok()
-        && memory.is_armed()
-}
-
-fn goes_small<'a>(memory: Memory<'a>, server: &mut Small<'a>) -> bool {
-    attaches_behind(memory, server)
-        && arrives_behind(memory, server)
-        && tells_behind(memory, server)
-        && takes_none(memory, server)
-}
-
 #[test]
 fn sessions_want_memory(rt: HostRuntime) {
     let memory = Refusing::new(rt.alloc(), 0);
-    let mut server = server_of(&memory, ONE).expect(&rt, "a server");
-    assert!(rt; goes_small(&memory, &mut server));
+    let mut server = small(&memory).expect(&rt, "a server");
+    assert!(rt; attaches_behind(&memory, &mut server));
+    assert!(rt; arrives_behind(&memory, &mut server));
+    assert!(rt; tells_behind(&memory, &server));
+    memory.arm(1);
+    assert!(rt; is_done(&mut server));
+    assert!(rt; server.leave(FIRST).is_ok() && server.gone(FIRST).is_ok());
+    assert!(rt; memory.is_armed());
 }

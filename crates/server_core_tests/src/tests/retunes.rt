@@ -1,6 +1,6 @@
 //! A retune is refused for the first of its reasons. One that found no memory changed nothing, and may be made again.
 
-use super::journals::{TWO, arrives, attaches, counts, is_as_it_was, is_served, is_within};
+use super::journals::{Kept, arrives, attaches, counts, is_as_it_was, is_served, is_within, made};
 use super::*;
 use nbd_commands::Rates;
 use server_table::{Answer, Event};
@@ -17,23 +17,21 @@ fn keeps_its_rates(memory: Memory, server: &mut Kept, rates: Rates) -> bool {
 }
 
 // The same behind so many retunes, with which the log may be as full as it is long.
-pub fn are_refused<'a>(memory: Memory<'a>, server: &mut Kept<'a>, rounds: u64) -> bool {
-    let Ok(rates) = Rates::new(0, 4, 1) else {
+fn keeps_them_behind(memory: Memory, rounds: u64) -> bool {
+    let (Some(mut server), Ok(rates)) = (made(memory), Rates::new(0, 4, 1)) else {
         return false;
     };
-    are_made(server, rounds)
-        && attaches(server, 0)
-        && arrives(server)
-        && keeps_its_rates(memory, server, rates)
+    are_made(&mut server, rounds)
+        && attaches(&mut server, 0)
+        && arrives(&mut server)
+        && keeps_its_rates(memory, &mut server, rates)
 }
 
 #[test]
 fn a_retune_is_refused_in_order(rt: HostRuntime) {
     for rounds in 0..20u64 {
-        assert!(rt;
-            goes_well(rt.alloc(), TWO, Play::RetuneInOrder(rounds)),
-            "behind {rounds}"
-        );
+        let memory = Refusing::new(rt.alloc(), 0);
+        assert!(rt; keeps_them_behind(&memory, rounds), "behind {rounds}");
     }
 }
 
@@ -51,19 +49,14 @@ fn changes_again(memory: Memory, server: &mut Kept, rates: Rates) -> bool {
     )
 }
 
-pub fn comes_again<'a>(memory: Memory<'a>, server: &mut Kept<'a>) -> bool {
-    let Ok(rates) = Rates::new(0, 4, 1) else {
-        return false;
-    };
-    attaches(server, 0)
-        && arrives(server)
-        && changes_again(memory, server, rates)
-        && server.steps() == 3
-}
-
 #[test]
 fn a_retune_finds_memory_again(rt: HostRuntime) {
-    assert!(rt; goes_well(rt.alloc(), TWO, Play::RetuneAgain));
+    let memory = Refusing::new(rt.alloc(), 0);
+    let mut server = made(&memory).expect(&rt, "a server");
+    let rates = Rates::new(0, 4, 1).expect(&rt, "in range");
+    assert!(rt; attaches(&mut server, 0) && arrives(&mut server));
+    assert!(rt; changes_again(&memory, &mut server, rates));
+    assert!(rt; server.steps() == 3);
 }
 
 // Whether a retune that found no memory changed nothing but the base, which is no further then than after the next one.
@@ -99,27 +92,51 @@ fn are_made(server: &mut Kept, rounds: u64) -> bool {
     true
 }
 
-pub fn log_grows<'a>(memory: Memory<'a>, server: &mut Kept<'a>, nth: u64) -> bool {
+fn log_grows(memory: Memory, nth: u64) -> bool {
+    let Some(mut server) = made(memory) else {
+        return false;
+    };
     memory.arm(nth);
-    are_made(server, 20) && counts(server, 0) == Some((20, 20, 0))
+    are_made(&mut server, 20) && counts(&server, 0) == Some((20, 20, 0))
 }
 
 // From the first retune on, while the log grows.
 #[test]
 fn each_growth_of_a_log_is_refused_in_turn(rt: HostRuntime) {
-    assert!(rt; growths_of(rt.alloc(), TWO, Play::RetuneLog) >= 2);
+    let mut refused = 0u64;
+    for nth in 1..1000u64 {
+        let memory = Refusing::new(rt.alloc(), 0);
+        assert!(rt; log_grows(&memory, nth), "at {nth}");
+        if memory.is_armed() {
+            break;
+        }
+        refused = nth;
+    }
+    assert!(rt; refused >= 2);
 }
 
-pub fn base_grows<'a>(memory: Memory<'a>, server: &mut Kept<'a>, nth: u64) -> bool {
-    if !is_served(server, 0, 1024) {
+fn base_grows(memory: Memory, nth: u64) -> bool {
+    let Some(mut server) = made(memory) else {
+        return false;
+    };
+    if !is_served(&mut server, 0, 1024) {
         return false;
     }
     memory.arm(nth);
-    are_made(server, 12) && counts(server, 0) == Some((4109, 4096, 13))
+    are_made(&mut server, 12) && counts(&server, 0) == Some((4109, 4096, 13))
 }
 
 // Where the log is full, the steps that go into the base may want memory.
 #[test]
 fn each_growth_of_a_base_is_refused_in_turn(rt: HostRuntime) {
-    assert!(rt; growths_of(rt.alloc(), TWO, Play::RetuneBase) >= 2);
+    let mut refused = 0u64;
+    for nth in 1..1000u64 {
+        let memory = Refusing::new(rt.alloc(), 0);
+        assert!(rt; base_grows(&memory, nth), "at {nth}");
+        if memory.is_armed() {
+            break;
+        }
+        refused = nth;
+    }
+    assert!(rt; refused >= 2);
 }

@@ -2,11 +2,10 @@
 
 use super::*;
 
-// One request of a session may be under way, and one in service.
-const ONE: Exports<'static> = (&[[4, 0, 0, 1, 8, 1]], 1);
+type One = Tried<Heaped<Global>>;
 
 // Whether a request arrives, and a second one is held and comes back.
-fn holds_the_second(server: &mut Kept) -> bool {
+fn holds_the_second(server: &mut One) -> bool {
     if server.arrive(FIRST, at(0), read_of(1)).is_err() {
         return false;
     }
@@ -17,7 +16,7 @@ fn holds_the_second(server: &mut Kept) -> bool {
 }
 
 // The ticket of the request that waits, where it is number 0 of export 0 and is found as that alone.
-fn ticket_of(server: &mut Kept) -> Option<Ticket> {
+fn ticket_of(server: &mut One) -> Option<Ticket> {
     let Some(chosen) = server.dispatch(at(0)) else {
         return None;
     };
@@ -31,7 +30,7 @@ fn ticket_of(server: &mut Kept) -> Option<Ticket> {
     }
 }
 
-fn is_good_once(server: &mut Kept) -> bool {
+fn is_good_once(server: &mut One) -> bool {
     let Some(ticket) = ticket_of(server) else {
         return false;
     };
@@ -41,7 +40,7 @@ fn is_good_once(server: &mut Kept) -> bool {
 }
 
 // Whether 63 sessions more are opened, in the order of their numbers, and no further one.
-fn fills(server: &mut Kept) -> bool {
+fn fills(server: &mut One) -> bool {
     for number in 1..64u64 {
         if server.attach(0) != Ok(SessionId { export: 0, number }) {
             return false;
@@ -50,16 +49,15 @@ fn fills(server: &mut Kept) -> bool {
     server.attach(0) == Err(NotAttached::Full)
 }
 
-pub fn are_good(server: &mut Kept) -> bool {
-    server.attach(0) == Ok(FIRST)
-        && holds_the_second(server)
-        && server.waiting() == 1
-        && is_good_once(server)
-        && fills(server)
-        && (server.waiting(), server.steps()) == (0, 67)
-}
-
 #[test]
 fn tickets_are_good_once(rt: HostRuntime) {
-    assert!(rt; goes_well(rt.alloc(), ONE, Play::Tickets));
+    let mut server = server_of::<Heaped<Global>>(rt.alloc(), &[[0, 0, 1, 8, 1]], 1).expect(
+        &rt, "a server",
+    );
+    assert!(rt; server.attach(0) == Ok(FIRST));
+    assert!(rt; holds_the_second(&mut server));
+    assert!(rt; server.waiting() == 1);
+    assert!(rt; is_good_once(&mut server));
+    assert!(rt; fills(&mut server));
+    assert!(rt; (server.waiting(), server.steps()) == (0, 67));
 }
