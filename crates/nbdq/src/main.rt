@@ -23,7 +23,6 @@ use std::thread::Threads;
 use std::time::Clock;
 
 /// The commands over the system's streams, files and sockets.
-#[derive(Drop)]
 struct Program<'a, R> {
     rt: &'a R,
 }
