@@ -7,63 +7,16 @@ mod serving;
 
 use clap::Error;
 use control::control;
+use nbd_scripts::{replay_script, talk_script};
 use nbd_session::Counted;
 use nbdq_cli::{
-    Commands, ControlTask, Ending, Outcome, ServeTask, Task, flushed, read_command_line, run_asked,
-    run_task,
+    Ending, Job, Outcome, Task, check_text, end_of_refusal, read_command_line, status_of_end,
+    text_of_end,
 };
 use serve::serve;
-use std::fs::Files;
 use std::io;
-use std::io::BufWriter;
-use std::net::{Net, TcpListener, TcpStream};
+use std::io::{BufWriter, Write};
 use std::process::ExitCode;
-use std::sync::Wait;
-use std::thread::Threads;
-use std::time::Clock;
-
-/// The commands over the system's streams, files and sockets.
-struct Program<'a, R> {
-    rt: &'a R,
-}
-
-impl<'a, R> Commands for Program<'a, R>
-where
-    R: Input
-        + Print
-        + Eprint
-        + AllocGlobal
-        + Net<Listener = TcpListener, Stream = TcpStream>
-        + Files
-        + Wait
-        + Threads
-        + Sync
-        + Clock,
-{
-    fn task(&mut self, task: Task) -> Outcome {
-        run(self.rt, task)
-    }
-
-    fn serve(&mut self, task: &ServeTask) -> Ending {
-        serve(self.rt, task)
-    }
-
-    fn control(&mut self, task: &ControlTask) -> Ending {
-        control(self.rt, task)
-    }
-
-    fn show(&mut self, error: &Error) -> bool {
-        self.rt.print(error).is_ok()
-    }
-
-    fn explain(&mut self, error: &Error) {
-        let _ = self.rt.eprint(error);
-    }
-
-    fn tell(&mut self, line: &str) {
-        let _ = self.rt.eprintln(line);
-    }
-}
 
 /// The commands that read all of standard input, and then write.
 fn run<R: Input + Print + AllocGlobal>(rt: &R, task: Task) -> Outcome {
@@ -73,11 +26,43 @@ fn run<R: Input + Print + AllocGlobal>(rt: &R, task: Task) -> Outcome {
     };
     let mut input = Counted::new(rt.reader());
     let mut output = Counted::new(writer);
-    let outcome = run_task(task, alloc, alloc, &mut input, &mut output);
-    flushed(outcome, &mut output)
+    let outcome = match task {
+        Task::Check => check_text(alloc, alloc, &mut input, &mut output),
+        Task::Talk => talk_script(alloc, &mut input, &mut output),
+        Task::Replay => replay_script(alloc, &mut input, &mut output),
+    };
+    match output.flush() {
+        Ok(()) => outcome,
+        Err(_) => Outcome::WriteFailed,
+    }
 }
 
+/// Shows the text of the command line's parser: the version on standard output, all else on standard error.
+fn show<R: Print + Eprint>(rt: &R, error: &Error) -> Ending {
+    let end = end_of_refusal(error);
+    match end {
+        Ending::Version => match rt.print(error) {
+            Ok(()) => end,
+            Err(_) => Ending::Ran(Outcome::WriteFailed),
+        },
+        Ending::Usage => {
+            let _ = rt.eprint(error);
+            end
+        }
+        _ => end,
+    }
+}
+
+// A standard error that fails changes no status.
 fn main(rt: HostRuntime) -> ExitCode {
-    let asked = read_command_line(&rt);
-    ExitCode::from(run_asked(&mut Program { rt: &rt }, asked))
+    let end = match read_command_line(&rt) {
+        Ok(Job::Task(task)) => Ending::Ran(run(&rt, task)),
+        Ok(Job::Serve(task)) => serve(&rt, &task),
+        Ok(Job::Control(task)) => control(&rt, &task),
+        Err(error) => show(&rt, &error),
+    };
+    if let Some(line) = text_of_end(end) {
+        let _ = rt.eprintln(line);
+    }
+    ExitCode::from(status_of_end(end))
 }

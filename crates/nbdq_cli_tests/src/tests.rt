@@ -1,4 +1,3 @@
 mod checks;
 mod command_lines;
-mod dispatch;
 mod warnings;
