@@ -18,6 +18,7 @@ pub mod Accepting
 pub mod Goings
 pub mod Counting
 pub mod Counted
+pub mod Made
 pub mod Tagged
 pub mod NextDue
 pub mod Journals

@@ -181,6 +181,7 @@ fn arrived<A: Allocator>(
 impl<I: Image, E: Eligibility<Alloc = I::Alloc>> Server<I, E> {
     ghost use Rattle.server_core.specs.Served.{Holds, Stepped, attach_says, retune_says, leave_says, gone_says, take_says, arrive_says, dispatch_says, perform_says, seats_chosen, opening_served, setup_for, waiting_tags};
     ghost use Rattle.server_core.specs.Counted.{counted_steps, rise, IsSound};
+    ghost use Rattle.server_core.specs.Made.{Makes};
     ghost use Rattle.server_core.specs.Journals.{EventMoves, IsCellOf};
 
     /// A server of the exports of a configuration, each in its opening state.
@@ -272,13 +273,8 @@ impl<I: Image, E: Eligibility<Alloc = I::Alloc>> Server<I, E> {
 
     /// Nothing more arrives on a session that is open. It takes no memory.
     pub fn leave(&mut self, session: SessionId) -> Result<(), SessionRefusal>
-        ensures step { Stepped {A = I.Alloc} self.old (event.Leave session.export session.number)
+        ensures { Makes {A = I.Alloc} self.old (event.Leave session.export session.number)
             self.new (leave_says result) }
-        ensures journals { EventMoves {A = I.Alloc} self.old
-            (event.Leave session.export session.number) self.new (leave_says result) }
-        ensures counted { counted_steps self.new
-            ≡ counted_steps self.old + rise {A = I.Alloc} (leave_says result) }
-        ensures seats { self.new.seats ≡ self.old.seats }
     {
         if session.export as usize >= self.members.len() {
             return Err(SessionRefusal::NoExport);
@@ -289,13 +285,8 @@ impl<I: Image, E: Eligibility<Alloc = I::Alloc>> Server<I, E> {
 
     /// A session that isn't gone is dropped with its replies; its requests are still served. It takes no memory.
     pub fn gone(&mut self, session: SessionId) -> Result<(), SessionRefusal>
-        ensures step { Stepped {A = I.Alloc} self.old (event.Gone session.export session.number)
+        ensures { Makes {A = I.Alloc} self.old (event.Gone session.export session.number)
             self.new (gone_says result) }
-        ensures journals { EventMoves {A = I.Alloc} self.old
-            (event.Gone session.export session.number) self.new (gone_says result) }
-        ensures counted { counted_steps self.new
-            ≡ counted_steps self.old + rise {A = I.Alloc} (gone_says result) }
-        ensures seats { self.new.seats ≡ self.old.seats }
     {
         if session.export as usize >= self.members.len() {
             return Err(SessionRefusal::NoExport);
@@ -306,13 +297,8 @@ impl<I: Image, E: Eligibility<Alloc = I::Alloc>> Server<I, E> {
 
     /// The oldest reply of a session that isn't gone is taken. It takes no memory.
     pub fn take_reply(&mut self, session: SessionId) -> Result<Taken<I::Alloc>, SessionRefusal>
-        ensures step { Stepped {A = I.Alloc} self.old (event.Take session.export session.number)
+        ensures { Makes {A = I.Alloc} self.old (event.Take session.export session.number)
             self.new (take_says result) }
-        ensures journals { EventMoves {A = I.Alloc} self.old
-            (event.Take session.export session.number) self.new (take_says result) }
-        ensures counted { counted_steps self.new
-            ≡ counted_steps self.old + rise {A = I.Alloc} (take_says result) }
-        ensures seats { self.new.seats ≡ self.old.seats }
     {
         if session.export as usize >= self.members.len() {
             return Err(SessionRefusal::NoExport);
@@ -324,13 +310,8 @@ impl<I: Image, E: Eligibility<Alloc = I::Alloc>> Server<I, E> {
     /// Opens a session of an export. The oldest steps of its log go into its base, as many as have to; without memory some
     /// of these.
     pub fn attach(&mut self, export: u32) -> Result<SessionId, NotAttached>
-        ensures step { Stepped {A = I.Alloc} self.old (event.Attach export) self.new
-            (attach_says result) }
-        ensures journals { EventMoves {A = I.Alloc} self.old (event.Attach export) self.new
-            (attach_says result) }
-        ensures counted { counted_steps self.new
-            ≡ counted_steps self.old + rise {A = I.Alloc} (attach_says result) }
-        ensures seats { self.new.seats ≡ self.old.seats }
+        ensures makes { Makes {A = I.Alloc} self.old (event.Attach export)
+            self.new (attach_says result) }
         ensures export { IfOk result (λ session. session.export ≡ export) }
     {
         if export as usize >= self.members.len() {
@@ -344,13 +325,8 @@ impl<I: Image, E: Eligibility<Alloc = I::Alloc>> Server<I, E> {
     /// does the last R tag where the new rates have a reservation. The oldest steps of its log go into its base, as many as
     /// have to; without memory some of these.
     pub fn retune(&mut self, export: u32, rates: Rates) -> Result<(), NotRetuned>
-        ensures step { Stepped {A = I.Alloc} self.old (event.Retune export rates) self.new
-            (retune_says result) }
-        ensures journals { EventMoves {A = I.Alloc} self.old (event.Retune export rates) self.new
-            (retune_says result) }
-        ensures counted { counted_steps self.new
-            ≡ counted_steps self.old + rise {A = I.Alloc} (retune_says result) }
-        ensures seats { self.new.seats ≡ self.old.seats }
+        ensures { Makes {A = I.Alloc} self.old (event.Retune export rates)
+            self.new (retune_says result) }
     {
         if export as usize >= self.members.len() {
             return Err(NotRetuned::NoExport);
@@ -414,13 +390,8 @@ impl<I: Image, E: Eligibility<Alloc = I::Alloc>> Server<I, E> {
         moment: Moment,
         request: Request<I::Alloc>,
     ) -> Result<Arrived, NotArrived<I::Alloc>>
-        ensures step { Stepped {A = I.Alloc} self.old (event.Arrive session.export session.number
+        ensures makes { Makes {A = I.Alloc} self.old (event.Arrive session.export session.number
             moment request) self.new (arrive_says result) }
-        ensures journals { EventMoves {A = I.Alloc} self.old (event.Arrive session.export
-            session.number moment request) self.new (arrive_says result) }
-        ensures counted { counted_steps self.new
-            ≡ counted_steps self.old + rise {A = I.Alloc} (arrive_says result) }
-        ensures seats { self.new.seats ≡ self.old.seats }
         ensures back { IfErr result (λ e. e.request ≡ request) }
     {
         if session.export as usize >= self.members.len() {
@@ -450,12 +421,8 @@ impl<I: Image, E: Eligibility<Alloc = I::Alloc>> Server<I, E> {
     /// Chooses the request that is served next: none where as many are in service as may be, or nothing is due (mClock,
     /// request scheduling). It takes no memory.
     pub fn dispatch(&mut self, moment: Moment) -> Option<Chosen>
-        ensures step { Stepped {A = I.Alloc} self.old (event.Dispatch moment) self.new
-            (dispatch_says result) }
-        ensures journals { EventMoves {A = I.Alloc} self.old (event.Dispatch moment) self.new
-            (dispatch_says result) }
-        ensures counted { counted_steps self.new
-            ≡ counted_steps self.old + rise {A = I.Alloc} (dispatch_says result) }
+        ensures makes { Makes {A = I.Alloc} self.old (event.Dispatch moment)
+            self.new (dispatch_says result) }
         ensures ticket { IfSome result (λ chosen. Holds self.new chosen.ticket) }
         ensures seats { self.new.seats ≡ seats_chosen result self.old.seats }
     {

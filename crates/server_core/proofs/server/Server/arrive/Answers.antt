@@ -21,11 +21,13 @@ use Rattle.server_core.proofs.Accepting.{stepped_no_memory, stepped_from, journa
 use Rattle.server_core.specs.Journals.{CellMoves}
 use Rattle.server_core.proofs.Served.{kept_logged, parts_back, same_seats}
 use Rattle.server_core.proofs.Journals.{absent, moves, arrival_moves, journals_set, set_twice}
-use Rattle.server_core.proofs.Counted.{counted}
+use Rattle.server_core.proofs.Made.{makes}
 use Rattle.server_core.proofs.server.Server.arrive.Goals as goal
 
-pub returns-then-session-len-clause-step : goal.returns-then-session-len-clause-step
-returns-then-session-len-clause-step g c =
+pub returns-then-session-len-clause-makes : goal.returns-then-session-len-clause-makes
+returns-then-session-len-clause-makes g c =
+    let kept = c.self.inside in
+    let step =
     let i = c.self.inside in
     let A = g.row.I-Alloc.Denot in
     let ms = i.members.items in
@@ -37,7 +39,15 @@ returns-then-session-len-clause-step g c =
     let q = c.args.request in
     let le : length ms ≤ e = search rules in
     subst (λ (x : ArriveRefusal). Stepped {A = A} c.args.self.now (Arrive e s t q) c.args.self.now (arrive_refusal_says x)) (sym c.not_arrived.ensures.refusal)
-    (subst (λ (v : Served). Stepped {A = A} v (Arrive e s t q) v NoExport) c.self.view_is (absent_arrive A ms i.latest i.inflight e s t q le))
+    (subst (λ (v : Served). Stepped {A = A} v (Arrive e s t q) v NoExport) c.self.view_is (absent_arrive A ms i.latest i.inflight e s t q le)) in
+    let journals =
+    let i = c.self.inside in
+    let A = g.row.I-Alloc.Denot in
+    let e = c.args.session.export in
+    let le : length i.members.items ≤ e = search rules in
+    subst (λ (x : ArriveRefusal). CellMoves {A = A} c.args.self.now e (own.Arrive c.args.session.number c.args.moment c.args.request) c.args.self.now (arrive_refusal_says x)) (sym c.not_arrived.ensures.refusal)
+    (subst (λ (v : Served). CellMoves {A = A} v e (own.Arrive c.args.session.number c.args.moment c.args.request) v NoExport) c.self.view_is (absent i.members.items i.latest i.inflight e (own.Arrive c.args.session.number c.args.moment c.args.request) NoExport le)) in
+    makes {A = g.row.I-Alloc.Denot} kept.members.items kept.latest kept.inflight c.args.self.now _ _ _ c.self.view_is step journals (refl)
 
 pub arrive-requires-clause-in_range : goal.arrive-requires-clause-in_range
 arrive-requires-clause-in_range g c =
@@ -114,8 +124,10 @@ invariant_of-self-then-not-admits g c =
     let r = c.arrive.result in
     kept_refused A ms slots asked i.latest i.inflight i.served e s t q d m' r kept0 lt d_at never c.arrive.ensures.arrives
 
-pub returns-then-not-admits-clause-step : goal.returns-then-not-admits-clause-step
-returns-then-not-admits-clause-step g c =
+pub returns-then-not-admits-clause-makes : goal.returns-then-not-admits-clause-makes
+returns-then-not-admits-clause-makes g c =
+    let kept = c.self.inside in
+    let step =
     let i = c.self.inside in
     let A = g.row.I-Alloc.Denot in
     let ms0 = i.members.items in
@@ -143,10 +155,8 @@ returns-then-not-admits-clause-step g c =
     let two = subst (λ x. Stepped {A = A} (served_of ms i.latest i.inflight) (Arrive e s t q) (served_of (set ms e m') i.latest i.inflight) (arrive_says {A = A} x)) (sym c.arrived.ensures) one in
     let back = parts_back ms0 e m0 c.reserve.new.self at0 (ap (λ (x : Standing). x.part) c.reserve.ensures.standing) in
     subst (λ (v : Served). Stepped {A = A} v (Arrive e s t q) (served_of (set ms e m') i.latest i.inflight) (arrive_says {A = A} c.arrived.result)) c.self.view_is
-    (stepped_from A ms0 ms i.latest i.inflight (Arrive e s t q) (served_of (set ms e m') i.latest i.inflight) (arrive_says {A = A} c.arrived.result) back two)
-
-pub returns-then-not-admits-clause-seats : goal.returns-then-not-admits-clause-seats
-returns-then-not-admits-clause-seats g c =
+    (stepped_from A ms0 ms i.latest i.inflight (Arrive e s t q) (served_of (set ms e m') i.latest i.inflight) (arrive_says {A = A} c.arrived.result) back two) in
+    let journals =
     let i = c.self.inside in
     let A = g.row.I-Alloc.Denot in
     let ms0 = i.members.items in
@@ -170,7 +180,40 @@ returns-then-not-admits-clause-seats g c =
     let never : AdmitsAt d s q → ⊥ = λ a. let told : c.admits.result ≡ true = c.admits.ensures.1 (subst (λ (x : Standing). AdmitsAt x s q) d_is a) in let other = c.if-not-admits.true in absurd (cc) in
     let m' = c.arrive.new.self in
     let r = c.arrive.result in
-    seats_refused A ms e s t q d m' r d_at never c.arrive.ensures.arrives ∙ same_seats ms0 e m0 c.reserve.new.self at0 (ap (λ (x : Standing). x.seats) c.reserve.ensures.standing) ∙ ap (λ (v : Served). v.seats) c.self.view_is
+    let rm = c.reserve.new.self in
+    let d_rm : d ≡ rm = d_is ∙ at ∙ get_or-set_same ms0 e rm m lt0 in
+    let new = served_of (set ms e m') i.latest i.inflight in
+    let made = arrival_moves {A = A} m0.part.terms m0.journal rm.journal m'.journal rm c.in-Ok.kept s t q r c.arrive.ensures.entered c.in-Ok.ensures.reserved c.in-Ok.ensures.journal (c.arrive.ensures.journal ∙ ap (λ (x : Standing). noted_as {A = A} (arrived_said r) (own.Arrive s t q) x.journal) d_rm) in
+    let where_is : new.journals ≡ set (journals_of ms0) e m'.journal = journals_set ms e m' ∙ ap (λ l. set l e m'.journal) (journals_set ms0 e rm) ∙ set_twice (journals_of ms0) e rm.journal m'.journal in
+    let one = moves ms0 i.latest i.inflight e m0 m'.journal (own.Arrive s t q) new (arrive_says {A = A} (told_arrived r)) lt0 at0 where_is made in
+    let two = subst (λ x. CellMoves {A = A} (served_of ms0 i.latest i.inflight) e (own.Arrive s t q) new (arrive_says {A = A} x)) (sym c.arrived.ensures) one in
+    subst (λ (v : Served). CellMoves {A = A} v e (own.Arrive s t q) new (arrive_says {A = A} c.arrived.result)) c.self.view_is two in
+    let seats =
+    let i = c.self.inside in
+    let A = g.row.I-Alloc.Denot in
+    let ms0 = i.members.items in
+    let ms = set ms0 c.args.session.export c.reserve.new.self in
+    let slots = g.E.Eligibility.contents i.eligible in
+    let asked = g.E.Eligibility.asked i.eligible in
+    let e = c.args.session.export in
+    let s = c.args.session.number in
+    let t = c.args.moment in
+    let q = c.args.request in
+    let lt0 : e < length ms0 = search rules in
+    let m0 = c.index_mut-member.result.now in
+    let at0 = c.index_mut-member.ensures.value in
+    let kept0 = kept_logged ms0 slots asked i.latest i.inflight i.served e m0 c.reserve.new.self c.self.invariant lt0 at0 c.reserve.ensures.standing in
+    let lt : e < length ms = subst (λ n. e < n) (sym (length-set ms0 e c.reserve.new.self)) lt0 in
+    let m = c.index-member.result.now in
+    let at = c.index-member.ensures in
+    let d = c.index_mut-member-then-not-admits.result.now in
+    let d_at = c.index_mut-member-then-not-admits.ensures.value in
+    let d_is : d ≡ m = same_read ms e m d lt at d_at in
+    let never : AdmitsAt d s q → ⊥ = λ a. let told : c.admits.result ≡ true = c.admits.ensures.1 (subst (λ (x : Standing). AdmitsAt x s q) d_is a) in let other = c.if-not-admits.true in absurd (cc) in
+    let m' = c.arrive.new.self in
+    let r = c.arrive.result in
+    seats_refused A ms e s t q d m' r d_at never c.arrive.ensures.arrives ∙ same_seats ms0 e m0 c.reserve.new.self at0 (ap (λ (x : Standing). x.seats) c.reserve.ensures.standing) ∙ ap (λ (v : Served). v.seats) c.self.view_is in
+    makes {A = g.row.I-Alloc.Denot} kept.members.items kept.latest kept.inflight c.args.self.now _ _ _ c.self.view_is step journals seats
 
 pub returns-then-not-admits-clause-back : goal.returns-then-not-admits-clause-back
 returns-then-not-admits-clause-back g c =
@@ -458,8 +501,10 @@ invariant_of-self-2 g c =
     subst (λ (l : List Standing). IsServed (set l e m') (g.E.Eligibility.contents c.put_first.new.eligible) (g.E.Eligibility.asked c.put_first.new.eligible) i.latest i.inflight i.served) (sym way_is)
     (kept_accepted A ms slots (g.E.Eligibility.contents c.put_first.new.eligible) asked (g.E.Eligibility.asked c.put_first.new.eligible) i.latest i.inflight i.served e s t q m m' r kept0 lt at a arrives small firsts le)
 
-pub returns-clause-step : goal.returns-clause-step
-returns-clause-step g c =
+pub returns-clause-makes : goal.returns-clause-makes
+returns-clause-makes g c =
+    let kept = c.self.inside in
+    let step =
     let i = c.self.inside in
     let A = g.row.I-Alloc.Denot in
     let ms0 = i.members.items in
@@ -492,10 +537,8 @@ returns-clause-step g c =
     let three = subst (λ x. Stepped {A = A} (served_of ms i.latest i.inflight) (Arrive e s t q) (served_of (set way e m') i.latest i.inflight) (arrive_says {A = A} x)) (sym c.arrived-2.ensures) two in
     let back = parts_back ms0 e m0 c.reserve.new.self at0 (ap (λ (x : Standing). x.part) c.reserve.ensures.standing) in
     subst (λ (v : Served). Stepped {A = A} v (Arrive e s t q) (served_of (set way e m') i.latest i.inflight) (arrive_says {A = A} c.arrived-2.result)) c.self.view_is
-    (stepped_from A ms0 ms i.latest i.inflight (Arrive e s t q) (served_of (set way e m') i.latest i.inflight) (arrive_says {A = A} c.arrived-2.result) back three)
-
-pub returns-clause-seats : goal.returns-clause-seats
-returns-clause-seats g c =
+    (stepped_from A ms0 ms i.latest i.inflight (Arrive e s t q) (served_of (set way e m') i.latest i.inflight) (arrive_says {A = A} c.arrived-2.result) back three) in
+    let journals =
     let i = c.self.inside in
     let A = g.row.I-Alloc.Denot in
     let ms0 = i.members.items in
@@ -523,7 +566,45 @@ returns-clause-seats g c =
     let r = c.arrive-said.result in
     let arrives : Arrives {A = A} m m' s t q r = subst (λ (x : Standing). Arrives {A = A} x m' s t q r) d_is c.arrive-said.ensures.arrives in
     let way_is : way ≡ way_of (length m.part.waiting) (pos t) ms = c.make_way.ensures.members ∙ ap (λ k. way_of k (pos t) ms) c.waiting-waiting.ensures in
-    ap (λ (l : List Standing). all_seats (set l e m')) way_is ∙ seats_accepted A ms e s t q m m' r lt at a arrives ∙ same_seats ms0 e m0 c.reserve.new.self at0 (ap (λ (x : Standing). x.seats) c.reserve.ensures.standing) ∙ ap (λ (v : Served). v.seats) c.self.view_is
+    let rm = c.reserve.new.self in
+    let d_rm : d ≡ rm = d_is ∙ at ∙ get_or-set_same ms0 e rm m lt0 in
+    let new = served_of (set way e m') i.latest i.inflight in
+    let made = arrival_moves {A = A} m0.part.terms m0.journal rm.journal m'.journal rm c.in-Ok.kept s t q r c.arrive-said.ensures.entered c.in-Ok.ensures.reserved c.in-Ok.ensures.journal (c.arrive-said.ensures.journal ∙ ap (λ (x : Standing). noted_as {A = A} (arrived_said r) (own.Arrive s t q) x.journal) d_rm) in
+    let where_is : new.journals ≡ set (journals_of ms0) e m'.journal =
+    journals_set way e m' ∙ ap (λ (l : List Standing). set (journals_of l) e m'.journal) way_is ∙ ap (λ l. set l e m'.journal) (journals_way (length m.part.waiting) (pos t) ms ∙ journals_set ms0 e rm) ∙ set_twice (journals_of ms0) e rm.journal m'.journal in
+    let one = moves ms0 i.latest i.inflight e m0 m'.journal (own.Arrive s t q) new (arrive_says {A = A} (told_arrived r)) lt0 at0 where_is made in
+    let two = subst (λ x. CellMoves {A = A} (served_of ms0 i.latest i.inflight) e (own.Arrive s t q) new (arrive_says {A = A} x)) (sym c.arrived-2.ensures) one in
+    subst (λ (v : Served). CellMoves {A = A} v e (own.Arrive s t q) new (arrive_says {A = A} c.arrived-2.result)) c.self.view_is two in
+    let seats =
+    let i = c.self.inside in
+    let A = g.row.I-Alloc.Denot in
+    let ms0 = i.members.items in
+    let ms = set ms0 c.args.session.export c.reserve.new.self in
+    let slots = g.E.Eligibility.contents i.eligible in
+    let asked = g.E.Eligibility.asked i.eligible in
+    let e = c.args.session.export in
+    let s = c.args.session.number in
+    let t = c.args.moment in
+    let q = c.args.request in
+    let lt0 : e < length ms0 = search rules in
+    let m0 = c.index_mut-member.result.now in
+    let at0 = c.index_mut-member.ensures.value in
+    let kept0 = kept_logged ms0 slots asked i.latest i.inflight i.served e m0 c.reserve.new.self c.self.invariant lt0 at0 c.reserve.ensures.standing in
+    let lt : e < length ms = subst (λ n. e < n) (sym (length-set ms0 e c.reserve.new.self)) lt0 in
+    let m = c.index-member.result.now in
+    let at = c.index-member.ensures in
+    let a : AdmitsAt m s q = c.admits.ensures.0 c.if-not-admits.false in
+    let small = c.nanoseconds.ensures.below in
+    let n = c.waiting-waiting.result in
+    let way = c.make_way.new.members.items in
+    let d = c.index_mut-member-2.result.now in
+    let d_is : d ≡ m = found_same t n ms way e m d lt at c.waiting-waiting.ensures c.make_way.ensures.members c.index_mut-member-2.ensures.value in
+    let m' = c.arrive-said.new.self in
+    let r = c.arrive-said.result in
+    let arrives : Arrives {A = A} m m' s t q r = subst (λ (x : Standing). Arrives {A = A} x m' s t q r) d_is c.arrive-said.ensures.arrives in
+    let way_is : way ≡ way_of (length m.part.waiting) (pos t) ms = c.make_way.ensures.members ∙ ap (λ k. way_of k (pos t) ms) c.waiting-waiting.ensures in
+    ap (λ (l : List Standing). all_seats (set l e m')) way_is ∙ seats_accepted A ms e s t q m m' r lt at a arrives ∙ same_seats ms0 e m0 c.reserve.new.self at0 (ap (λ (x : Standing). x.seats) c.reserve.ensures.standing) ∙ ap (λ (v : Served). v.seats) c.self.view_is in
+    makes {A = g.row.I-Alloc.Denot} kept.members.items kept.latest kept.inflight c.args.self.now _ _ _ c.self.view_is step journals seats
 
 pub returns-clause-back : goal.returns-clause-back
 returns-clause-back g c =
@@ -537,16 +618,6 @@ returns-clause-back g c =
     let t = c.args.moment in
     let q = c.args.request in
     back_told A c.arrive-said.result c.arrived-2.result q c.arrive-said.ensures.back c.arrived-2.ensures
-
-pub returns-then-not-admits-clause-counted : goal.returns-then-not-admits-clause-counted
-returns-then-not-admits-clause-counted g c =
-    let i = c.self.inside in
-    counted {A = g.row.I-Alloc.Denot} i.members.items i.latest i.inflight c.args.self.now _ _ _ c.self.view_is (returns-then-not-admits-clause-step g c)
-
-pub returns-clause-counted : goal.returns-clause-counted
-returns-clause-counted g c =
-    let i = c.self.inside in
-    counted {A = g.row.I-Alloc.Denot} i.members.items i.latest i.inflight c.args.self.now _ _ _ c.self.view_is (returns-clause-step g c)
 
 pub arrive-requires-clause-reserved : goal.arrive-requires-clause-reserved
 arrive-requires-clause-reserved g c =
@@ -599,88 +670,6 @@ arrive-said-requires-clause-reserved g c =
     let d_is : d ≡ m = found_same t n ms way e m d lt at c.waiting-waiting.ensures c.make_way.ensures.members c.index_mut-member-2.ensures.value in
     subst (λ (x : Standing). IsReservedAt x s q c.in-Ok.kept) (sym (d_is ∙ at ∙ get_or-set_same ms0 e c.reserve.new.self m lt0)) c.in-Ok.ensures.reserved
 
-pub returns-then-session-len-clause-journals : goal.returns-then-session-len-clause-journals
-returns-then-session-len-clause-journals g c =
-    let i = c.self.inside in
-    let A = g.row.I-Alloc.Denot in
-    let e = c.args.session.export in
-    let le : length i.members.items ≤ e = search rules in
-    subst (λ (x : ArriveRefusal). CellMoves {A = A} c.args.self.now e (own.Arrive c.args.session.number c.args.moment c.args.request) c.args.self.now (arrive_refusal_says x)) (sym c.not_arrived.ensures.refusal)
-    (subst (λ (v : Served). CellMoves {A = A} v e (own.Arrive c.args.session.number c.args.moment c.args.request) v NoExport) c.self.view_is (absent i.members.items i.latest i.inflight e (own.Arrive c.args.session.number c.args.moment c.args.request) NoExport le))
-
-pub returns-then-not-admits-clause-journals : goal.returns-then-not-admits-clause-journals
-returns-then-not-admits-clause-journals g c =
-    let i = c.self.inside in
-    let A = g.row.I-Alloc.Denot in
-    let ms0 = i.members.items in
-    let ms = set ms0 c.args.session.export c.reserve.new.self in
-    let slots = g.E.Eligibility.contents i.eligible in
-    let asked = g.E.Eligibility.asked i.eligible in
-    let e = c.args.session.export in
-    let s = c.args.session.number in
-    let t = c.args.moment in
-    let q = c.args.request in
-    let lt0 : e < length ms0 = search rules in
-    let m0 = c.index_mut-member.result.now in
-    let at0 = c.index_mut-member.ensures.value in
-    let kept0 = kept_logged ms0 slots asked i.latest i.inflight i.served e m0 c.reserve.new.self c.self.invariant lt0 at0 c.reserve.ensures.standing in
-    let lt : e < length ms = subst (λ n. e < n) (sym (length-set ms0 e c.reserve.new.self)) lt0 in
-    let m = c.index-member.result.now in
-    let at = c.index-member.ensures in
-    let d = c.index_mut-member-then-not-admits.result.now in
-    let d_at = c.index_mut-member-then-not-admits.ensures.value in
-    let d_is : d ≡ m = same_read ms e m d lt at d_at in
-    let never : AdmitsAt d s q → ⊥ = λ a. let told : c.admits.result ≡ true = c.admits.ensures.1 (subst (λ (x : Standing). AdmitsAt x s q) d_is a) in let other = c.if-not-admits.true in absurd (cc) in
-    let m' = c.arrive.new.self in
-    let r = c.arrive.result in
-    let rm = c.reserve.new.self in
-    let d_rm : d ≡ rm = d_is ∙ at ∙ get_or-set_same ms0 e rm m lt0 in
-    let new = served_of (set ms e m') i.latest i.inflight in
-    let made = arrival_moves {A = A} m0.part.terms m0.journal rm.journal m'.journal rm c.in-Ok.kept s t q r c.arrive.ensures.entered c.in-Ok.ensures.reserved c.in-Ok.ensures.journal (c.arrive.ensures.journal ∙ ap (λ (x : Standing). noted_as {A = A} (arrived_said r) (own.Arrive s t q) x.journal) d_rm) in
-    let where_is : new.journals ≡ set (journals_of ms0) e m'.journal = journals_set ms e m' ∙ ap (λ l. set l e m'.journal) (journals_set ms0 e rm) ∙ set_twice (journals_of ms0) e rm.journal m'.journal in
-    let one = moves ms0 i.latest i.inflight e m0 m'.journal (own.Arrive s t q) new (arrive_says {A = A} (told_arrived r)) lt0 at0 where_is made in
-    let two = subst (λ x. CellMoves {A = A} (served_of ms0 i.latest i.inflight) e (own.Arrive s t q) new (arrive_says {A = A} x)) (sym c.arrived.ensures) one in
-    subst (λ (v : Served). CellMoves {A = A} v e (own.Arrive s t q) new (arrive_says {A = A} c.arrived.result)) c.self.view_is two
-
-pub returns-clause-journals : goal.returns-clause-journals
-returns-clause-journals g c =
-    let i = c.self.inside in
-    let A = g.row.I-Alloc.Denot in
-    let ms0 = i.members.items in
-    let ms = set ms0 c.args.session.export c.reserve.new.self in
-    let slots = g.E.Eligibility.contents i.eligible in
-    let asked = g.E.Eligibility.asked i.eligible in
-    let e = c.args.session.export in
-    let s = c.args.session.number in
-    let t = c.args.moment in
-    let q = c.args.request in
-    let lt0 : e < length ms0 = search rules in
-    let m0 = c.index_mut-member.result.now in
-    let at0 = c.index_mut-member.ensures.value in
-    let kept0 = kept_logged ms0 slots asked i.latest i.inflight i.served e m0 c.reserve.new.self c.self.invariant lt0 at0 c.reserve.ensures.standing in
-    let lt : e < length ms = subst (λ n. e < n) (sym (length-set ms0 e c.reserve.new.self)) lt0 in
-    let m = c.index-member.result.now in
-    let at = c.index-member.ensures in
-    let a : AdmitsAt m s q = c.admits.ensures.0 c.if-not-admits.false in
-    let small = c.nanoseconds.ensures.below in
-    let n = c.waiting-waiting.result in
-    let way = c.make_way.new.members.items in
-    let d = c.index_mut-member-2.result.now in
-    let d_is : d ≡ m = found_same t n ms way e m d lt at c.waiting-waiting.ensures c.make_way.ensures.members c.index_mut-member-2.ensures.value in
-    let m' = c.arrive-said.new.self in
-    let r = c.arrive-said.result in
-    let arrives : Arrives {A = A} m m' s t q r = subst (λ (x : Standing). Arrives {A = A} x m' s t q r) d_is c.arrive-said.ensures.arrives in
-    let way_is : way ≡ way_of (length m.part.waiting) (pos t) ms = c.make_way.ensures.members ∙ ap (λ k. way_of k (pos t) ms) c.waiting-waiting.ensures in
-    let rm = c.reserve.new.self in
-    let d_rm : d ≡ rm = d_is ∙ at ∙ get_or-set_same ms0 e rm m lt0 in
-    let new = served_of (set way e m') i.latest i.inflight in
-    let made = arrival_moves {A = A} m0.part.terms m0.journal rm.journal m'.journal rm c.in-Ok.kept s t q r c.arrive-said.ensures.entered c.in-Ok.ensures.reserved c.in-Ok.ensures.journal (c.arrive-said.ensures.journal ∙ ap (λ (x : Standing). noted_as {A = A} (arrived_said r) (own.Arrive s t q) x.journal) d_rm) in
-    let where_is : new.journals ≡ set (journals_of ms0) e m'.journal =
-    journals_set way e m' ∙ ap (λ (l : List Standing). set (journals_of l) e m'.journal) way_is ∙ ap (λ l. set l e m'.journal) (journals_way (length m.part.waiting) (pos t) ms ∙ journals_set ms0 e rm) ∙ set_twice (journals_of ms0) e rm.journal m'.journal in
-    let one = moves ms0 i.latest i.inflight e m0 m'.journal (own.Arrive s t q) new (arrive_says {A = A} (told_arrived r)) lt0 at0 where_is made in
-    let two = subst (λ x. CellMoves {A = A} (served_of ms0 i.latest i.inflight) e (own.Arrive s t q) new (arrive_says {A = A} x)) (sym c.arrived-2.ensures) one in
-    subst (λ (v : Served). CellMoves {A = A} v e (own.Arrive s t q) new (arrive_says {A = A} c.arrived-2.result)) c.self.view_is two
-
 pub make_way-requires-clause-slots : goal.make_way-requires-clause-slots
 make_way-requires-clause-slots g c =
     let i = c.self.inside in
@@ -717,8 +706,10 @@ invariant_of-self g c =
     let same = c.reserve.ensures.standing in
     kept_logged ms0 slots asked i.latest i.inflight i.served e m0 rm c.self.invariant lt0 at0 same
 
-pub returns-in_default-clause-step : goal.returns-in_default-clause-step
-returns-in_default-clause-step g c =
+pub returns-in_default-clause-makes : goal.returns-in_default-clause-makes
+returns-in_default-clause-makes g c =
+    let kept = c.self.inside in
+    let step =
     let i = c.self.inside in
     let A = g.row.I-Alloc.Denot in
     let ms0 = i.members.items in
@@ -735,10 +726,8 @@ returns-in_default-clause-step g c =
     let same = c.reserve.ensures.standing in
     subst (λ (x : ArriveRefusal). Stepped {A = A} c.args.self.now (Arrive e s t q) (served_of (set ms0 e rm) i.latest i.inflight) (arrive_refusal_says x)) (sym c.not_arrived-in_default.ensures.refusal)
     (subst (λ (v : Served). Stepped {A = A} v (Arrive e s t q) (served_of (set ms0 e rm) i.latest i.inflight) NoMemory) c.self.view_is
-    (stepped_no_memory A ms0 i.latest i.inflight e s t q m0 rm lt0 at0 c.in_default.ensures.no_memory.0 same))
-
-pub returns-in_default-clause-journals : goal.returns-in_default-clause-journals
-returns-in_default-clause-journals g c =
+    (stepped_no_memory A ms0 i.latest i.inflight e s t q m0 rm lt0 at0 c.in_default.ensures.no_memory.0 same)) in
+    let journals =
     let i = c.self.inside in
     let A = g.row.I-Alloc.Denot in
     let ms0 = i.members.items in
@@ -756,10 +745,8 @@ returns-in_default-clause-journals g c =
     let new = served_of (set ms0 e rm) i.latest i.inflight in
     subst (λ (x : ArriveRefusal). CellMoves {A = A} c.args.self.now e (own.Arrive s t q) new (arrive_refusal_says x)) (sym c.not_arrived-in_default.ensures.refusal)
     (subst (λ (v : Served). CellMoves {A = A} v e (own.Arrive s t q) new NoMemory) c.self.view_is
-    (moves ms0 i.latest i.inflight e m0 rm.journal (own.Arrive s t q) new NoMemory lt0 at0 (journals_set ms0 e rm) c.in_default.ensures.no_memory.1))
-
-pub returns-in_default-clause-seats : goal.returns-in_default-clause-seats
-returns-in_default-clause-seats g c =
+    (moves ms0 i.latest i.inflight e m0 rm.journal (own.Arrive s t q) new NoMemory lt0 at0 (journals_set ms0 e rm) c.in_default.ensures.no_memory.1)) in
+    let seats =
     let i = c.self.inside in
     let A = g.row.I-Alloc.Denot in
     let ms0 = i.members.items in
@@ -774,9 +761,5 @@ returns-in_default-clause-seats g c =
     let at0 = c.index_mut-member.ensures.value in
     let rm = c.reserve.new.self in
     let same = c.reserve.ensures.standing in
-    same_seats ms0 e m0 rm at0 (ap (λ (x : Standing). x.seats) same) ∙ ap (λ (v : Served). v.seats) c.self.view_is
-
-pub returns-in_default-clause-counted : goal.returns-in_default-clause-counted
-returns-in_default-clause-counted g c =
-    let i = c.self.inside in
-    counted {A = g.row.I-Alloc.Denot} i.members.items i.latest i.inflight c.args.self.now _ _ _ c.self.view_is (returns-in_default-clause-step g c)
+    same_seats ms0 e m0 rm at0 (ap (λ (x : Standing). x.seats) same) ∙ ap (λ (v : Served). v.seats) c.self.view_is in
+    makes {A = g.row.I-Alloc.Denot} kept.members.items kept.latest kept.inflight c.args.self.now _ _ _ c.self.view_is step journals seats

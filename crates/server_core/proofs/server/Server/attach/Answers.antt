@@ -7,15 +7,23 @@ use Rattle.server_core.specs.Served.{Served, served_of, Stepped, attach_says}
 use Rattle.server_core.proofs.Served.{kept_or, seats_or, stepped_attach, absent_attach}
 use Rattle.server_core.specs.Journals.{CellMoves}
 use Rattle.server_core.proofs.Journals.{absent, moves_attach}
-use Rattle.server_core.proofs.Counted.{counted}
+use Rattle.server_core.proofs.Made.{makes}
 use Rattle.server_core.proofs.server.Server.attach.Goals as goal
 
-pub returns-then-export-len-clause-step : goal.returns-then-export-len-clause-step
-returns-then-export-len-clause-step g c =
+pub returns-then-export-len-clause-makes : goal.returns-then-export-len-clause-makes
+returns-then-export-len-clause-makes g c =
+    let kept = c.self.inside in
+    let step =
     let i = c.self.inside in
     let e = c.args.export in
     let le : length i.members.items ≤ e = search rules in
-    subst (λ (v : Served). Stepped v (Attach e) v NoExport) c.self.view_is (absent_attach i.members.items i.latest i.inflight e le)
+    subst (λ (v : Served). Stepped v (Attach e) v NoExport) c.self.view_is (absent_attach i.members.items i.latest i.inflight e le) in
+    let journals =
+    let i = c.self.inside in
+    let e = c.args.export in
+    let le : length i.members.items ≤ e = search rules in
+    subst (λ (v : Served). CellMoves {A = g.row.I-Alloc.Denot} v e own.Attach v NoExport) c.self.view_is (absent i.members.items i.latest i.inflight e own.Attach NoExport le) in
+    makes {A = g.row.I-Alloc.Denot} kept.members.items kept.latest kept.inflight c.args.self.now _ _ _ c.self.view_is step journals (refl)
 
 pub invariant_of-self : goal.invariant_of-self
 invariant_of-self g c =
@@ -24,35 +32,18 @@ invariant_of-self g c =
     let lt : e < length i.members.items = search rules in
     kept_or i.members.items (g.E.Eligibility.contents i.eligible) (g.E.Eligibility.asked i.eligible) i.latest i.inflight i.served e c.index_mut-member.result.now c.attach.new.self own.Attach (attach_said c.attach.result) c.self.invariant lt c.index_mut-member.ensures.value c.attach.ensures.step
 
-pub returns-clause-step : goal.returns-clause-step
-returns-clause-step g c =
+pub returns-clause-makes : goal.returns-clause-makes
+returns-clause-makes g c =
+    let kept = c.self.inside in
+    let step =
     let i = c.self.inside in
     let e = c.args.export in
     let m' = c.attach.new.self in
     let lt : e < length i.members.items = search rules in
     let one = stepped_attach i.members.items i.latest i.inflight e c.index_mut-member.result.now m' c.attach.result lt c.index_mut-member.ensures.value c.attach.ensures.step c.attach.ensures.memory in
     let two = subst (λ r. Stepped (served_of i.members.items i.latest i.inflight) (Attach e) (served_of (set i.members.items e m') i.latest i.inflight) (attach_says r)) (sym c.attached.ensures) one in
-    subst (λ (v : Served). Stepped v (Attach e) (served_of (set i.members.items e m') i.latest i.inflight) (attach_says c.attached.result)) c.self.view_is two
-
-pub returns-clause-seats : goal.returns-clause-seats
-returns-clause-seats g c =
-    seats_or c.self.inside.members.items c.args.export c.index_mut-member.result.now c.attach.new.self own.Attach (attach_said c.attach.result) c.index_mut-member.ensures.value c.attach.ensures.step
-    ∙ ap (λ (v : Served). v.seats) c.self.view_is
-
-pub returns-clause-counted : goal.returns-clause-counted
-returns-clause-counted g c =
-    let i = c.self.inside in
-    counted {A = g.row.I-Alloc.Denot} i.members.items i.latest i.inflight c.args.self.now _ _ _ c.self.view_is (returns-clause-step g c)
-
-pub returns-then-export-len-clause-journals : goal.returns-then-export-len-clause-journals
-returns-then-export-len-clause-journals g c =
-    let i = c.self.inside in
-    let e = c.args.export in
-    let le : length i.members.items ≤ e = search rules in
-    subst (λ (v : Served). CellMoves {A = g.row.I-Alloc.Denot} v e own.Attach v NoExport) c.self.view_is (absent i.members.items i.latest i.inflight e own.Attach NoExport le)
-
-pub returns-clause-journals : goal.returns-clause-journals
-returns-clause-journals g c =
+    subst (λ (v : Served). Stepped v (Attach e) (served_of (set i.members.items e m') i.latest i.inflight) (attach_says c.attached.result)) c.self.view_is two in
+    let journals =
     let i = c.self.inside in
     let e = c.args.export in
     let m' = c.attach.new.self in
@@ -60,4 +51,8 @@ returns-clause-journals g c =
     let new = served_of (set i.members.items e m') i.latest i.inflight in
     let one = moves_attach {A = g.row.I-Alloc.Denot} i.members.items i.latest i.inflight e c.index_mut-member.result.now m' c.attach.result lt c.index_mut-member.ensures.value c.attach.ensures.journal in
     let two = subst (λ r. CellMoves {A = g.row.I-Alloc.Denot} (served_of i.members.items i.latest i.inflight) e own.Attach new (attach_says r)) (sym c.attached.ensures) one in
-    subst (λ (v : Served). CellMoves {A = g.row.I-Alloc.Denot} v e own.Attach new (attach_says c.attached.result)) c.self.view_is two
+    subst (λ (v : Served). CellMoves {A = g.row.I-Alloc.Denot} v e own.Attach new (attach_says c.attached.result)) c.self.view_is two in
+    let seats =
+    seats_or c.self.inside.members.items c.args.export c.index_mut-member.result.now c.attach.new.self own.Attach (attach_said c.attach.result) c.index_mut-member.ensures.value c.attach.ensures.step
+    ∙ ap (λ (v : Served). v.seats) c.self.view_is in
+    makes {A = g.row.I-Alloc.Denot} kept.members.items kept.latest kept.inflight c.args.self.now _ _ _ c.self.view_is step journals seats
