@@ -124,7 +124,7 @@ fn read_on<L: Ledger, R: Wait + time::Clock>(
 ) -> (Turn<Global>, bool) {
     if let Some(head) = offer.head() {
         link.seat
-            .wait_for_turn(rt, head, source.frames.ready(), BATCH, link.under_way());
+            .wait_for_turn(rt, head, source.frames.ready(), BATCH);
     }
     let mut outlet = link.outlet.try_lock();
     let before = match &outlet {

@@ -1,6 +1,6 @@
 //! A session's place in the order of turns.
 
-use nbd_service::policy::{asks_for_turn, backlog_after, cost_of, has_more, size_of};
+use nbd_service::policy::{asks_for_turn, backlog_after, cost_of, size_of};
 use nbd_service::{RequestSize, RunningClock, Turns, has_input};
 use nbd_wire::{Request, RequestHead};
 use std::alloc::Global;
@@ -49,21 +49,18 @@ impl<'a> TurnSeat<'a> {
         }
     }
 
-    /// Waits for the turn of a request and of those that are ready behind it, so many at most in all, while so many of the session are
-    /// under way. Some go on without it, and are charged with the next that asks. A session that mostly has one request at a time
-    /// doesn't count as one that has something at hand: others needn't stop for it, whom it would have to wake behind each of its
-    /// requests. Long READs come one at a time where each reply has the client ask once more, so those that are under way tell.
+    /// Waits for the turn of a request and of those that are ready behind it, so many at most in all. Some go on without it, and are
+    /// charged with the next that asks. A session that mostly has one request at a time doesn't count as one that has something at
+    /// hand: others needn't stop for it, whom it would have to wake behind each of its requests.
     pub fn wait_for_turn<R: Wait + time::Clock>(
         &self,
         rt: &R,
         head: RequestHead,
         ready: &[Request<Global>],
         most: usize,
-        under_way: u64,
     ) {
         let long = size_of(head) == RequestSize::LongWrite;
-        let behind = long && self.had_input.load(Ordering::SeqCst);
-        let more = has_more(!ready.is_empty(), under_way, behind);
+        let more = !ready.is_empty() || (long && self.had_input.load(Ordering::SeqCst));
         let before = self.backlog.load(Ordering::SeqCst);
         let backlog = backlog_after(before, more);
         if backlog != before {

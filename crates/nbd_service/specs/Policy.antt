@@ -77,10 +77,6 @@ abbrev pub is_due_by : Option ℕ → ℕ → Bool
 is_due_by None now = false
 is_due_by (Some due) now = nat_le due now
 
--- ready behind it, under way, or behind the long WRITE before this one
-abbrev pub has_more_by : Bool → ℕ → Bool → Bool
-has_more_by ready under_way behind = ready || nat_lt 0 under_way || behind
-
 -- 200 microseconds
 abbrev pub still_defers_by : ℕ → Bool
 still_defers_by passed = nat_lt passed 200000

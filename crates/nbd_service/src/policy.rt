@@ -1,7 +1,7 @@
 //! Every number of the serving code, and the rules over values that its threads follow. `specs/Policy.antt` says each rule.
 ghost use Rattle.std.specs.Prelude.{◌≡◌, ◌+◌, ◌-◌, ◌*◌, ◌<◌, ◌≤◌, ◌^◌, min, option_map};
 ghost use Rattle.std.specs.Duration.{as_nanos};
-ghost use Rattle.nbd_service.specs.Policy.{accept_may_pass_by, asks_for_turn_by, backlog_by, batch_by, bell_by, cost_by, data_by, ends_hold_by, handshake_wait_by, has_more_by, holds_back_by, is_alone_by, is_due_by, is_forgotten_by, is_network_fault_by, is_shortage_by, is_stalled_by, is_zero_by, keeps_by, load_by, next_skip_by, patience_by, performs_by, reads_ahead_by, short_pieces_by, size_by, still_defers_by, still_retunes_by, still_waits_for_line_by, suits_reader_by, wakes_for_by, yields_by, yields_behind_look_by};
+ghost use Rattle.nbd_service.specs.Policy.{accept_may_pass_by, asks_for_turn_by, backlog_by, batch_by, bell_by, cost_by, data_by, ends_hold_by, handshake_wait_by, holds_back_by, is_alone_by, is_due_by, is_forgotten_by, is_network_fault_by, is_shortage_by, is_stalled_by, is_zero_by, keeps_by, load_by, next_skip_by, patience_by, performs_by, reads_ahead_by, short_pieces_by, size_by, still_defers_by, still_retunes_by, still_waits_for_line_by, suits_reader_by, wakes_for_by, yields_by, yields_behind_look_by};
 
 use crate::request_size::{Load, RequestSize};
 use nbd_wire::RequestHead;
@@ -311,14 +311,6 @@ pub fn is_due(due: &Option<Moment>, now: Moment) -> bool
         Some(due) => due.nanoseconds() <= now.nanoseconds(),
         None => false,
     }
-}
-
-/// Whether a session has more at hand than the request that is next: others that are ready behind it, so many that are under way,
-/// or, where this one is a long WRITE, what had come behind the one before.
-pub fn has_more(ready: bool, under_way: u64, long_behind: bool) -> bool
-    ensures { result ≡ has_more_by ready under_way long_behind }
-{
-    ready || under_way > 0 || long_behind
 }
 
 /// Whether a bulk session that looks for the server for so many nanoseconds still lets interactive ones go first.

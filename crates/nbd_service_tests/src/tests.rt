@@ -2,10 +2,10 @@ mod rates_in_force;
 
 use nbd_service::policy::{
     accept_may_pass, asks_for_turn, backlog_after, batch_after, bell_of, connections_for, cost_of,
-    data_of, ends_hold, handshake_wait_ms, has_more, holds_back, is_alone, is_due, is_stalled,
-    load_of, may_keep, may_read_ahead, moment_after, next_skip, passes_for, patience,
-    performs_itself, short_pieces, size_of, still_defers, still_retunes, still_waits_for_line,
-    suits_reader, wakes_for, yields_behind, yields_behind_look,
+    data_of, ends_hold, handshake_wait_ms, holds_back, is_alone, is_due, is_stalled, load_of,
+    may_keep, may_read_ahead, moment_after, next_skip, passes_for, patience, performs_itself,
+    short_pieces, size_of, still_defers, still_retunes, still_waits_for_line, suits_reader,
+    wakes_for, yields_behind, yields_behind_look,
 };
 use nbd_service::{InteractiveLoad, Load, RequestSize, RunningClock, SpinPoll, Turns};
 use nbd_wire::RequestHead;
@@ -140,8 +140,6 @@ fn what_a_request_counts(rt: HostRuntime) {
     assert!(rt; backlog_after(0, false) == 0);
     assert!(rt; asks_for_turn(64, 0) && asks_for_turn(1, 1_000_000) && !asks_for_turn(63, 999_999));
     assert!(rt; still_defers(199_999) && !still_defers(200_000));
-    assert!(rt; has_more(true, 0, false) && has_more(false, 1, false) && has_more(false, 0, true));
-    assert!(rt; !has_more(false, 0, false));
     assert!(rt; still_retunes(4_999_999_999) && !still_retunes(5_000_000_000));
     assert!(rt; still_waits_for_line(10_000_000_000) && !still_waits_for_line(10_000_000_001));
 }
