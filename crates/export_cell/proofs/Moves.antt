@@ -8,7 +8,7 @@ use Rattle.reply_box.specs.Sessions.{is_open_at}
 use Rattle.lone_export.specs.Alone.{Moved, own_step, outstanding}
 use Rattle.lone_export.specs.Calls.{is_counted}
 use Rattle.tag_clock.specs.Intervals.{Intervals}
-use Rattle.lone_export.specs.Lone.{Whole, Does, MayArrive, MayRetune, arrived_said, refusal_said, retune_said}
+use Rattle.lone_export.specs.Lone.{Whole, Does, MayArrive, MayRetune, step_answer_of_arrive, step_answer_of_refusal, step_answer_of_retune}
 use Rattle.lone_export.specs.declared.step.Step.{Step}
 use Rattle.lone_export.specs.declared.step.Step.TheVariants.{Arrive, Retune}
 use Rattle.lone_export.specs.declared.step.StepAnswer.{StepAnswer}
@@ -22,12 +22,12 @@ use Rattle.lone_export.specs.declared.refusal.Arrived.TheVariants as arrival
 use Rattle.lone_export.proofs.Cases.{if_told, if_one, true_false}
 use Rattle.export_cell.specs.Journal.{Journal, Cell, kept_step, JournalMove, IsReserved, reserved, noted, noted_as}
 
-pub refused_uncounted : (A : Type 0) (e : ArriveRefusal) → is_counted (refusal_said {A = A} e) ≡ false
+pub refused_uncounted : (A : Type 0) (e : ArriveRefusal) → is_counted (step_answer_of_refusal {A = A} e) ≡ false
 refused_uncounted A arriving.NotOpen = refl
 refused_uncounted A arriving.Worn = refl
 refused_uncounted A arriving.Hold = refl
 
-pub arrived_counted : (A : Type 0) (a : Arrived) → is_counted (arrived_said {A = A} (Ok a)) ≡ true
+pub arrived_counted : (A : Type 0) (a : Arrived) → is_counted (step_answer_of_arrive {A = A} (Ok a)) ≡ true
 arrived_counted A (arrival.Accepted n tag) = refl
 arrived_counted A (arrival.Answered error) = refl
 
@@ -75,35 +75,35 @@ module _ {A : Type 0} where
 
 -- ---- a request for which there is room
 pub arrival-refused : (A : Type 0) (terms : Terms) (old : Journal) (mid new : Cell) (kept : Option RequestMessage) (s t : ℕ) (q : RequestMessage) (e : ArriveRefusal) → IsReserved mid s q kept → mid.journal ≡ reserved terms kept old
-    → Does {A = A} mid.live new.live (Arrive s t q) (refusal_said e) → new.journal ≡ noted_as {A = A} (refusal_said e) (Arrive s t q) mid.journal → JournalMove {A = A} terms (Arrive s t q) (Some (refusal_said e)) old new.journal
+    → Does {A = A} mid.live new.live (Arrive s t q) (step_answer_of_refusal e) → new.journal ≡ noted_as {A = A} (step_answer_of_refusal e) (Arrive s t q) mid.journal → JournalMove {A = A} terms (Arrive s t q) (Some (step_answer_of_refusal e)) old new.journal
 arrival-refused A terms old mid new None s t q arriving.NotOpen room same does is = is ∙ same
 arrival-refused A terms old mid new None s t q arriving.Worn room same does is = is ∙ same
 arrival-refused A terms old mid new None s t q arriving.Hold room same does is = is ∙ same
-arrival-refused A terms old mid new (Some kept) s t q e room same does is = never mid.live new.live (Arrive s t q) (refusal_said e) (arrive-counted A mid.live s t q room.0) does (refused_uncounted A e)
+arrival-refused A terms old mid new (Some kept) s t q e room same does is = never mid.live new.live (Arrive s t q) (step_answer_of_refusal e) (arrive-counted A mid.live s t q room.0) does (refused_uncounted A e)
 
 -- an arrival that is let in is noted
-pub entered : (A : Type 0) (a : Arrived) (one : Step A) (old new : Journal) → new ≡ noted (kept_step one) old → new ≡ noted_as {A = A} (arrived_said (Ok a)) one old
+pub entered : (A : Type 0) (a : Arrived) (one : Step A) (old new : Journal) → new ≡ noted (kept_step one) old → new ≡ noted_as {A = A} (step_answer_of_arrive (Ok a)) one old
 entered A (arrival.Accepted n tag) one old new is = is
 entered A (arrival.Answered error) one old new is = is
 
 -- one that isn't let in is refused
-pub refused_arrival : (A : Type 0) (live new : Whole) (s t : ℕ) (q : RequestMessage) (r : Result Arrived (NotArrived A)) → (MayArrive live s (Ok tt) → ⊥) → Does {A = A} live new (Arrive s t q) (arrived_said r) → is_ok r ≡ false
-refused_arrival A live new s t q (Ok a) not_so does = true_false (sym (arrived_counted A a) ∙ told-uncounted live new (Arrive s t q) (arrived_said (Ok a)) (arrive-uncounted A live s t q not_so) does)
+pub refused_arrival : (A : Type 0) (live new : Whole) (s t : ℕ) (q : RequestMessage) (r : Result Arrived (NotArrived A)) → (MayArrive live s (Ok tt) → ⊥) → Does {A = A} live new (Arrive s t q) (step_answer_of_arrive r) → is_ok r ≡ false
+refused_arrival A live new s t q (Ok a) not_so does = true_false (sym (arrived_counted A a) ∙ told-uncounted live new (Arrive s t q) (step_answer_of_arrive (Ok a)) (arrive-uncounted A live s t q not_so) does)
 refused_arrival A live new s t q (Err e) not_so does = refl
 
 -- an arrival that was let in, from before its room was made
 pub arrival-made : (A : Type 0) (terms : Terms) (old mid new : Journal) (kept : RequestMessage) (s t : ℕ) (q : RequestMessage) (a : Arrived) → kept ≡ q → mid ≡ reserved terms (Some kept) old
-    → new ≡ noted_as {A = A} (arrived_said (Ok a)) (Arrive s t q) mid → JournalMove {A = A} terms (Arrive s t q) (Some (arrived_said (Ok a))) old new
+    → new ≡ noted_as {A = A} (step_answer_of_arrive (Ok a)) (Arrive s t q) mid → JournalMove {A = A} terms (Arrive s t q) (Some (step_answer_of_arrive (Ok a))) old new
 arrival-made A terms old mid new kept s t q (arrival.Accepted n tag) same room is = is ∙ ap (noted (Arrive s t q)) (room ∙ ap (λ (k : RequestMessage). reserved terms (Some k) old) same)
 arrival-made A terms old mid new kept s t q (arrival.Answered error) same room is = is ∙ ap (noted (Arrive s t q)) (room ∙ ap (λ (k : RequestMessage). reserved terms (Some k) old) same)
 
 -- a retune that may be made isn't refused
-pub retune_made : (A : Type 0) (live mid new : Whole) (rates : Intervals) (e : RetuneRefusal) → mid ≡ live → MayRetune live (Ok tt) → Does {A = A} mid new (Retune rates) (retune_said (Err e)) → ⊥
+pub retune_made : (A : Type 0) (live mid new : Whole) (rates : Intervals) (e : RetuneRefusal) → mid ≡ live → MayRetune live (Ok tt) → Does {A = A} mid new (Retune rates) (step_answer_of_retune (Err e)) → ⊥
 retune_made A live mid new rates e same may does = by e does
   where
     counted : is_counted (own_step {A = A} mid.terms mid.state (Retune rates)).answer ≡ true
     counted = retune-counted A mid rates (subst (λ (w : Whole). MayRetune w (Ok tt)) (sym same) may)
 
-    by : (e : RetuneRefusal) → Does {A = A} mid new (Retune rates) (retune_said (Err e)) → ⊥
-    by retuning.Worn d = never mid new (Retune rates) (retune_said (Err retuning.Worn)) counted d refl
-    by retuning.Waiting d = never mid new (Retune rates) (retune_said (Err retuning.Waiting)) counted d refl
+    by : (e : RetuneRefusal) → Does {A = A} mid new (Retune rates) (step_answer_of_retune (Err e)) → ⊥
+    by retuning.Worn d = never mid new (Retune rates) (step_answer_of_retune (Err retuning.Worn)) counted d refl
+    by retuning.Waiting d = never mid new (Retune rates) (step_answer_of_retune (Err retuning.Waiting)) counted d refl

@@ -4,7 +4,7 @@ use Rattle.nbd_wire.specs.Grammar.{RequestMessage}
 use Rattle.nbd_commands.specs.Terms.{Terms}
 use Rattle.lone_export.specs.Alone.{Alone, own_step, alone, opening}
 use Rattle.lone_export.specs.Calls.{is_counted, to_come}
-use Rattle.lone_export.specs.Lone.{Whole, MayArrive, opening_of, refusal_said, retune_said, arrived_said as arrived_said_alone}
+use Rattle.lone_export.specs.Lone.{Whole, MayArrive, opening_of, step_answer_of_refusal, step_answer_of_retune, step_answer_of_arrive as arrived_said_alone}
 use Rattle.lone_export.specs.declared.refusal.Arrived.{Arrived}
 use Rattle.lone_export.specs.declared.step.Step.{Step}
 use Rattle.lone_export.specs.declared.step.Step.TheVariants.{Attach, Arrive, Pick, Perform, Take, Leave, Gone, Retune}
@@ -153,19 +153,19 @@ abbrev pub noted_as : {A : Type 0} → StepAnswer A → Step A → Journal → J
 noted_as answer step journal = if is_counted answer then noted (kept_step step) journal else journal
 
 -- ---- what an arrival is answered, none where memory was wanted
-abbrev pub fault_said : {A : Type 0} → ArriveFault → Option (StepAnswer A)
-fault_said (Refused refusal) = Some (refusal_said refusal)
-fault_said NoMemory = None
+abbrev pub step_answer_of_fault : {A : Type 0} → ArriveFault → Option (StepAnswer A)
+step_answer_of_fault (Refused refusal) = Some (step_answer_of_refusal refusal)
+step_answer_of_fault NoMemory = None
 
-abbrev pub arrived_said : {A : Type 0} → Result Arrived (NotArrived A) → Option (StepAnswer A)
-arrived_said (Ok arrived) = Some (arrived_said_alone (Ok arrived))
-arrived_said (Err e) = fault_said e.fault
+abbrev pub step_answer_of_arrive : {A : Type 0} → Result Arrived (NotArrived A) → Option (StepAnswer A)
+step_answer_of_arrive (Ok arrived) = Some (arrived_said_alone (Ok arrived))
+step_answer_of_arrive (Err e) = step_answer_of_fault e.fault
 
 -- and a retune
-abbrev pub retuned_said : {A : Type 0} → Result (Unit {0}) NotRetuned → Option (StepAnswer A)
-retuned_said (Ok done) = Some (retune_said (Ok done))
-retuned_said (Err (retuning.Refused refusal)) = Some (retune_said (Err refusal))
-retuned_said (Err retuning.NoMemory) = None
+abbrev pub step_answer_of_retuned : {A : Type 0} → Result (Unit {0}) NotRetuned → Option (StepAnswer A)
+step_answer_of_retuned (Ok done) = Some (step_answer_of_retune (Ok done))
+step_answer_of_retuned (Err (retuning.Refused refusal)) = Some (step_answer_of_retune (Err refusal))
+step_answer_of_retuned (Err retuning.NoMemory) = None
 
 -- ---- as it is kept
 abbrev pub cell_of : Whole → Whole → List KeptStep → ℕ → Cell

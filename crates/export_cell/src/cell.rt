@@ -2,9 +2,9 @@
 ghost use Rattle.std.specs.Prelude.{◌≡◌, ◌≢◌, ◌<◌, ◌≤◌, length, Ok, IsErrOf, IfOk, IfErr, IfSome, IfNone, OnSome, OnErr, Some, is_ok, is_some};
 ghost use Rattle.nbd_commands.specs.Terms.{terms_of};
 ghost use Rattle.nbd_commands.specs.Exports.{IsWithin};
-ghost use Rattle.lone_export.specs.Lone.{Does, DoesOr, pick_said, leave_said, gone_said, take_said, attach_said, slots_picked, slots_without, slot_at, arrived_said as arrived_said_alone, MayAttach, MayArrive, MayRetune};
+ghost use Rattle.lone_export.specs.Lone.{Does, DoesOr, step_answer_of_pick, step_answer_of_leave, step_answer_of_gone, step_answer_of_take, step_answer_of_attach, slots_picked, slots_without, slot_at, step_answer_of_arrive as arrived_said_alone, MayAttach, MayArrive, MayRetune};
 ghost use Rattle.lone_export.specs.declared.step.StepAnswer.TheVariants.{Performed};
-ghost use Rattle.export_cell.specs.Journal.{IsJournal, JournalMove, IsAdvanced, IsReserved, IsWithinBytes, reserved, surplus, noted_as, kept_log, opening_cell, arrived_said, retuned_said};
+ghost use Rattle.export_cell.specs.Journal.{IsJournal, JournalMove, IsAdvanced, IsReserved, IsWithinBytes, reserved, surplus, noted_as, kept_log, opening_cell, step_answer_of_arrive, step_answer_of_retuned};
 ghost use Rattle.export_cell.specs.declared.refusal.ArriveFault.{ArriveFault};
 
 mod trimming;
@@ -43,9 +43,11 @@ impl<I: Image> Model for ExportCell<I> {
 
     ghost Value = { Cell };
 
-    ghost view = { λ c. cell_of c.live (whole_of c.base) (kept_log c.log.items) (deque_capacity c.log) };
+    ghost view = { λ c.
+        cell_of c.live (whole_of c.base) (kept_log c.log.items) (deque_capacity c.log) };
 
-    ghost invariant = { λ c. IsCell c.live (whole_of c.base) (kept_log c.log.items) c.payload (deque_capacity c.log) };
+    ghost invariant = { λ c.
+        IsCell c.live (whole_of c.base) (kept_log c.log.items) c.payload (deque_capacity c.log) };
 }
 
 impl<I: Image> ExportCell<I> {
@@ -127,9 +129,9 @@ impl<I: Image> ExportCell<I> {
     /// Opens a session and gives its number. The oldest steps of the log go into the base, as many as have to.
     pub fn attach(&mut self) -> Result<u64, NotAttached>
         ensures step { DoesOr {A = I.Alloc} self.old.live self.new.live Step.Attach
-            (attach_said result) }
+            (step_answer_of_attach result) }
         ensures journal { JournalMove {A = I.Alloc} self.old.live.terms Step.Attach
-            (attach_said result) self.old.journal self.new.journal }
+            (step_answer_of_attach result) self.old.journal self.new.journal }
         ensures no_memory { IsErrOf result NotAttached.NoMemory → MayAttach self.old.live (Ok tt) }
         ensures slots { self.new.live.slots ≡ self.old.live.slots }
     {
@@ -151,9 +153,9 @@ impl<I: Image> ExportCell<I> {
     /// The rates are others from now on. The oldest steps of the log go into the base, as many as have to.
     pub fn retune(&mut self, rates: Rates) -> Result<(), NotRetuned>
         ensures step { DoesOr {A = I.Alloc} self.old.live self.new.live (Step.Retune rates)
-            (retuned_said result) }
+            (step_answer_of_retuned result) }
         ensures journal { JournalMove {A = I.Alloc} self.old.live.terms (Step.Retune rates)
-            (retuned_said result) self.old.journal self.new.journal }
+            (step_answer_of_retuned result) self.old.journal self.new.journal }
         ensures no_memory { IsErrOf result NotRetuned.NoMemory → MayRetune self.old.live (Ok tt) }
         ensures slots { self.new.live.slots ≡ self.old.live.slots }
     {
@@ -179,9 +181,9 @@ impl<I: Image> ExportCell<I> {
         request: Request<I::Alloc>,
     ) -> Result<Arrived, NotArrived<I::Alloc>>
         ensures step { DoesOr {A = I.Alloc} self.old.live self.new.live
-            (Step.Arrive session moment request) (arrived_said result) }
+            (Step.Arrive session moment request) (step_answer_of_arrive result) }
         ensures journal { JournalMove {A = I.Alloc} self.old.live.terms (Step.Arrive session moment
-            request) (arrived_said result) self.old.journal self.new.journal }
+            request) (step_answer_of_arrive result) self.old.journal self.new.journal }
         ensures no_memory { IfErr result (λ e. e.fault ≡ ArriveFault.NoMemory
             → MayArrive self.old.live session (Ok tt)) }
         ensures back { IfErr result (λ e. e.request ≡ request) }
@@ -215,7 +217,9 @@ impl<I: Image> ExportCell<I> {
         ensures journal { IfOk result (λ kept.
             self.new.journal ≡ reserved self.old.live.terms kept self.old.journal) }
         ensures no_memory { OnErr result (MayArrive self.old.live session (Ok tt)
-            × IsAdvanced self.old.live.terms (surplus (length request.now.payload) self.old.journal.log) self.old.journal self.new.journal) }
+            × IsAdvanced self.old.live.terms
+            (surplus (length request.now.payload) self.old.journal.log)
+            self.old.journal self.new.journal) }
     {
         if let Err(_) = self.live.may_arrive(session) {
             return Ok(None);
@@ -267,9 +271,10 @@ impl<I: Image> ExportCell<I> {
     /// The first request that waits is in service now, in the slot that is answered. It takes no memory.
     pub fn pick(&mut self) -> Option<Picked>
         requires { length self.old.live.state.out < self.old.live.inflight }
-        ensures step { Does {A = I.Alloc} self.old.live self.new.live Step.Pick (pick_said result) }
+        ensures step { Does {A = I.Alloc} self.old.live self.new.live Step.Pick
+            (step_answer_of_pick result) }
         ensures journal { JournalMove {A = I.Alloc} self.old.live.terms Step.Pick
-            (Some (pick_said result)) self.old.journal self.new.journal }
+            (Some (step_answer_of_pick result)) self.old.journal self.new.journal }
         ensures slots { self.new.live.slots ≡ slots_picked self.old.live.slots result }
     {
         let Some(picked) = self.live.pick() else {
@@ -285,7 +290,8 @@ impl<I: Image> ExportCell<I> {
     /// None where the slot doesn't hold that number, also where the number is in service in another slot.
     pub fn perform(&mut self, slot: usize, number: u64) -> Option<bool>
         ensures some { IfSome result (λ memory. (slot_at self.old.live number ≡ Some slot)
-            × Does {A = I.Alloc} self.old.live self.new.live (Step.Perform number memory) (Performed memory)) }
+            × Does {A = I.Alloc} self.old.live self.new.live (Step.Perform number memory)
+            (Performed memory)) }
         ensures journal { IfSome result (λ memory.
             JournalMove {A = I.Alloc} self.old.live.terms (Step.Perform number memory) (Some (Performed memory)) self.old.journal self.new.journal) }
         ensures none { IfNone result ((slot_at self.old.live number ≢ Some slot)
@@ -304,9 +310,9 @@ impl<I: Image> ExportCell<I> {
     /// The oldest reply of the session is taken. It takes no memory.
     pub fn take(&mut self, session: u64) -> Result<Taken<I::Alloc>, NotOpen>
         ensures step { Does {A = I.Alloc} self.old.live self.new.live (Step.Take session)
-            (take_said result) }
+            (step_answer_of_take result) }
         ensures journal { JournalMove {A = I.Alloc} self.old.live.terms (Step.Take session)
-            (Some (take_said result)) self.old.journal self.new.journal }
+            (Some (step_answer_of_take result)) self.old.journal self.new.journal }
         ensures slots { self.new.live.slots ≡ self.old.live.slots }
     {
         match self.live.take(session) {
@@ -323,9 +329,9 @@ impl<I: Image> ExportCell<I> {
     /// Nothing more arrives on the session. It takes no memory.
     pub fn leave(&mut self, session: u64) -> Result<(), NotOpen>
         ensures step { Does {A = I.Alloc} self.old.live self.new.live (Step.Leave session)
-            (leave_said result) }
+            (step_answer_of_leave result) }
         ensures journal { JournalMove {A = I.Alloc} self.old.live.terms (Step.Leave session)
-            (Some (leave_said result)) self.old.journal self.new.journal }
+            (Some (step_answer_of_leave result)) self.old.journal self.new.journal }
         ensures slots { self.new.live.slots ≡ self.old.live.slots }
     {
         if let Err(refused) = self.live.leave(session) {
@@ -338,9 +344,9 @@ impl<I: Image> ExportCell<I> {
     /// The session is dropped with its replies; its requests are still served. It takes no memory.
     pub fn gone(&mut self, session: u64) -> Result<(), NotOpen>
         ensures step { Does {A = I.Alloc} self.old.live self.new.live (Step.Gone session)
-            (gone_said result) }
+            (step_answer_of_gone result) }
         ensures journal { JournalMove {A = I.Alloc} self.old.live.terms (Step.Gone session)
-            (Some (gone_said result)) self.old.journal self.new.journal }
+            (Some (step_answer_of_gone result)) self.old.journal self.new.journal }
         ensures slots { self.new.live.slots ≡ self.old.live.slots }
     {
         if let Err(refused) = self.live.gone(session) {

@@ -3,7 +3,7 @@
 
 mod base;
 mod cell;
-mod late;
+mod deferred;
 mod outdated;
 mod refusal;
 mod room;

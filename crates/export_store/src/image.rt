@@ -42,7 +42,8 @@ pub trait Image: Sized + Drop {
         requires { offset + length piece.old ≤ length (bytes self.old) }
         ensures written { OnOk result (bytes self.new
             ≡ overwritten (bytes self.old) offset (length piece.old) piece.old) }
-        ensures no_memory { OnErr result ((bytes self.new ≡ bytes self.old) × (piece.new ≡ piece.old)) };
+        ensures no_memory { OnErr result ((bytes self.new ≡ bytes self.old)
+            × (piece.new ≡ piece.old)) };
 
     /// Makes a range zero. With `keep` a form may keep memory for the range; without `keep` its memory may be given back,
     /// and the call succeeds even where there is none.

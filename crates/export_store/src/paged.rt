@@ -40,7 +40,8 @@ impl<A: Allocator + Copy> Model for Paged<A> {
 
     ghost view = { λ p. record { size = p.size; chunks = p.pages; zeros = p.zeros } };
 
-    ghost invariant = { λ p. IsPaged (record { size = p.size; chunks = p.pages; zeros = p.zeros }) };
+    ghost invariant = { λ p.
+        IsPaged (record { size = p.size; chunks = p.pages; zeros = p.zeros }) };
 }
 
 // How many of so many bytes from a position on lie in its page.
@@ -211,7 +212,8 @@ impl<A: Allocator + Copy> Paged<A> {
     fn pages_after(&self, offset: usize, piece: &Payload<A>) -> Result<Vec<Page<A>, A>, NoMemory>
         requires some { 0 < length piece.now }
         requires within { offset + length piece.now ≤ length (image_of self.now) }
-        ensures { IfOk result (λ pages. pages.items ≡ pages_after (page_of self.now) offset piece.now
+        ensures { IfOk result (λ pages. pages.items
+            ≡ pages_after (page_of self.now) offset piece.now
             (offset / 4096) (div_ceil (offset + length piece.now) 4096 - offset / 4096)) }
     {
         let first = offset / PAGE;

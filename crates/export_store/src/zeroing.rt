@@ -69,7 +69,8 @@ pub(crate) fn emptied_pages<A: Allocator + Copy>(
     requires some { 0 < count }
     requires within { offset + count ≤ size }
     ensures { (k : ℕ) → is_between result.first result.end k
-        ≡ (has_byte_of offset count k && not (is_some (in_table pages.now k) && not (lies_whole_in size offset count k))) }
+        ≡ (has_byte_of offset count k
+        && not (is_some (in_table pages.now k) && not (lies_whole_in size offset count k))) }
 {
     let whole = whole_pages(size, offset, count);
     let first = offset / PAGE;

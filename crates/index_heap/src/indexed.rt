@@ -34,7 +34,8 @@ impl<A: Allocator + Copy> Model for IndexHeap<A> {
 
     ghost view = { λ heap. keys_less heap.offset heap.keys.items };
 
-    ghost invariant = { λ heap. IsIndexHeap heap.offset heap.keys.items heap.order.items heap.places.items };
+    ghost invariant = { λ heap.
+        IsIndexHeap heap.offset heap.keys.items heap.order.items heap.places.items };
 }
 
 impl<A: Allocator + Copy> IndexHeap<A> {

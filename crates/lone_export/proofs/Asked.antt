@@ -18,7 +18,7 @@ use Rattle.reply_box.specs.declared.fault.AdmitFault.TheVariants as admitting
 use Rattle.export_queue.specs.Queue.{Queue, after_push}
 use Rattle.lone_export.specs.Alone.{Alone, Job, own_step, outstanding, refused, accepted}
 use Rattle.lone_export.specs.Calls.{to_come}
-use Rattle.lone_export.specs.Lone.{Whole, Does, MayAttach, MayArrive, attach_refusal_said, refusal_said}
+use Rattle.lone_export.specs.Lone.{Whole, Does, MayAttach, MayArrive, step_answer_of_attach_refusal, step_answer_of_refusal}
 use Rattle.lone_export.specs.declared.refusal.AttachRefusal.{AttachRefusal}
 use Rattle.lone_export.specs.declared.refusal.AttachRefusal.TheVariants as attaching
 use Rattle.lone_export.specs.declared.refusal.ArriveRefusal.{ArriveRefusal}
@@ -205,7 +205,7 @@ module _ {A : Type 0} where
 
   -- ---- what the calls answer
 
-  pub attach_refused : (w : Whole) (e : AttachRefusal) → MayAttach w (Err e) → Does {A = A} w w step.Attach (attach_refusal_said e)
+  pub attach_refused : (w : Whole) (e : AttachRefusal) → MayAttach w (Err e) → Does {A = A} w w step.Attach (step_answer_of_attach_refusal e)
   attach_refused w attaching.Worn is = record { did = if_yes (nat_le (2 ^ 56) w.state.count) _ _ is; terms = refl; inflight = refl }
   attach_refused w attaching.Full is = record {
     did = if_no (nat_le (2 ^ 56) w.state.count) _ _ is.0 ∙ if_yes (length (filter is_here w.state.sessions) == 64) _ _ is.1;
@@ -232,7 +232,7 @@ module _ {A : Type 0} where
   pub not_worn : (p : Parts A) (w : Whole) → IsLone p → whole_of p ≡ w → nat_le (2 ^ 56) w.state.count ≡ false → nat_le (2 ^ 56) p.count ≡ false
   not_worn p w is e h = subst (λ (v : Whole). nat_le (2 ^ 56) v.state.count ≡ false) (sym e) h
 
-  pub arrive_refused : (w : Whole) (s t : ℕ) (q : RequestMessage) (e : ArriveRefusal) → MayArrive w s (Err e) → Does {A = A} w w (step.Arrive s t q) (refusal_said e)
+  pub arrive_refused : (w : Whole) (s t : ℕ) (q : RequestMessage) (e : ArriveRefusal) → MayArrive w s (Err e) → Does {A = A} w w (step.Arrive s t q) (step_answer_of_refusal e)
   arrive_refused w s t q arriving.NotOpen is = record { did = if_yes (not (is_open_at w.state.sessions s)) _ _ (ap not is); terms = refl; inflight = refl }
   arrive_refused w s t q arriving.Worn is = record {
     did = if_not (is_open_at w.state.sessions s) _ _ is.0 ∙ if_yes (nat_le (2 ^ 56) w.state.count) _ _ is.1;

@@ -5,7 +5,7 @@ use Rattle.std.proofs.lemmas.List.{length-map}
 use Rattle.nbd_commands.specs.Terms.{Terms}
 use Rattle.tag_clock.specs.Intervals.{Intervals, IsInterval}
 use Rattle.tag_clock.specs.Clocks.{Limit, limit_retuned}
-use Rattle.lone_export.specs.Lone.{Whole, Does, MayRetune, retune_said}
+use Rattle.lone_export.specs.Lone.{Whole, Does, MayRetune, step_answer_of_retune}
 use Rattle.lone_export.specs.Parts.{Parts, job_of, terms_at, state_at, whole_of, IsLone}
 use Rattle.lone_export.specs.declared.refusal.RetuneRefusal.{RetuneRefusal}
 use Rattle.lone_export.specs.declared.refusal.RetuneRefusal.TheVariants as retuning
@@ -32,7 +32,7 @@ module _ {A : Type 0} where
         inflight = is.inflight;
       })
 
-  pub retune_refused : (w : Whole) (rates : Intervals) (e : RetuneRefusal) → MayRetune w (Err e) → Does {A = A} w w (step.Retune rates) (retune_said (Err e))
+  pub retune_refused : (w : Whole) (rates : Intervals) (e : RetuneRefusal) → MayRetune w (Err e) → Does {A = A} w w (step.Retune rates) (step_answer_of_retune (Err e))
   retune_refused w rates retuning.Worn is = record { did = if_yes (nat_le (2 ^ 56) w.state.count) _ _ is; terms = refl; inflight = refl }
   retune_refused w rates retuning.Waiting is = record {
     did = if_no (nat_le (2 ^ 56) w.state.count) _ _ is.0 ∙ if_yes (not (length w.state.waiting == 0)) _ _ (ap not is.1);

@@ -168,44 +168,44 @@ module _ {A : Type 0} where
     pub terms : new.terms ≡ old.terms
     pub inflight : new.inflight ≡ old.inflight
 
-  abbrev pub attach_refusal_said : AttachRefusal → StepAnswer A
-  attach_refusal_said attaching.Worn = said.Worn
-  attach_refusal_said attaching.Full = said.Full
+  abbrev pub step_answer_of_attach_refusal : AttachRefusal → StepAnswer A
+  step_answer_of_attach_refusal attaching.Worn = said.Worn
+  step_answer_of_attach_refusal attaching.Full = said.Full
 
-  abbrev pub attach_said : Result ℕ NotAttached → Option (StepAnswer A)
-  attach_said (Ok n) = Some (said.Session n)
-  attach_said (Err (Refused e)) = Some (attach_refusal_said e)
-  attach_said (Err NoMemory) = None
+  abbrev pub step_answer_of_attach : Result ℕ NotAttached → Option (StepAnswer A)
+  step_answer_of_attach (Ok n) = Some (said.Session n)
+  step_answer_of_attach (Err (Refused e)) = Some (step_answer_of_attach_refusal e)
+  step_answer_of_attach (Err NoMemory) = None
 
-  abbrev pub refusal_said : ArriveRefusal → StepAnswer A
-  refusal_said arriving.NotOpen = said.NotOpen
-  refusal_said arriving.Worn = said.Worn
-  refusal_said arriving.Hold = said.Hold
+  abbrev pub step_answer_of_refusal : ArriveRefusal → StepAnswer A
+  step_answer_of_refusal arriving.NotOpen = said.NotOpen
+  step_answer_of_refusal arriving.Worn = said.Worn
+  step_answer_of_refusal arriving.Hold = said.Hold
 
-  abbrev pub arrived_said : Result Arrived (NotArrived A) → StepAnswer A
-  arrived_said (Ok (arrival.Accepted n tag)) = said.Accepted n tag
-  arrived_said (Ok (arrival.Answered error)) = said.Answered error
-  arrived_said (Err e) = refusal_said e.refusal
+  abbrev pub step_answer_of_arrive : Result Arrived (NotArrived A) → StepAnswer A
+  step_answer_of_arrive (Ok (arrival.Accepted n tag)) = said.Accepted n tag
+  step_answer_of_arrive (Ok (arrival.Answered error)) = said.Answered error
+  step_answer_of_arrive (Err e) = step_answer_of_refusal e.refusal
 
-  abbrev pub pick_said : Option Picked → StepAnswer A
-  pick_said None = said.Nothing
-  pick_said (Some p) = said.Picked p.number
+  abbrev pub step_answer_of_pick : Option Picked → StepAnswer A
+  step_answer_of_pick None = said.Nothing
+  step_answer_of_pick (Some p) = said.Picked p.number
 
-  abbrev pub take_said : Result (Taken A) NotOpen → StepAnswer A
-  take_said (Ok (taking.Reply r)) = said.Reply r
-  take_said (Ok taking.Empty) = said.Empty
-  take_said (Ok taking.End) = said.End
-  take_said (Err e) = said.NotOpen
+  abbrev pub step_answer_of_take : Result (Taken A) NotOpen → StepAnswer A
+  step_answer_of_take (Ok (taking.Reply r)) = said.Reply r
+  step_answer_of_take (Ok taking.Empty) = said.Empty
+  step_answer_of_take (Ok taking.End) = said.End
+  step_answer_of_take (Err e) = said.NotOpen
 
-  abbrev pub leave_said : Result (Unit {0}) NotOpen → StepAnswer A
-  leave_said (Ok done) = said.Left
-  leave_said (Err e) = said.NotOpen
+  abbrev pub step_answer_of_leave : Result (Unit {0}) NotOpen → StepAnswer A
+  step_answer_of_leave (Ok done) = said.Left
+  step_answer_of_leave (Err e) = said.NotOpen
 
-  abbrev pub gone_said : Result (Unit {0}) NotOpen → StepAnswer A
-  gone_said (Ok done) = said.Dropped
-  gone_said (Err e) = said.NotOpen
+  abbrev pub step_answer_of_gone : Result (Unit {0}) NotOpen → StepAnswer A
+  step_answer_of_gone (Ok done) = said.Dropped
+  step_answer_of_gone (Err e) = said.NotOpen
 
-  abbrev pub retune_said : Result (Unit {0}) RetuneRefusal → StepAnswer A
-  retune_said (Ok done) = said.Retuned
-  retune_said (Err retuning.Worn) = said.Worn
-  retune_said (Err retuning.Waiting) = said.Waiting
+  abbrev pub step_answer_of_retune : Result (Unit {0}) RetuneRefusal → StepAnswer A
+  step_answer_of_retune (Ok done) = said.Retuned
+  step_answer_of_retune (Err retuning.Worn) = said.Worn
+  step_answer_of_retune (Err retuning.Waiting) = said.Waiting

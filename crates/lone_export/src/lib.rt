@@ -5,8 +5,8 @@ mod laws;
 mod lone;
 mod refusal;
 mod row;
-mod said;
 mod step;
+mod step_answers;
 
 pub use laws::{limit_tags_unrolled, steps_to_come};
 pub use lone::Lone;

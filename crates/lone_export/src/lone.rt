@@ -10,7 +10,7 @@ ghost use Rattle.export_queue.specs.Queue.{item_held};
 ghost use Rattle.reply_box.specs.Box.{IsOwed, after_put};
 ghost use Rattle.lone_export.specs.Parts.{Settles, reply_to};
 ghost use Rattle.lone_export.specs.declared.row.Row.{Row};
-ghost use Rattle.lone_export.specs.Lone.{opening_of, Does, DoesOr, pick_said, leave_said, gone_said, take_said, attach_said, arrived_said, retune_said, slots_picked, slots_without, slot_at, MayAttach};
+ghost use Rattle.lone_export.specs.Lone.{opening_of, Does, DoesOr, step_answer_of_pick, step_answer_of_leave, step_answer_of_gone, step_answer_of_take, step_answer_of_attach, step_answer_of_arrive, step_answer_of_retune, slots_picked, slots_without, slot_at, MayAttach};
 
 mod reading;
 mod replaying;
@@ -55,16 +55,38 @@ impl<I: Image> Model for Lone<I> {
 
     ghost Value = { Whole };
 
-    ghost view = { λ l. whole_of (record { info = l.info; tuning = l.tuning; rates = l.rates; image = I.bytes l.image; queue = l.queue; clock = l.clock; sessions = l.sessions; count = l.count; asked = l.asked }) };
+    ghost view = { λ l.
+        whole_of (record {
+          info = l.info;
+          tuning = l.tuning;
+          rates = l.rates;
+          image = I.bytes l.image;
+          queue = l.queue;
+          clock = l.clock;
+          sessions = l.sessions;
+          count = l.count;
+          asked = l.asked;
+        }) };
 
-    ghost invariant = { λ l. IsLone (record { info = l.info; tuning = l.tuning; rates = l.rates; image = I.bytes l.image; queue = l.queue; clock = l.clock; sessions = l.sessions; count = l.count; asked = l.asked }) };
+    ghost invariant = { λ l.
+        IsLone (record {
+          info = l.info;
+          tuning = l.tuning;
+          rates = l.rates;
+          image = I.bytes l.image;
+          queue = l.queue;
+          clock = l.clock;
+          sessions = l.sessions;
+          count = l.count;
+          asked = l.asked;
+        }) };
 }
 
 impl<I: Image> Lone<I> {
     /// The first request that waits is in service now, in the slot that is answered.
     pub fn pick(&mut self) -> Option<Picked>
         requires { length self.old.state.out < self.old.inflight }
-        ensures step { Does {A = I.Alloc} self.old self.new Step.Pick (pick_said result) }
+        ensures step { Does {A = I.Alloc} self.old self.new Step.Pick (step_answer_of_pick result) }
         ensures slots { self.new.slots ≡ slots_picked self.old.slots result }
     {
         let Some(picked) = self.queue.pick() else {
@@ -77,7 +99,7 @@ impl<I: Image> Lone<I> {
     /// Nothing more arrives on the session.
     pub fn leave(&mut self, session: u64) -> Result<(), NotOpen>
         ensures step { Does {A = I.Alloc} self.old self.new (Step.Leave session)
-            (leave_said result) }
+            (step_answer_of_leave result) }
         ensures slots { self.new.slots ≡ self.old.slots }
     {
         if let Err(refused) = self.sessions.leave(session) {
@@ -89,7 +111,8 @@ impl<I: Image> Lone<I> {
 
     /// The session is dropped with its replies; its requests are still served.
     pub fn gone(&mut self, session: u64) -> Result<(), NotOpen>
-        ensures step { Does {A = I.Alloc} self.old self.new (Step.Gone session) (gone_said result) }
+        ensures step { Does {A = I.Alloc} self.old self.new (Step.Gone session)
+            (step_answer_of_gone result) }
         ensures slots { self.new.slots ≡ self.old.slots }
     {
         if let Err(refused) = self.sessions.gone(session) {
@@ -101,7 +124,8 @@ impl<I: Image> Lone<I> {
 
     /// The oldest reply of the session is taken.
     pub fn take(&mut self, session: u64) -> Result<Taken<I::Alloc>, NotOpen>
-        ensures step { Does {A = I.Alloc} self.old self.new (Step.Take session) (take_said result) }
+        ensures step { Does {A = I.Alloc} self.old self.new (Step.Take session)
+            (step_answer_of_take result) }
         ensures slots { self.new.slots ≡ self.old.slots }
     {
         match self.sessions.take(session) {
@@ -117,7 +141,8 @@ impl<I: Image> Lone<I> {
 
     /// Opens a session and gives its number.
     pub fn attach(&mut self) -> Result<u64, NotAttached>
-        ensures step { DoesOr {A = I.Alloc} self.old self.new Step.Attach (attach_said result) }
+        ensures step { DoesOr {A = I.Alloc} self.old self.new Step.Attach
+            (step_answer_of_attach result) }
         ensures no_memory { IsErrOf result NotAttached.NoMemory → MayAttach self.old (Ok tt) }
         ensures slots { self.new.slots ≡ self.old.slots }
     {
@@ -142,7 +167,7 @@ impl<I: Image> Lone<I> {
         request: Request<I::Alloc>,
     ) -> Result<Arrived, NotArrived<I::Alloc>>
         ensures step { Does {A = I.Alloc} self.old self.new (Step.Arrive session moment request)
-            (arrived_said result) }
+            (step_answer_of_arrive result) }
         ensures back { IfErr result (λ e. e.request ≡ request) }
         ensures slots { self.new.slots ≡ self.old.slots }
     {
@@ -174,7 +199,8 @@ impl<I: Image> Lone<I> {
     /// None where the slot doesn't hold that number, also where the number is in service in another slot.
     pub fn perform(&mut self, slot: usize, number: u64) -> Option<bool>
         ensures some { IfSome result (λ memory. (slot_at self.old number ≡ Some slot)
-            × Does {A = I.Alloc} self.old self.new (Step.Perform number memory) (StepAnswer.Performed memory)) }
+            × Does {A = I.Alloc} self.old self.new (Step.Perform number memory)
+            (StepAnswer.Performed memory)) }
         ensures none { IfNone result ((slot_at self.old number ≢ Some slot)
             × (self.new ≡ self.old)) }
         ensures slots { OnSome result (self.new.slots
@@ -193,7 +219,7 @@ impl<I: Image> Lone<I> {
     /// It takes no memory.
     pub fn retune(&mut self, rates: Rates) -> Result<(), RetuneRefusal>
         ensures step { Does {A = I.Alloc} self.old self.new (Step.Retune rates)
-            (retune_said result) }
+            (step_answer_of_retune result) }
         ensures slots { self.new.slots ≡ self.old.slots }
     {
         if let Err(refusal) = self.may_retune() {

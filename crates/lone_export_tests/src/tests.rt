@@ -15,8 +15,8 @@ mod memory;
 mod retunes;
 mod rounds;
 mod runs;
-mod said;
 mod skipping;
+mod step_answers;
 
 // An export on the heap.
 type Alone = Lone<Flat<Global>>;

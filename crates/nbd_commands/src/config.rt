@@ -354,7 +354,8 @@ impl<A: Allocator + Copy> Model for Config<A> {
 
     ghost view = { λ c. record { exports = c.exports.items; inflight = c.inflight } };
 
-    ghost invariant = { λ c. IsOffer (record { exports = c.exports.items; inflight = c.inflight }) };
+    ghost invariant = { λ c.
+        IsOffer (record { exports = c.exports.items; inflight = c.inflight }) };
 }
 
 impl<A: Allocator + Copy> Config<A> {

@@ -59,7 +59,8 @@ fn read<I: Image>(image: &I, offset: usize, count: usize) -> Done<I::Alloc>
 fn write<I: Image>(image: &mut I, offset: usize, piece: &Payload<I::Alloc>) -> Done<I::Alloc>
     requires { offset + length piece.now ≤ length (I.bytes image.old) }
     ensures done { OnTrue result.memory ((result.error ≡ 0) × (result.content ≡ [])
-        × (I.bytes image.new ≡ overwritten (I.bytes image.old) offset (length piece.now) piece.now)) }
+        × (I.bytes image.new
+        ≡ overwritten (I.bytes image.old) offset (length piece.now) piece.now)) }
     ensures no_memory { OnFalse result.memory ((result.error ≡ 12) × (result.content ≡ [])
         × (I.bytes image.new ≡ I.bytes image.old)) }
 {
@@ -150,7 +151,8 @@ pub fn apply_owned<I: Image>(
     requires { verdict_at (length (I.bytes image.old)) false request ≡ 0 }
     ensures done { IfOk result (λ content. (content ≡ data_of (I.bytes image.old) request)
         × (I.bytes image.new ≡ image_after (I.bytes image.old) request)) }
-    ensures no_memory { IfErr result (λ back. (back ≡ request) × (I.bytes image.new ≡ I.bytes image.old)
+    ensures no_memory { IfErr result (λ back. (back ≡ request)
+        × (I.bytes image.new ≡ I.bytes image.old)
         × IsTrue (may_want_memory request)) }
 {
     if request.head().kind == WRITE {

@@ -58,8 +58,8 @@ front_name text =
     else (if nat_lt 0 (length text) then Ok (front_word text) else Err why.FieldCount)
 
 -- a number in decimal digits
-abbrev pub number_said : List ℕ → Result ℕ Refused
-number_said digits = or_refused (number_below (2 ^ 64) digits) why.NotANumber
+abbrev pub spelled_number : List ℕ → Result ℕ Refused
+spelled_number digits = or_refused (number_below (2 ^ 64) digits) why.NotANumber
 
 -- why rates are refused
 abbrev pub rates_refusal : Rates → Option Refusal
@@ -74,69 +74,69 @@ abbrev pub allowed_rates : Rates → Result Rates Refused
 allowed_rates rates = when_some (rates_refusal rates) (λ refusal. Err (why.Rates refusal)) (Ok rates)
 
 -- a reservation, a limit and a weight
-abbrev pub rates_said : List (List ℕ) → Result Rates Refused
-rates_said (r ∷ l ∷ w ∷ []) = do
-  reservation ← number_said r
-  limit ← number_said l
-  weight ← number_said w
+abbrev pub spelled_rates : List (List ℕ) → Result Rates Refused
+spelled_rates (r ∷ l ∷ w ∷ []) = do
+  reservation ← spelled_number r
+  limit ← spelled_number l
+  weight ← spelled_number w
   allowed_rates (record { reservation = reservation; limit = limit; weight = weight })
-rates_said _ = Err why.FieldCount
+spelled_rates _ = Err why.FieldCount
 
 -- the number of a session
-abbrev pub session_said : List (List ℕ) → Result ℕ Refused
-session_said (digits ∷ []) = number_said digits
-session_said _ = Err why.FieldCount
+abbrev pub spelled_session : List (List ℕ) → Result ℕ Refused
+spelled_session (digits ∷ []) = spelled_number digits
+spelled_session _ = Err why.FieldCount
 
 module _ {A : Type 0} where
   -- with these fields behind the verb `stats`
-  abbrev pub stats_said : List (List ℕ) → Result (Command A) Refused
-  stats_said [] = Ok Stats
-  stats_said (form ∷ []) = if bytes_eq form (codes "prometheus") then Ok Metrics else Err why.UnknownCommand
-  stats_said _ = Err why.FieldCount
+  abbrev pub stats_command : List (List ℕ) → Result (Command A) Refused
+  stats_command [] = Ok Stats
+  stats_command (form ∷ []) = if bytes_eq form (codes "prometheus") then Ok Metrics else Err why.UnknownCommand
+  stats_command _ = Err why.FieldCount
 
   -- with these fields behind the verb `stop`
-  abbrev pub stop_said : List (List ℕ) → Result (Command A) Refused
-  stop_said [] = Ok Stop
-  stop_said (when ∷ []) = if bytes_eq when (codes "now") then Ok StopNow else Err why.UnknownCommand
-  stop_said _ = Err why.FieldCount
+  abbrev pub stop_command : List (List ℕ) → Result (Command A) Refused
+  stop_command [] = Ok Stop
+  stop_command (when ∷ []) = if bytes_eq when (codes "now") then Ok StopNow else Err why.UnknownCommand
+  stop_command _ = Err why.FieldCount
 
   -- with these fields behind the verb `sessions`
-  abbrev pub sessions_said : List (List ℕ) → Result (Command A) Refused
-  sessions_said [] = Ok Sessions
-  sessions_said _ = Err why.FieldCount
+  abbrev pub sessions_command : List (List ℕ) → Result (Command A) Refused
+  sessions_command [] = Ok Sessions
+  sessions_command _ = Err why.FieldCount
 
   -- of a name and rates
-  unfoldable pub retune_said : List ℕ → Result (Command A) Refused
-  retune_said text = do
+  unfoldable pub retune_command : List ℕ → Result (Command A) Refused
+  retune_command text = do
     named ← front_name text
-    rates ← rates_said (fields_in named.1)
+    rates ← spelled_rates (fields_in named.1)
     Ok (Retune named.0 rates)
 
   -- of a name and the number of a session
-  unfoldable pub drop_said : List ℕ → Result (Command A) Refused
-  drop_said text = do
+  unfoldable pub drop_command : List ℕ → Result (Command A) Refused
+  drop_command text = do
     named ← front_name text
-    session ← session_said (fields_in named.1)
+    session ← spelled_session (fields_in named.1)
     Ok (DropSession named.0 session)
 
   -- what a verb asks for with this text behind it
   abbrev pub asked_by : Option Verb → List ℕ → Result (Command A) Refused
-  asked_by (Some verbs.Stats) text = stats_said (fields_in text)
-  asked_by (Some verbs.Retune) text = retune_said (trimmed text)
-  asked_by (Some verbs.Sessions) text = sessions_said (fields_in text)
-  asked_by (Some verbs.Drop) text = drop_said (trimmed text)
-  asked_by (Some verbs.Stop) text = stop_said (fields_in text)
+  asked_by (Some verbs.Stats) text = stats_command (fields_in text)
+  asked_by (Some verbs.Retune) text = retune_command (trimmed text)
+  asked_by (Some verbs.Sessions) text = sessions_command (fields_in text)
+  asked_by (Some verbs.Drop) text = drop_command (trimmed text)
+  asked_by (Some verbs.Stop) text = stop_command (fields_in text)
   asked_by None text = Err why.UnknownCommand
 
   -- of a text: its first word, and what stands behind that
-  abbrev pub text_said : List ℕ → Result (Command A) Refused
-  text_said text = let (verb, rest) = front_word (trimmed text) in asked_by (verb_of verb) rest
+  abbrev pub spelled_command : List ℕ → Result (Command A) Refused
+  spelled_command text = let (verb, rest) = front_word (trimmed text) in asked_by (verb_of verb) rest
 
   -- of a line of at most 4,096 bytes, without its line feed
   abbrev pub command_of : List ℕ → Result (Command A) Refused
   command_of line =
       if nat_lt 4096 (length line) then Err why.LineTooLong
-      else (if is_utf8 line then text_said line
+      else (if is_utf8 line then spelled_command line
       else Err why.NotUtf8)
 
 -- of what a call answers as refused. Want of memory is no refusal

@@ -4,7 +4,7 @@ ghost use Rattle.std.specs.Prelude.{◌≡◌, ◌≤◌, true, length, IfOk, If
 ghost use Rattle.std.specs.List.{prefix_len};
 ghost use Rattle.toml_parser.specs.Strings.{starts_string, quoted};
 ghost use Rattle.nbd_text.specs.Fields.{fields_in, is_space, texts_of};
-ghost use Rattle.nbd_control.specs.Commands.{allowed_rates, asked_by, command_of, drop_said, ends_field, front_name, front_word, number_said, quoted_name, rates_refusal, rates_said, retune_said, session_said, sessions_said, stats_said, stop_said, text_said, trimmed, IfRefused};
+ghost use Rattle.nbd_control.specs.Commands.{allowed_rates, asked_by, command_of, drop_command, ends_field, front_name, front_word, spelled_number, quoted_name, rates_refusal, spelled_rates, retune_command, spelled_session, sessions_command, stats_command, stop_command, spelled_command, trimmed, IfRefused};
 
 use crate::command::{Command, Rates};
 use crate::name::Name;
@@ -48,8 +48,9 @@ fn read_text<A: Allocator + Copy>(
     alloc: A,
     text: &str,
 ) -> Result<Command<A>, CommandError>
-    ensures read { IfOk result (λ command. text_said text.now ≡ Ok command) }
-    ensures refused { IfErr result (IfRefused (λ cause. text_said {A = A} text.now ≡ Err cause)) }
+    ensures read { IfOk result (λ command. spelled_command text.now ≡ Ok command) }
+    ensures refused { IfErr result
+        (IfRefused (λ cause. spelled_command {A = A} text.now ≡ Err cause)) }
 {
     let (verb, rest) = front_word(trimmed(text));
     match verb_of(verb.as_bytes()) {
@@ -89,9 +90,9 @@ fn front_word(text: &str) -> (&str, &str)
 
 /// With this text behind the verb `stats`.
 fn stats<A: Allocator + Copy>(alloc: A, text: &str) -> Result<Command<A>, CommandError>
-    ensures read { IfOk result (λ command. stats_said (fields_in text.now) ≡ Ok command) }
+    ensures read { IfOk result (λ command. stats_command (fields_in text.now) ≡ Ok command) }
     ensures refused { IfErr result (IfRefused (λ cause.
-        stats_said {A = A} (fields_in text.now) ≡ Err cause)) }
+        stats_command {A = A} (fields_in text.now) ≡ Err cause)) }
 {
     let fields = fields_of(alloc, text.as_bytes())?;
     match fields.as_slice() {
@@ -104,9 +105,9 @@ fn stats<A: Allocator + Copy>(alloc: A, text: &str) -> Result<Command<A>, Comman
 
 /// With this text behind the verb `stop`.
 fn stop<A: Allocator + Copy>(alloc: A, text: &str) -> Result<Command<A>, CommandError>
-    ensures read { IfOk result (λ command. stop_said (fields_in text.now) ≡ Ok command) }
+    ensures read { IfOk result (λ command. stop_command (fields_in text.now) ≡ Ok command) }
     ensures refused { IfErr result (IfRefused (λ cause.
-        stop_said {A = A} (fields_in text.now) ≡ Err cause)) }
+        stop_command {A = A} (fields_in text.now) ≡ Err cause)) }
 {
     let fields = fields_of(alloc, text.as_bytes())?;
     match fields.as_slice() {
@@ -119,9 +120,9 @@ fn stop<A: Allocator + Copy>(alloc: A, text: &str) -> Result<Command<A>, Command
 
 /// With this text behind the verb `sessions`.
 fn sessions<A: Allocator + Copy>(alloc: A, text: &str) -> Result<Command<A>, CommandError>
-    ensures read { IfOk result (λ command. sessions_said (fields_in text.now) ≡ Ok command) }
+    ensures read { IfOk result (λ command. sessions_command (fields_in text.now) ≡ Ok command) }
     ensures refused { IfErr result (IfRefused (λ cause.
-        sessions_said {A = A} (fields_in text.now) ≡ Err cause)) }
+        sessions_command {A = A} (fields_in text.now) ≡ Err cause)) }
 {
     let fields = fields_of(alloc, text.as_bytes())?;
     match fields.as_slice() {
@@ -131,14 +132,15 @@ fn sessions<A: Allocator + Copy>(alloc: A, text: &str) -> Result<Command<A>, Com
 }
 
 /// Of a name and three rates.
-#[tactic(auto, unfolding(crate::specs::Commands::retune_said))]
+#[tactic(auto, unfolding(crate::specs::Commands::retune_command))]
 fn retune<A: Allocator + Copy>(
     heap: Global,
     alloc: A,
     text: &str,
 ) -> Result<Command<A>, CommandError>
-    ensures read { IfOk result (λ command. retune_said text.now ≡ Ok command) }
-    ensures refused { IfErr result (IfRefused (λ cause. retune_said {A = A} text.now ≡ Err cause)) }
+    ensures read { IfOk result (λ command. retune_command text.now ≡ Ok command) }
+    ensures refused { IfErr result
+        (IfRefused (λ cause. retune_command {A = A} text.now ≡ Err cause)) }
 {
     match front_name(heap, alloc, text) {
         Ok((export, rest)) => {
@@ -150,14 +152,15 @@ fn retune<A: Allocator + Copy>(
 }
 
 /// Of a name and the number of a session.
-#[tactic(auto, unfolding(crate::specs::Commands::drop_said))]
+#[tactic(auto, unfolding(crate::specs::Commands::drop_command))]
 fn drop_session<A: Allocator + Copy>(
     heap: Global,
     alloc: A,
     text: &str,
 ) -> Result<Command<A>, CommandError>
-    ensures read { IfOk result (λ command. drop_said text.now ≡ Ok command) }
-    ensures refused { IfErr result (IfRefused (λ cause. drop_said {A = A} text.now ≡ Err cause)) }
+    ensures read { IfOk result (λ command. drop_command text.now ≡ Ok command) }
+    ensures refused { IfErr result
+        (IfRefused (λ cause. drop_command {A = A} text.now ≡ Err cause)) }
 {
     match front_name(heap, alloc, text) {
         Ok((export, rest)) => {
@@ -230,25 +233,25 @@ fn ends_field(text: &str) -> bool
 
 /// A reservation, a limit and a weight.
 fn rates<A: Allocator + Copy>(alloc: A, text: &str) -> Result<Rates, CommandError>
-    ensures read { IfOk result (λ rates. rates_said (fields_in text.now) ≡ Ok rates) }
+    ensures read { IfOk result (λ rates. spelled_rates (fields_in text.now) ≡ Ok rates) }
     ensures refused { IfErr result (IfRefused (λ cause.
-        rates_said (fields_in text.now) ≡ Err cause)) }
+        spelled_rates (fields_in text.now) ≡ Err cause)) }
 {
     let fields = fields_of(alloc, text.as_bytes())?;
-    match rates_said(&fields) {
+    match spelled_rates(&fields) {
         Ok(rates) => Ok(rates),
         Err(cause) => Err(CommandError::Refused(cause)),
     }
 }
 
-fn rates_said(fields: &[&[u8]]) -> Result<Rates, Refused>
-    ensures { result ≡ rates_said (texts_of fields.now) }
+fn spelled_rates(fields: &[&[u8]]) -> Result<Rates, Refused>
+    ensures { result ≡ spelled_rates (texts_of fields.now) }
 {
     match fields {
         [reservation, limit, weight] => allowed_rates(Rates {
-            reservation: number_said(reservation)?,
-            limit: number_said(limit)?,
-            weight: number_said(weight)?,
+            reservation: spelled_number(reservation)?,
+            limit: spelled_number(limit)?,
+            weight: spelled_number(weight)?,
         }),
         _ => Err(Refused::FieldCount),
     }
@@ -256,29 +259,29 @@ fn rates_said(fields: &[&[u8]]) -> Result<Rates, Refused>
 
 /// The number of a session.
 fn session<A: Allocator + Copy>(alloc: A, text: &str) -> Result<u64, CommandError>
-    ensures read { IfOk result (λ session. session_said (fields_in text.now) ≡ Ok session) }
+    ensures read { IfOk result (λ session. spelled_session (fields_in text.now) ≡ Ok session) }
     ensures refused { IfErr result (IfRefused (λ cause.
-        session_said (fields_in text.now) ≡ Err cause)) }
+        spelled_session (fields_in text.now) ≡ Err cause)) }
 {
     let fields = fields_of(alloc, text.as_bytes())?;
-    match session_said(&fields) {
+    match spelled_session(&fields) {
         Ok(session) => Ok(session),
         Err(cause) => Err(CommandError::Refused(cause)),
     }
 }
 
-fn session_said(fields: &[&[u8]]) -> Result<u64, Refused>
-    ensures { result ≡ session_said (texts_of fields.now) }
+fn spelled_session(fields: &[&[u8]]) -> Result<u64, Refused>
+    ensures { result ≡ spelled_session (texts_of fields.now) }
 {
     match fields {
-        [digits] => number_said(digits),
+        [digits] => spelled_number(digits),
         _ => Err(Refused::FieldCount),
     }
 }
 
 /// A number in decimal digits.
-fn number_said(digits: &[u8]) -> Result<u64, Refused>
-    ensures { result ≡ number_said digits.now }
+fn spelled_number(digits: &[u8]) -> Result<u64, Refused>
+    ensures { result ≡ spelled_number digits.now }
 {
     match number(digits) {
         Some(value) => Ok(value),

@@ -24,7 +24,8 @@ pub trait Attach {
     /// Asks for a session of an export, which is named by its place in the table.
     fn attach(&mut self, export: u32) -> Attached
         ensures answer { may export result }
-        ensures noted { AsksFor (askings self.old) (askings self.new) (one_asking export result ∷ []) };
+        ensures noted { AsksFor (askings self.old) (askings self.new)
+            (one_asking export result ∷ []) };
 }
 
 /// Always gives a session.

@@ -69,9 +69,11 @@ impl<'a, A: Allocator + Copy> Haggle<'a, A> {
             × (self.old.seen < 1000)) }
         ensures bad_magic { IsErrOf result HeadFault.BadMagic → take 8 bytes.now ≢ option_magic }
         ensures too_many { IsErrOf result HeadFault.TooMany
-            → ((number : ℕ) × (count : ℕ) × (bytes.now ≡ option_head_text number count) × (number < 2 ^ 32) × (count < 2 ^ 32) × (1000 ≤ self.old.seen)) }
+            → ((number : ℕ) × (count : ℕ) × (bytes.now ≡ option_head_text number count)
+            × (number < 2 ^ 32) × (count < 2 ^ 32) × (1000 ≤ self.old.seen)) }
         ensures too_long { IsErrOf result HeadFault.TooLong
-            → ((number : ℕ) × (count : ℕ) × (bytes.now ≡ option_head_text number count) × (number < 2 ^ 32) × (count < 2 ^ 32) × (self.old.seen < 1000) × (65536 < count)) }
+            → ((number : ℕ) × (count : ℕ) × (bytes.now ≡ option_head_text number count)
+            × (number < 2 ^ 32) × (count < 2 ^ 32) × (self.old.seen < 1000) × (65536 < count)) }
     {
         let Ok((number, count)) = read_option_head(bytes) else {
             return Err(HeadFault::BadMagic);

@@ -27,7 +27,8 @@ impl<A: Allocator> Model for Export<A> {
       flags = e.flags;
     } };
 
-    ghost invariant = { λ e. (vec_len e.name ≤ 255) × ForSome e.description (λ d. vec_len d ≤ 4096) };
+    ghost invariant = { λ e. (vec_len e.name ≤ 255)
+        × ForSome e.description (λ d. vec_len d ≤ 4096) };
 }
 
 impl<A: Allocator> Export<A> {

@@ -11,7 +11,7 @@ use Rattle.nbd_scripts.specs.declared.fault.LineFault.TheVariants as fault
 use Rattle.nbd_text.specs.Numbers.{number_below}
 use Rattle.nbd_text.specs.Fields.{fields_in}
 use Rattle.nbd_scripts.specs.Lines.{is_comment, lines_in, only, Begins}
-use Rattle.nbd_scripts.specs.Settings.{export_said}
+use Rattle.nbd_scripts.specs.Settings.{spelled_export}
 use Rattle.nbd_scripts.specs.Steps.{◌>>=◌, fault_in}
 
 -- ---- a line of the head
@@ -33,7 +33,7 @@ plan_with plan export =
 unfoldable pub export_line : Plan → List (List ℕ) → Result Plan LineFault
 export_line plan [] = Err Form
 export_line plan (name ∷ []) = Err Form
-export_line plan (name ∷ size ∷ settings) = when_some (export_said name size settings) (plan_with plan) (Err Form)
+export_line plan (name ∷ size ∷ settings) = when_some (spelled_export name size settings) (plan_with plan) (Err Form)
 
 -- a number of requests in service, which may be said once
 abbrev pub plan_within : Plan → ℕ → Result Plan LineFault
@@ -47,16 +47,16 @@ unfoldable pub inflight_line : Plan → List (List ℕ) → Result Plan LineFaul
 inflight_line plan fields = when_some (only fields >>= number_below (2 ^ 64)) (plan_within plan) (Err Form)
 
 -- a line by its fields. One without fields says nothing
-unfoldable pub fields_said : Plan → List (List ℕ) → Result Plan LineFault
-fields_said plan [] = Ok plan
-fields_said plan (word ∷ fields) =
+unfoldable pub plan_with_fields : Plan → List (List ℕ) → Result Plan LineFault
+plan_with_fields plan [] = Ok plan
+plan_with_fields plan (word ∷ fields) =
     if bytes_eq word (codes "export") then export_line plan fields
     else (if bytes_eq word (codes "inflight") then inflight_line plan fields
     else Err Form)
 
 -- what is configured behind one line more, or why the line is refused
 abbrev pub plan_after : Plan → List ℕ → Result Plan LineFault
-plan_after plan line = if is_comment line then Ok plan else fields_said plan (fields_in line)
+plan_after plan line = if is_comment line then Ok plan else plan_with_fields plan (fields_in line)
 
 -- ---- the whole head
 

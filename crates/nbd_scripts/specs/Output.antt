@@ -6,8 +6,8 @@ use Rattle.hex.specs.Hex.{encode_lower, decode_of}
 use Rattle.nbd_commands.specs.Exports.{Export}
 use Rattle.nbd_session.specs.Conversation.{Talked}
 use Rattle.nbd_session.specs.Outcomes.{IsTold}
-use Rattle.nbd_session.specs.declared.talking.End.{End}
-use Rattle.nbd_session.specs.declared.talking.End.TheVariants.{Disc, Abort, NoExport, Over, Cut, BadFlags, BadMagic, TooLong, TooMany, Worn}
+use Rattle.nbd_session.specs.declared.outcomes.End.{End}
+use Rattle.nbd_session.specs.declared.outcomes.End.TheVariants.{Disc, Abort, NoExport, Over, Cut, BadFlags, BadMagic, TooLong, TooMany, Worn}
 
 -- a space, tab, line feed or carriage return, which may stand between digits
 abbrev pub is_gap : ℕ → Bool

@@ -71,8 +71,8 @@ abbrev pub stripped : List ℕ → List ℕ → Option (List ℕ)
 stripped front text = if bytes_eq (take (length front) text) front then Some (drop (length front) text) else None
 
 -- the export that `NAME size=N` and settings behind it say
-unfoldable pub export_said : List ℕ → List ℕ → List (List ℕ) → Option Export
-export_said name size settings = do
+unfoldable pub spelled_export : List ℕ → List ℕ → List (List ℕ) → Option Export
+spelled_export name size settings = do
   digits ← stripped (codes "size=") size
   bytes ← number_below (2 ^ 64) digits
   s ← with_settings no_settings settings

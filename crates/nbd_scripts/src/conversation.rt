@@ -58,13 +58,16 @@ fn converse<A: Allocator + Copy, W: Write>(
     ensures done { result ≡ Outcome.Done → Prints config.now.exports body.now
         (W.contents output.old.inner) (W.contents output.new.inner) }
     ensures refused { result ≡ Outcome.Refused → IsErr (decode_of (digits_of body.now))
-        × Appends (W.contents output.old.inner) (W.contents output.new.inner) (codes "hex refused\n") }
+        × Appends (W.contents output.old.inner) (W.contents output.new.inner)
+        (codes "hex refused\n") }
     ensures read { result ≢ Outcome.ReadFailed }
     ensures counted { CountsWrite result output.old.failures output.new.failures }
     ensures no_memory { result ≡ Outcome.NoMemory
         → W.contents output.new.inner ≡ W.contents output.old.inner }
     ensures write_failed { result ≡ Outcome.WriteFailed → CutShort
-        (λ all. Prints config.now.exports body.now (W.contents output.old.inner) all ⊎ (IsErr (decode_of (digits_of body.now)) × Appends (W.contents output.old.inner) all (codes "hex refused\n")))
+        (λ all. Prints config.now.exports body.now (W.contents output.old.inner) all
+        ⊎ (IsErr (decode_of (digits_of body.now))
+        × Appends (W.contents output.old.inner) all (codes "hex refused\n")))
         (W.contents output.old.inner) (W.contents output.new.inner) }
 {
     let Ok(digits) = digits_of(alloc, body) else {
@@ -92,11 +95,13 @@ fn refuse_hex<W: Write>(error: &FromHexError, output: &mut Counted<W>) -> Outcom
     ensures read { result ≢ Outcome.ReadFailed }
     ensures counted { CountsWrite result output.old.failures output.new.failures }
     ensures refused { result ≡ Outcome.Refused → (error.now ≢ FromHexError.OutOfMemory)
-        × Appends (W.contents output.old.inner) (W.contents output.new.inner) (codes "hex refused\n") }
+        × Appends (W.contents output.old.inner) (W.contents output.new.inner)
+        (codes "hex refused\n") }
     ensures no_memory { result ≡ Outcome.NoMemory
         → W.contents output.new.inner ≡ W.contents output.old.inner }
     ensures write_failed { result ≡ Outcome.WriteFailed → (error.now ≢ FromHexError.OutOfMemory)
-        × WritesPart (W.contents output.old.inner) (W.contents output.new.inner) (codes "hex refused\n") }
+        × WritesPart (W.contents output.old.inner) (W.contents output.new.inner)
+        (codes "hex refused\n") }
 {
     match error {
         FromHexError::OutOfMemory => Outcome::NoMemory,

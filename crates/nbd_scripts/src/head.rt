@@ -3,14 +3,14 @@
 ghost use Rattle.std.specs.Prelude.{◌≡◌, Ok, OnOk, IfOk, IfErr};
 ghost use Rattle.nbd_scripts.specs.Faults.{IsRefused};
 ghost use Rattle.nbd_text.specs.Fields.{texts_of};
-ghost use Rattle.nbd_scripts.specs.Head.{export_line, fields_said, inflight_line, no_plan, offered, plan_after};
+ghost use Rattle.nbd_scripts.specs.Head.{export_line, plan_with_fields, inflight_line, no_plan, offered, plan_after};
 ghost use Rattle.nbd_scripts.specs.Heads.{plan_of, IsHead};
 
 use crate::body::Body;
 use crate::fault::LineFault;
 use crate::lines::{first_line, is_comment, only};
 use crate::numbers::number;
-use crate::settings::export_said;
+use crate::settings::spelled_export;
 use nbd_commands::{Config, DEFAULT_INFLIGHT, ExportList, Refusal, is_inflight};
 use nbd_text::fields_of;
 use std::alloc::Allocator;
@@ -78,12 +78,12 @@ impl<A: Allocator + Copy> Draft<A> {
     }
 
     /// Takes a line by its fields.
-    #[tactic(auto, unfolding(crate::specs::Head::fields_said))]
+    #[tactic(auto, unfolding(crate::specs::Head::plan_with_fields))]
     fn fields(&mut self, fields: &[&[u8]]) -> Result<(), LineFault>
-        ensures taken { OnOk result (fields_said (plan_of self.old) (texts_of fields.now)
+        ensures taken { OnOk result (plan_with_fields (plan_of self.old) (texts_of fields.now)
             ≡ Ok (plan_of self.new)) }
         ensures refused { IfErr result
-            (IsRefused (fields_said (plan_of self.old) (texts_of fields.now))) }
+            (IsRefused (plan_with_fields (plan_of self.old) (texts_of fields.now))) }
     {
         match fields {
             [] => Ok(()),
@@ -128,7 +128,7 @@ impl<A: Allocator + Copy> Draft<A> {
     {
         match fields {
             [name, size, settings @ ..] => {
-                let export = export_said(name, size, settings)?;
+                let export = spelled_export(name, size, settings)?;
                 self.exports.add(&export)?;
                 Ok(())
             }

@@ -68,7 +68,9 @@ fn replay<A: Allocator + Copy, W: Write>(
     ensures no_memory { result ≡ Outcome.NoMemory → ReplaysFirst {A = A} (setup_for config.now)
         lines.items (W.contents output.old.inner) (W.contents output.new.inner) }
     ensures write_failed { result ≡ Outcome.WriteFailed → CutShort
-        (λ all. Replays {A = A} (setup_for config.now) lines.items (W.contents output.old.inner) all ⊎ ReplaysFirst {A = A} (setup_for config.now) lines.items (W.contents output.old.inner) all)
+        (λ all. Replays {A = A} (setup_for config.now) lines.items (W.contents output.old.inner) all
+        ⊎ ReplaysFirst {A = A} (setup_for config.now) lines.items
+        (W.contents output.old.inner) all)
         (W.contents output.old.inner) (W.contents output.new.inner) }
     ensures counted { CountsWrite result output.old.failures output.new.failures }
 {

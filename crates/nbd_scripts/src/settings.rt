@@ -3,7 +3,7 @@
 ghost use Rattle.std.specs.Prelude.{◌≡◌, None, Some, IsNone, IsSome, OnOk, OnErr, IfOk, IfErr, option_map};
 ghost use Rattle.nbd_commands.specs.Refusals.{asked};
 ghost use Rattle.nbd_text.specs.Fields.{texts_of};
-ghost use Rattle.nbd_scripts.specs.Settings.{export_said, key_and_value, no_settings, number_once, settled, with_setting, with_settings, with_value};
+ghost use Rattle.nbd_scripts.specs.Settings.{spelled_export, key_and_value, no_settings, number_once, settled, with_setting, with_settings, with_value};
 ghost use Rattle.nbd_scripts.specs.Heads.{settings_of};
 
 use crate::fault::LineFault;
@@ -12,16 +12,16 @@ use crate::numbers::number;
 use nbd_commands::ExportSettings;
 
 /// The export of a line, by the fields behind its first.
-#[tactic(auto, unfolding(crate::specs::Settings::export_said))]
-pub fn export_said<'a>(
+#[tactic(auto, unfolding(crate::specs::Settings::spelled_export))]
+pub fn spelled_export<'a>(
     name: &'a [u8],
     size: &[u8],
     settings: &[&'a [u8]],
 ) -> Result<ExportSettings<'a>, LineFault>
     ensures said { IfOk result (λ export.
-        export_said name.now size.now (texts_of settings.now) ≡ Some (asked export)) }
+        spelled_export name.now size.now (texts_of settings.now) ≡ Some (asked export)) }
     ensures missed { IfErr result (λ fault. (fault ≡ LineFault.Form)
-        × (export_said name.now size.now (texts_of settings.now) ≡ None)) }
+        × (spelled_export name.now size.now (texts_of settings.now) ≡ None)) }
 {
     let Some(digits) = size.strip_prefix(b"size=") else {
         return Err(LineFault::Form);

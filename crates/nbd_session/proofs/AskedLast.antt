@@ -13,10 +13,10 @@ use Rattle.nbd_options.specs.Asking.{Asking, AsksFor, asked_by, one_asking}
 use Rattle.nbd_options.specs.Exports.{ExportFacts}
 use Rattle.nbd_options.specs.Replies.{ReplyMessage, next_after, replies_to}
 use Rattle.nbd_options.specs.Haggled.{Asked, said_by, said_to}
-use Rattle.nbd_session.specs.declared.talking.End.{End}
-use Rattle.nbd_session.specs.declared.talking.Entry.{Entry}
-use Rattle.nbd_session.specs.declared.talking.Entry.TheVariants as entries
-use Rattle.nbd_session.specs.declared.talking.TalkFault.{TalkFault}
+use Rattle.nbd_session.specs.declared.outcomes.End.{End}
+use Rattle.nbd_session.specs.declared.outcomes.Entry.{Entry}
+use Rattle.nbd_session.specs.declared.outcomes.Entry.TheVariants as entries
+use Rattle.nbd_session.specs.declared.outcomes.TalkFault.{TalkFault}
 use Rattle.nbd_session.specs.Options.{GoesOn, entry_after}
 use Rattle.nbd_session.specs.Askings.{asked_at, asked_in, asked_last, AskedAtTheEnd, Asks, AsksBehind, EndsAsked, EndsBy, IsFull, IsOutside}
 

@@ -8,13 +8,13 @@ use Rattle.nbd_options.specs.declared.attach.Attached.{Attached}
 use Rattle.nbd_options.specs.Asking.{Asking, AsksFor}
 use Rattle.nbd_options.specs.Exports.{ExportFacts}
 use Rattle.nbd_options.specs.Haggled.{Asked, wants_no_zeroes}
-use Rattle.nbd_session.specs.declared.talking.End.{End}
-use Rattle.nbd_session.specs.declared.talking.Entry.{Entry}
-use Rattle.nbd_session.specs.declared.talking.Entry.TheVariants as entries
-use Rattle.nbd_session.specs.declared.talking.TalkFault.{TalkFault}
-use Rattle.nbd_session.specs.declared.talking.TalkFault.TheVariants as faults
-use Rattle.nbd_session.specs.declared.offers.Offer.{Offer}
-use Rattle.nbd_session.specs.declared.offers.Offer.TheVariants as offers
+use Rattle.nbd_session.specs.declared.outcomes.End.{End}
+use Rattle.nbd_session.specs.declared.outcomes.Entry.{Entry}
+use Rattle.nbd_session.specs.declared.outcomes.Entry.TheVariants as entries
+use Rattle.nbd_session.specs.declared.outcomes.TalkFault.{TalkFault}
+use Rattle.nbd_session.specs.declared.outcomes.TalkFault.TheVariants as faults
+use Rattle.nbd_session.specs.declared.option_input.Offer.{Offer}
+use Rattle.nbd_session.specs.declared.option_input.Offer.TheVariants as offers
 use Rattle.nbd_session.specs.Options.{asked_text, GoesOn}
 use Rattle.nbd_session.specs.Haggling.{TakesOption}
 use Rattle.nbd_session.specs.Askings.{asked_at, asked_in, asked_last, last_text, Asks, AsksBehind, EndsBy, IsOutside}

@@ -15,14 +15,14 @@ use Rattle.nbd_options.specs.declared.answers.Next.{Next}
 use Rattle.nbd_options.specs.Counting.{Counting}
 use Rattle.nbd_options.specs.Replies.{ClientOption, ReplyMessage, next_after, replies_to}
 use Rattle.nbd_options.specs.Haggled.{Asked, Said, said_by, said_to, ends_by}
-use Rattle.nbd_session.specs.declared.talking.End.{End}
-use Rattle.nbd_session.specs.declared.talking.End.TheVariants as ends
-use Rattle.nbd_session.specs.declared.talking.Entry.{Entry}
-use Rattle.nbd_session.specs.declared.talking.Entry.TheVariants as entries
-use Rattle.nbd_session.specs.declared.talking.TalkFault.{TalkFault}
-use Rattle.nbd_session.specs.declared.talking.TalkFault.TheVariants as faults
-use Rattle.nbd_session.specs.declared.offers.Offer.{Offer}
-use Rattle.nbd_session.specs.declared.offers.Offer.TheVariants as offers
+use Rattle.nbd_session.specs.declared.outcomes.End.{End}
+use Rattle.nbd_session.specs.declared.outcomes.End.TheVariants as ends
+use Rattle.nbd_session.specs.declared.outcomes.Entry.{Entry}
+use Rattle.nbd_session.specs.declared.outcomes.Entry.TheVariants as entries
+use Rattle.nbd_session.specs.declared.outcomes.TalkFault.{TalkFault}
+use Rattle.nbd_session.specs.declared.outcomes.TalkFault.TheVariants as faults
+use Rattle.nbd_session.specs.declared.option_input.Offer.{Offer}
+use Rattle.nbd_session.specs.declared.option_input.Offer.TheVariants as offers
 use Rattle.nbd_session.specs.Streams.{WritesPart}
 use Rattle.nbd_session.specs.Options.{asked_text, text_to, MayAnswer, IsAsked, GoesOn, entry_after, OptionStops, StopsAt, Leaves, Haggles}
 use Rattle.nbd_session.specs.Haggling.{TakesOption, IsSeen, Answers}

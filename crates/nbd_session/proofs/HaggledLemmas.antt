@@ -13,10 +13,10 @@ use Rattle.nbd_options.specs.declared.saying.HaggleEnd.TheVariants as haggle_end
 use Rattle.nbd_options.specs.Exports.{ExportFacts}
 use Rattle.nbd_options.specs.Haggled.{Asked, Said, LeavesOpen, said_to_head, texts_to, and_then, said_from, ends_by, head_fault, wants_no_zeroes, haggled}
 use Rattle.nbd_options.proofs.TurnLemmas.{options_in_turn}
-use Rattle.nbd_session.specs.declared.talking.End.{End}
-use Rattle.nbd_session.specs.declared.talking.End.TheVariants as ends
-use Rattle.nbd_session.specs.declared.talking.Entry.{Entry}
-use Rattle.nbd_session.specs.declared.talking.Entry.TheVariants as entries
+use Rattle.nbd_session.specs.declared.outcomes.End.{End}
+use Rattle.nbd_session.specs.declared.outcomes.End.TheVariants as ends
+use Rattle.nbd_session.specs.declared.outcomes.Entry.{Entry}
+use Rattle.nbd_session.specs.declared.outcomes.Entry.TheVariants as entries
 use Rattle.nbd_session.specs.Options.{asked_text, text_to, IsAsked, GoesOn, OptionStops, StopsAt, Leaves, Haggles, entry_after}
 use Rattle.nbd_session.specs.Conversation.{FlagsStop, Greeted}
 use Rattle.nbd_session.specs.Haggled.{EndsAs, IsHaggled, HandshakeIsHaggled}

@@ -14,8 +14,8 @@ use Rattle.nbd_options.specs.declared.saying.HaggleEnd.TheVariants as haggle_end
 use Rattle.nbd_options.specs.Exports.{ExportFacts, first_of, export_named}
 use Rattle.nbd_options.specs.Replies.{ClientOption, ReplyMessage, is_shaped, name_in, by_name, gone_to, next_after, replies_to}
 use Rattle.nbd_options.specs.Haggled.{Asked, said_by, said_to}
-use Rattle.nbd_session.specs.declared.talking.Entry.{Entry}
-use Rattle.nbd_session.specs.declared.talking.Entry.TheVariants as entries
+use Rattle.nbd_session.specs.declared.outcomes.Entry.{Entry}
+use Rattle.nbd_session.specs.declared.outcomes.Entry.TheVariants as entries
 use Rattle.nbd_session.specs.Options.{entry_after}
 
 -- one of the table has this place

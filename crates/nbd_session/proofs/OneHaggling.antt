@@ -17,10 +17,10 @@ use Rattle.nbd_options.specs.Haggled.{Asked, Said, said_to, ends_by, head_fault,
 use Rattle.nbd_options.specs.declared.haggle.HeadFault.{HeadFault}
 use Rattle.nbd_options.specs.declared.haggle.HeadFault.TheVariants as faults
 use Rattle.nbd_options.proofs.HeadLemmas.{taken}
-use Rattle.nbd_session.specs.declared.talking.End.{End}
-use Rattle.nbd_session.specs.declared.talking.End.TheVariants as ends
-use Rattle.nbd_session.specs.declared.talking.Entry.{Entry}
-use Rattle.nbd_session.specs.declared.talking.Entry.TheVariants as entries
+use Rattle.nbd_session.specs.declared.outcomes.End.{End}
+use Rattle.nbd_session.specs.declared.outcomes.End.TheVariants as ends
+use Rattle.nbd_session.specs.declared.outcomes.Entry.{Entry}
+use Rattle.nbd_session.specs.declared.outcomes.Entry.TheVariants as entries
 use Rattle.nbd_session.specs.Options.{asked_text, text_to, MayAnswer, IsAsked, GoesOn, OptionStops, HeadStops, StopsAt, Leaves, Haggles, entry_after, fault_end}
 use Rattle.nbd_session.specs.Conversation.{IsGiven}
 use Rattle.nbd_session.proofs.OneService.{one_end, no_end}

@@ -8,8 +8,8 @@ use Rattle.nbd_wire.specs.Grammar.{head_text, request_text, RequestMessage, IsRe
 use Rattle.nbd_wire.proofs.HeadLemmas.{length-head_text}
 use Rattle.nbd_wire.proofs.Places.{Place, unfinished, other, long, whole, place_of, head_at, head_of_whole, place_whole, place_unfinished, place_other, place_long, one_request}
 use Rattle.nbd_commands.specs.Terms.{Terms}
-use Rattle.nbd_session.specs.declared.talking.End.{End}
-use Rattle.nbd_session.specs.declared.talking.End.TheVariants as ends
+use Rattle.nbd_session.specs.declared.outcomes.End.{End}
+use Rattle.nbd_session.specs.declared.outcomes.End.TheVariants as ends
 use Rattle.nbd_session.specs.Requests.{after, after_all, reply_to, replies, FindsWorn, AreAnswered, IsAnswered, StopsBy, Ends, Serves}
 use Rattle.lone_export.specs.Alone.{Alone}
 

@@ -1,7 +1,7 @@
 -- A conversation behind another.
 use Rattle.std.proofs.Common.{ℕ, List, [], ◌++◌, Option, Result, Ok, Err, sym, subst, append_assoc}
-use Rattle.nbd_session.specs.declared.talking.TalkFault.{TalkFault}
-use Rattle.nbd_session.specs.declared.talking.TalkFault.TheVariants as faults
+use Rattle.nbd_session.specs.declared.outcomes.TalkFault.{TalkFault}
+use Rattle.nbd_session.specs.declared.outcomes.TalkFault.TheVariants as faults
 use Rattle.nbd_session.specs.Outcomes.{Claims, Converses, Going}
 use Rattle.nbd_session.proofs.KnownLemmas.{Appends-then, Consumes-then}
 use Rattle.nbd_session.proofs.BufferLemmas.{Appends-none, Consumes-none}

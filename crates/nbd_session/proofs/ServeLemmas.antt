@@ -3,9 +3,9 @@ use Rattle.std.proofs.Common.{◌≡◌, ℕ, ◌+◌, ◌<◌, ◌≤◌, ◌^�
 use Rattle.std.specs.List.{flat_map}
 use Rattle.std.specs.Prelude.{IfSome, IfNone, OnSome}
 use Rattle.nbd_wire.specs.Grammar.{request_text, reply_text, RequestMessage, ReplyMessage}
-use Rattle.nbd_session.specs.declared.talking.End.{End}
-use Rattle.nbd_session.specs.declared.talking.End.TheVariants as ends
-use Rattle.nbd_session.specs.declared.talking.TalkFault.TheVariants as faults
+use Rattle.nbd_session.specs.declared.outcomes.End.{End}
+use Rattle.nbd_session.specs.declared.outcomes.End.TheVariants as ends
+use Rattle.nbd_session.specs.declared.outcomes.TalkFault.TheVariants as faults
 use Rattle.nbd_session.specs.Requests.{opened, after, reply_to, FindsWorn, Serves, StopsBy, IsAnswered}
 use Rattle.nbd_session.specs.Outcomes.{IsTold, Converses}
 use Rattle.nbd_commands.specs.Terms.{Terms}

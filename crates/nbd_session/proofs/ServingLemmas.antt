@@ -11,7 +11,7 @@ use Rattle.nbd_commands.specs.Meaning.{image_after, data_of}
 use Rattle.reply_box.specs.Sessions.{is_here_at, outbox_at}
 use Rattle.export_queue.specs.declared.Picked.{Picked}
 use Rattle.lone_export.specs.Alone.{Alone, Moved, own_step, limit_tag, opening}
-use Rattle.lone_export.specs.Lone.{Whole, opening_of, Does, slot_among, slot_at, slots_without, slots_picked, pick_said, refusal_said, arrived_said}
+use Rattle.lone_export.specs.Lone.{Whole, opening_of, Does, slot_among, slot_at, slots_without, slots_picked, step_answer_of_pick, step_answer_of_refusal, step_answer_of_arrive}
 use Rattle.lone_export.specs.declared.step.Step.TheVariants.{Attach, Arrive, Pick, Perform, Take}
 use Rattle.lone_export.specs.declared.step.StepAnswer.{StepAnswer}
 use Rattle.lone_export.specs.declared.step.StepAnswer.TheVariants as said
@@ -72,12 +72,12 @@ module _ (A : Type 0) where
       → own_step {A = A} old.terms (rest old.state.image old.state.next old.state.last old.state.rates old.state.count) (Arrive 0 0 m) ≡ record { state = new.state; answer = answer }
   moved old new m answer idle d = subst (λ (s : Alone). own_step {A = A} old.terms s (Arrive 0 0 m) ≡ record { state = new.state; answer = answer }) (at_rest old.state idle.rests) d.did
 
-  never_answered : (error : ℕ) (refusal : ArriveRefusal) → (let a : StepAnswer A = said.Answered error in a ≡ refusal_said refusal) → ⊥
+  never_answered : (error : ℕ) (refusal : ArriveRefusal) → (let a : StepAnswer A = said.Answered error in a ≡ step_answer_of_refusal refusal) → ⊥
   never_answered error arriving.NotOpen e = cc
   never_answered error arriving.Worn e = cc
   never_answered error arriving.Hold e = cc
 
-  never_accepted : (n : ℕ) (tag : ℤ) (refusal : ArriveRefusal) → (let a : StepAnswer A = said.Accepted n tag in a ≡ refusal_said refusal) → ⊥
+  never_accepted : (n : ℕ) (tag : ℤ) (refusal : ArriveRefusal) → (let a : StepAnswer A = said.Accepted n tag in a ≡ step_answer_of_refusal refusal) → ⊥
   never_accepted n tag arriving.NotOpen e = cc
   never_accepted n tag arriving.Worn e = cc
   never_accepted n tag arriving.Hold e = cc
@@ -104,13 +104,13 @@ module _ (A : Type 0) where
     state_of : (v w : Moved A) → v ≡ w → v.state ≡ w.state
     state_of v w e = ap (λ (x : Moved A). x.state) e
 
-    refused_here : (refusal : ArriveRefusal) → Does {A = A} old new (Arrive 0 0 m) (refusal_said refusal) → nat_le (2 ^ 56) old.state.count ≡ false → (good : Bool) → (verdict_of old.terms m == 0) ≡ good → ⊥
+    refused_here : (refusal : ArriveRefusal) → Does {A = A} old new (Arrive 0 0 m) (step_answer_of_refusal refusal) → nat_le (2 ^ 56) old.state.count ≡ false → (good : Bool) → (verdict_of old.terms m == 0) ≡ good → ⊥
     refused_here refusal d fresh false bad =
-        never_answered (verdict_of old.terms m) refusal (answer_of _ _ (sym (arrives_refused old.terms old.state.image old.state.next old.state.last old.state.rates old.state.count m fresh room bad) ∙ moved old new m (refusal_said refusal) idle d))
+        never_answered (verdict_of old.terms m) refusal (answer_of _ _ (sym (arrives_refused old.terms old.state.image old.state.next old.state.last old.state.rates old.state.count m fresh room bad) ∙ moved old new m (step_answer_of_refusal refusal) idle d))
     refused_here refusal d fresh true good =
-        never_accepted _ _ refusal (answer_of _ _ (sym (arrives_accepted old.terms old.state.image old.state.next old.state.last old.state.rates old.state.count m fresh room good deep) ∙ moved old new m (refusal_said refusal) idle d))
+        never_accepted _ _ refusal (answer_of _ _ (sym (arrives_accepted old.terms old.state.image old.state.next old.state.last old.state.rates old.state.count m fresh room good deep) ∙ moved old new m (step_answer_of_refusal refusal) idle d))
 
-    pub arrived_worn : (refusal : ArriveRefusal) → Does {A = A} old new (Arrive 0 0 m) (refusal_said refusal) → 2 ^ 56 ≤ old.state.count
+    pub arrived_worn : (refusal : ArriveRefusal) → Does {A = A} old new (Arrive 0 0 m) (step_answer_of_refusal refusal) → 2 ^ 56 ≤ old.state.count
     arrived_worn refusal d =
         elim (cases_Bool (nat_le (2 ^ 56) old.state.count)) [
           | inl worn ↦ leb-true (2 ^ 56) old.state.count worn
@@ -182,11 +182,11 @@ module _ (A : Type 0) where
       → (let v : Moved A = record { state = being_out old.state.image old.state.next (Some (limit_tag (rest old.state.image old.state.next old.state.last old.state.rates old.state.count) 0)) old.state.rates ((old.state.count + 1) + 1) m; answer = said.Picked old.state.next } in v ≡ record { state = new.state; answer = answer })
   picked_did old w new m answer h d = subst (λ (s : Alone). own_step {A = A} w.terms s Pick ≡ record { state = new.state; answer = answer }) h.waits d.did
 
-  pub picked_some : (old w new : Whole) (m : RequestMessage) → IsWaiting old w m → Does {A = A} w new Pick (pick_said None) → ⊥
+  pub picked_some : (old w new : Whole) (m : RequestMessage) → IsWaiting old w m → Does {A = A} w new Pick (step_answer_of_pick None) → ⊥
   picked_some old w new m h d =
       picked_not_nothing old.state.next (ap (λ (x : Moved A). x.answer) (picked_did old w new m said.Nothing h d))
 
-  pub picked_out : (old w new : Whole) (m : RequestMessage) (p : Picked) → IsIdle old → IsWaiting old w m → Does {A = A} w new Pick (pick_said (Some p)) → new.slots ≡ slots_picked w.slots (Some p) → IsOut old new m p.slot × (p.number ≡ old.state.next)
+  pub picked_out : (old w new : Whole) (m : RequestMessage) (p : Picked) → IsIdle old → IsWaiting old w m → Does {A = A} w new Pick (step_answer_of_pick (Some p)) → new.slots ≡ slots_picked w.slots (Some p) → IsOut old new m p.slot × (p.number ≡ old.state.next)
   picked_out old w new m p idle h d slots =
       let did = picked_did old w new m (said.Picked p.number) h d in (
         record {
@@ -260,13 +260,13 @@ module _ (A : Type 0) where
 
   module _ (old new : Whole) (m : RequestMessage) (t : ℕ) (zero : t ≡ 0) (idle : IsIdle old) where
     abbrev Arrives : Result Arrived (NotArrived A) → Type 0
-    Arrives answer = Does {A = A} old new (Arrive 0 t m) (arrived_said answer)
+    Arrives answer = Does {A = A} old new (Arrive 0 t m) (step_answer_of_arrive answer)
 
     at_zero : (answer : StepAnswer A) → Does {A = A} old new (Arrive 0 t m) answer → Does {A = A} old new (Arrive 0 0 m) answer
     at_zero answer d = subst (λ (k : ℕ). Does {A = A} old new (Arrive 0 k m) answer) zero d
 
     pub worn_by : (e : NotArrived A) → Arrives (Err e) → 2 ^ 56 ≤ old.state.count
-    worn_by e d = arrived_worn old new m idle e.refusal (at_zero (refusal_said e.refusal) d)
+    worn_by e d = arrived_worn old new m idle e.refusal (at_zero (step_answer_of_refusal e.refusal) d)
 
     pub replied_by : (arrived : Arrived) (error : ℕ) → arrived ≡ arrival.Answered error → Arrives (Ok arrived) → new.slots ≡ old.slots → IsReplied old new m
     replied_by arrived error is d slots = arrived_answered old new m idle error (at_zero (said.Answered error) (subst (λ (a : Arrived). Arrives (Ok a)) is d)) slots

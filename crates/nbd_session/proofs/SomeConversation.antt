@@ -15,8 +15,8 @@ use Rattle.nbd_wire.proofs.Places.{Sees, look, below32}
 use Rattle.nbd_wire.proofs.OptionPlaces.{option_spelled_at}
 use Rattle.nbd_commands.specs.Exports.{Export}
 use Rattle.nbd_commands.specs.Terms.{Terms, terms_of}
-use Rattle.nbd_session.specs.declared.talking.End.{End}
-use Rattle.nbd_session.specs.declared.talking.End.TheVariants as ends
+use Rattle.nbd_session.specs.declared.outcomes.End.{End}
+use Rattle.nbd_session.specs.declared.outcomes.End.TheVariants as ends
 use Rattle.nbd_session.specs.Requests.{after, reply_to, FindsWorn, IsAnswered, StopsBy, Serves, opened}
 use Rattle.lone_export.specs.Alone.{Alone}
 use Rattle.nbd_session.proofs.Turns.{worn_or_not}
@@ -27,8 +27,8 @@ use Rattle.nbd_options.specs.declared.saying.HaggleEnd.{HaggleEnd}
 use Rattle.nbd_options.specs.Exports.{ExportFacts}
 use Rattle.nbd_options.specs.Replies.{next_after}
 use Rattle.nbd_options.specs.Haggled.{Asked, said_to, wants_no_zeroes, greeting_text}
-use Rattle.nbd_session.specs.declared.talking.Entry.{Entry}
-use Rattle.nbd_session.specs.declared.talking.Entry.TheVariants as entries
+use Rattle.nbd_session.specs.declared.outcomes.Entry.{Entry}
+use Rattle.nbd_session.specs.declared.outcomes.Entry.TheVariants as entries
 use Rattle.nbd_session.specs.Options.{asked_text, text_to, MayAnswer, IsAsked, OptionStops, Haggles, entry_after}
 use Rattle.nbd_session.specs.Conversation.{AreBytes, FlagsStop, Greeted, IsGiven, facts_of, ServesAt, Continues, Talked}
 use Rattle.nbd_session.proofs.ServeLemmas.{stops, goes_on}

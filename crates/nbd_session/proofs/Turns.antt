@@ -15,7 +15,7 @@ use Rattle.lone_export.specs.Alone.{Alone, Job, Moved, own_step, alone, answers_
 use Rattle.lone_export.specs.declared.step.Step.TheVariants.{Attach, Arrive, Pick, Perform, Take}
 use Rattle.lone_export.specs.declared.step.StepAnswer.{StepAnswer}
 use Rattle.lone_export.specs.declared.step.StepAnswer.TheVariants as said
-use Rattle.nbd_session.specs.declared.talking.End.{End}
+use Rattle.nbd_session.specs.declared.outcomes.End.{End}
 use Rattle.nbd_session.specs.Requests.{opened, arriving, after, after_all, reply_to, replies, steps_behind, sent, FindsWorn, AreAnswered, Serves}
 use Rattle.nbd_session.specs.Plainly.{reply_of, image_behind, image_behind_all, steps_for, steps_for_all, plain_replies, zeros, behind, IsAtRest, ArePlain, AreAnsweredInTime, ServesPlainly}
 

@@ -5,8 +5,8 @@ use Rattle.nbd_wire.specs.Grammar.{head_text, reply_head_text, option_head_text,
 use Rattle.nbd_options.specs.declared.attach.Attached.TheVariants as attached
 use Rattle.nbd_options.specs.declared.saying.HaggleEnd.TheVariants as haggle_ends
 use Rattle.nbd_options.specs.Haggled.{greeting_text}
-use Rattle.nbd_session.specs.declared.talking.End.TheVariants as ends
-use Rattle.nbd_session.specs.declared.talking.Entry.TheVariants as entries
+use Rattle.nbd_session.specs.declared.outcomes.End.TheVariants as ends
+use Rattle.nbd_session.specs.declared.outcomes.Entry.TheVariants as entries
 use Rattle.nbd_session.specs.Requests.{IsAnswered, opened, arriving, after, reply_to}
 use Rattle.nbd_session.specs.Conversation.{Talked}
 use Rattle.nbd_session.specs.Worked.{one_export, written_bytes, written_text, chosen_bytes, chosen_text, zeros_bytes, zeros_text, unknown_flag_bytes, unknown_flag_text, silent_bytes, silent_text, unnamed_bytes, unnamed_text, past_end_bytes, past_end_text, cut_head_bytes, cut_head_text, cut_payload_bytes, cut_payload_text, other_magic_bytes, other_magic_text, too_long_bytes, too_long_text}

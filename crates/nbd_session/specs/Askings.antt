@@ -10,11 +10,11 @@ use Rattle.nbd_options.specs.Asking.{Asking, AsksFor, asked_by, one_asking}
 use Rattle.nbd_options.specs.Exports.{ExportFacts}
 use Rattle.nbd_options.specs.Replies.{next_after}
 use Rattle.nbd_options.specs.Haggled.{Asked, said_to, wants_no_zeroes}
-use Rattle.nbd_session.specs.declared.talking.End.{End}
-use Rattle.nbd_session.specs.declared.talking.Entry.{Entry}
-use Rattle.nbd_session.specs.declared.talking.Entry.TheVariants as entries
-use Rattle.nbd_session.specs.declared.talking.TalkFault.{TalkFault}
-use Rattle.nbd_session.specs.declared.talking.TalkFault.TheVariants as faults
+use Rattle.nbd_session.specs.declared.outcomes.End.{End}
+use Rattle.nbd_session.specs.declared.outcomes.Entry.{Entry}
+use Rattle.nbd_session.specs.declared.outcomes.Entry.TheVariants as entries
+use Rattle.nbd_session.specs.declared.outcomes.TalkFault.{TalkFault}
+use Rattle.nbd_session.specs.declared.outcomes.TalkFault.TheVariants as faults
 use Rattle.nbd_session.specs.Options.{asked_text, IsAsked, GoesOn, StopsAt, OptionStops, entry_after}
 
 -- what is asked for at an option

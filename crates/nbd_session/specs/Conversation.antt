@@ -7,10 +7,10 @@ use Rattle.nbd_options.specs.declared.attach.Attached.{Attached}
 use Rattle.nbd_options.specs.declared.attach.Attached.TheVariants as attached
 use Rattle.nbd_options.specs.Exports.{ExportFacts}
 use Rattle.nbd_options.specs.Haggled.{greeting_text, wants_no_zeroes}
-use Rattle.nbd_session.specs.declared.talking.End.{End}
-use Rattle.nbd_session.specs.declared.talking.End.TheVariants as ends
-use Rattle.nbd_session.specs.declared.talking.Entry.{Entry}
-use Rattle.nbd_session.specs.declared.talking.Entry.TheVariants as entries
+use Rattle.nbd_session.specs.declared.outcomes.End.{End}
+use Rattle.nbd_session.specs.declared.outcomes.End.TheVariants as ends
+use Rattle.nbd_session.specs.declared.outcomes.Entry.{Entry}
+use Rattle.nbd_session.specs.declared.outcomes.Entry.TheVariants as entries
 use Rattle.nbd_session.specs.Options.{Haggles}
 use Rattle.nbd_session.specs.Requests.{Serves, opened}
 use Rattle.nbd_session.specs.Outcomes.{IsTold}

@@ -10,10 +10,10 @@ use Rattle.nbd_session.specs.declared.ending.Ending.{Ending}
 use Rattle.nbd_session.specs.declared.ending.Ending.TheVariants as ends
 use Rattle.nbd_session.specs.declared.ending.Frame.{Frame}
 use Rattle.nbd_session.specs.declared.ending.Frame.TheVariants as frames
-use Rattle.nbd_session.specs.declared.talking.End.{End}
-use Rattle.nbd_session.specs.declared.talking.End.TheVariants as said
-use Rattle.nbd_session.specs.declared.talking.TalkFault.{TalkFault}
-use Rattle.nbd_session.specs.declared.talking.TalkFault.TheVariants as talks
+use Rattle.nbd_session.specs.declared.outcomes.End.{End}
+use Rattle.nbd_session.specs.declared.outcomes.End.TheVariants as said
+use Rattle.nbd_session.specs.declared.outcomes.TalkFault.{TalkFault}
+use Rattle.nbd_session.specs.declared.outcomes.TalkFault.TheVariants as talks
 use Rattle.nbd_session.specs.Streams.{Rises}
 use Rattle.nbd_session.specs.Conversation.{AreBytes}
 

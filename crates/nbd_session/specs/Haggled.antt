@@ -6,9 +6,9 @@ use Rattle.nbd_options.specs.declared.attach.Attached.{Attached}
 use Rattle.nbd_options.specs.declared.saying.HaggleEnd.{HaggleEnd}
 use Rattle.nbd_options.specs.Exports.{ExportFacts}
 use Rattle.nbd_options.specs.Haggled.{Asked, greeting_text, haggled}
-use Rattle.nbd_session.specs.declared.talking.End.TheVariants as ends
-use Rattle.nbd_session.specs.declared.talking.Entry.{Entry}
-use Rattle.nbd_session.specs.declared.talking.Entry.TheVariants as entries
+use Rattle.nbd_session.specs.declared.outcomes.End.TheVariants as ends
+use Rattle.nbd_session.specs.declared.outcomes.Entry.{Entry}
+use Rattle.nbd_session.specs.declared.outcomes.Entry.TheVariants as entries
 use Rattle.nbd_session.specs.Options.{asked_text, IsAsked, entry_after}
 use Rattle.nbd_session.specs.Conversation.{Shaken}
 

@@ -2,11 +2,11 @@
 use Rattle.std.specs.Prelude.{◌≡◌, ◌≢◌, ℕ, ◌+◌, ◌<◌, ◌≤◌, ◌^◌, Bool, List, ◌++◌, length, Option, Result, Ok, Err}
 use Rattle.std.specs.Io.KnownBytes.{Consumes, Appends}
 use Rattle.nbd_wire.specs.Grammar.{option_text}
-use Rattle.nbd_session.specs.declared.talking.End.{End}
-use Rattle.nbd_session.specs.declared.talking.TalkFault.{TalkFault}
-use Rattle.nbd_session.specs.declared.talking.TalkFault.TheVariants as faults
-use Rattle.nbd_session.specs.declared.offers.Offer.{Offer}
-use Rattle.nbd_session.specs.declared.offers.Offer.TheVariants as offers
+use Rattle.nbd_session.specs.declared.outcomes.End.{End}
+use Rattle.nbd_session.specs.declared.outcomes.TalkFault.{TalkFault}
+use Rattle.nbd_session.specs.declared.outcomes.TalkFault.TheVariants as faults
+use Rattle.nbd_session.specs.declared.option_input.Offer.{Offer}
+use Rattle.nbd_session.specs.declared.option_input.Offer.TheVariants as offers
 use Rattle.nbd_options.specs.declared.attach.Attached.{Attached}
 use Rattle.nbd_options.specs.declared.saying.HaggleEnd.{HaggleEnd}
 use Rattle.nbd_options.specs.Exports.{ExportFacts}

@@ -13,10 +13,10 @@ use Rattle.nbd_options.specs.declared.saying.HaggleEnd.TheVariants as haggle_end
 use Rattle.nbd_options.specs.Exports.{ExportFacts}
 use Rattle.nbd_options.specs.Replies.{next_after}
 use Rattle.nbd_options.specs.Haggled.{Asked, said_to, ends_by, head_fault, told_length}
-use Rattle.nbd_session.specs.declared.talking.End.{End}
-use Rattle.nbd_session.specs.declared.talking.End.TheVariants as ends
-use Rattle.nbd_session.specs.declared.talking.Entry.{Entry}
-use Rattle.nbd_session.specs.declared.talking.Entry.TheVariants as entries
+use Rattle.nbd_session.specs.declared.outcomes.End.{End}
+use Rattle.nbd_session.specs.declared.outcomes.End.TheVariants as ends
+use Rattle.nbd_session.specs.declared.outcomes.Entry.{Entry}
+use Rattle.nbd_session.specs.declared.outcomes.Entry.TheVariants as entries
 
 abbrev pub asked_text : Asked → List ℕ
 asked_text a = option_text a.option.number a.option.content

@@ -1,10 +1,10 @@
 -- What a call that converses read, wrote and answered.
 use Rattle.std.specs.Prelude.{ℕ, List, ◌++◌, Option, Result, Ok, Err}
 use Rattle.std.specs.Io.KnownBytes.{Consumes, Appends, IsAtEnd}
-use Rattle.nbd_session.specs.declared.talking.End.{End}
-use Rattle.nbd_session.specs.declared.talking.End.TheVariants as ends
-use Rattle.nbd_session.specs.declared.talking.TalkFault.{TalkFault}
-use Rattle.nbd_session.specs.declared.talking.TalkFault.TheVariants as faults
+use Rattle.nbd_session.specs.declared.outcomes.End.{End}
+use Rattle.nbd_session.specs.declared.outcomes.End.TheVariants as ends
+use Rattle.nbd_session.specs.declared.outcomes.TalkFault.{TalkFault}
+use Rattle.nbd_session.specs.declared.outcomes.TalkFault.TheVariants as faults
 
 -- where the answer is that the input ended, the reader had told its end
 abbrev pub IsTold : Option (List ℕ) → End → Type 0

@@ -8,8 +8,8 @@ use Rattle.nbd_commands.specs.Meaning.{image_after, data_of}
 use Rattle.reply_box.specs.Sessions.{new_session}
 use Rattle.lone_export.specs.Alone.{Alone, limit_tag}
 use Rattle.lone_export.specs.Lone.{Whole}
-use Rattle.nbd_session.specs.declared.talking.End.{End}
-use Rattle.nbd_session.specs.declared.talking.End.TheVariants as ends
+use Rattle.nbd_session.specs.declared.outcomes.End.{End}
+use Rattle.nbd_session.specs.declared.outcomes.End.TheVariants as ends
 use Rattle.nbd_session.specs.Requests.{opened, after_all, replies, FindsWorn, IsAnswered, AreAnswered, StopsBy, Serves}
 
 -- ---- one request

@@ -2,8 +2,8 @@
 
 use crate::counted::Counted;
 use crate::ending::{Ending, Frame};
-use crate::fetch::advance;
 use crate::intake::Intake;
+use crate::pieces::advance;
 use nbd_wire::{FeedFault, Request};
 use std::alloc::Allocator;
 use std::io::Read;
@@ -28,7 +28,12 @@ impl<A: Allocator + Copy> Model for Frames<A> {
 
     ghost Value = { Reading };
 
-    ghost view = { λ f. record { kept = kept_of f.ready.items f.intake.held; ready = length f.ready.items; ended = f.ended } };
+    ghost view = { λ f.
+        record {
+          kept = kept_of f.ready.items f.intake.held;
+          ready = length f.ready.items;
+          ended = f.ended;
+        } };
 
     ghost invariant = { λ f. IsFraming f.ready.items f.fault f.intake };
 }
@@ -59,7 +64,8 @@ impl<A: Allocator + Copy> Frames<A> {
     /// A request that is ready is given without a read, whatever memory there is. So want of memory is told only where none
     /// is ready: for the next piece, or for a request in what was read.
     pub fn next<R: Read>(&mut self, reader: &mut Counted<R>) -> Frame<A>
-        ensures next { self.old.ended ≡ None → Nexts self.old self.new (R.remaining reader.old.inner) (R.remaining reader.new.inner)
+        ensures next { self.old.ended ≡ None
+            → Nexts self.old self.new (R.remaining reader.old.inner) (R.remaining reader.new.inner)
             reader.old.failures reader.new.failures result }
         ensures ready { self.old.ended ≡ None → 0 < self.old.ready
             → IsWhole result × (reader.new ≡ reader.old) }
@@ -113,7 +119,12 @@ impl<R: Read, A: Allocator + Copy> Model for FrameReader<R, A> {
 
     ghost Value = { Stream };
 
-    ghost view = { λ f. record { left = R.remaining f.reader.inner; failures = f.reader.failures; reading = f.frames } };
+    ghost view = { λ f.
+        record {
+          left = R.remaining f.reader.inner;
+          failures = f.reader.failures;
+          reading = f.frames;
+        } };
 }
 
 impl<R: Read, A: Allocator + Copy> FrameReader<R, A> {
@@ -142,10 +153,12 @@ impl<R: Read, A: Allocator + Copy> FrameReader<R, A> {
     /// A request that is ready is given without a read, whatever memory there is. So want of memory is told only where none
     /// is ready: for the next piece, or for a request in what was read.
     pub fn next(&mut self) -> Frame<A>
-        ensures next { self.old.reading.ended ≡ None → Nexts self.old.reading self.new.reading self.old.left self.new.left
+        ensures next { self.old.reading.ended ≡ None
+            → Nexts self.old.reading self.new.reading self.old.left self.new.left
             self.old.failures self.new.failures result }
         ensures ready { self.old.reading.ended ≡ None → 0 < self.old.reading.ready
-            → IsWhole result × (self.new.left ≡ self.old.left) × (self.new.failures ≡ self.old.failures) }
+            → IsWhole result × (self.new.left ≡ self.old.left)
+            × (self.new.failures ≡ self.old.failures) }
         ensures again { (e : Ending) → self.old.reading.ended ≡ Some e
             → (result ≡ Frame.Ended e) × (self.new ≡ self.old) }
     {

@@ -9,9 +9,9 @@ ghost use Rattle.nbd_session.specs.Askings.{Asks, AsksBehind};
 ghost use Rattle.nbd_options.specs.Asking.{AsksFor, asked_by};
 
 use crate::counted::Counted;
-use crate::fill::{Filled, fill, put};
-use crate::offers::{Offer, read_option};
-use crate::talking::{End, Entry, TalkFault};
+use crate::exact_io::{Filled, fill, put};
+use crate::option_input::{Offer, read_option};
+use crate::outcomes::{End, Entry, TalkFault};
 use nbd_options::{
     Attach, Attached, ExportTable, Haggle, HaggleEnd, HeadFault, Next, greeting, no_zeroes, said,
 };
@@ -104,7 +104,8 @@ fn answer<A: Allocator + Copy, W: Write, T: Attach>(
     writer: &mut Counted<W>,
     attach: &mut T,
 ) -> Result<Option<HaggleEnd>, TalkFault>
-    ensures answered { Answers T.may table.now bare (record { number = number; content = content.now })
+    ensures answered { Answers T.may table.now bare
+        (record { number = number; content = content.now })
         (T.askings attach.old) (T.askings attach.new)
         (W.contents writer.old.inner) (W.contents writer.new.inner) result }
     ensures failed { IsErrOf result TalkFault.WriteFailed

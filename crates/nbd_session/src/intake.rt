@@ -60,7 +60,8 @@ impl<A: Allocator + Copy> Intake<A> {
         requires room { 0 < length buffer.old }
         requires none { ready.old.items ≡ [] }
         requires well { IsBehindReady None self.old }
-        ensures fetched { Fetches (R.remaining reader.old.inner) (R.remaining reader.new.inner) reader.old.failures reader.new.failures
+        ensures fetched { Fetches (R.remaining reader.old.inner)
+            (R.remaining reader.new.inner) reader.old.failures reader.new.failures
             self.old.held ready.new.items self.new result }
         ensures more { IfOk result (λ fault. fault ≡ None → ready.new.items ≡ []
             → length self.old.held < length self.new.held) }
@@ -92,7 +93,8 @@ fn read_afresh<A: Allocator + Copy, R: Read>(
     requires none { ready.old.items ≡ [] }
     requires well { IsBehindReady None decoder.old }
     requires not_begun { begun.old ≡ None }
-    ensures fetched { Fetches (R.remaining reader.old.inner) (R.remaining reader.new.inner) reader.old.failures reader.new.failures
+    ensures fetched { Fetches (R.remaining reader.old.inner)
+        (R.remaining reader.new.inner) reader.old.failures reader.new.failures
         decoder.old.held ready.new.items (taken_in begun.new decoder.new) result }
     ensures more { IfOk result (λ fault. fault ≡ None → ready.new.items ≡ []
         → length decoder.old.held < length (taken_in begun.new decoder.new).held) }
@@ -118,7 +120,8 @@ fn read_piece<A: Allocator + Copy, R: Read>(
     requires none { ready.old.items ≡ [] }
     requires well { IsBehindReady None decoder.old }
     requires not_begun { begun.old ≡ None }
-    ensures fetched { Fetches (R.remaining reader.old.inner) (R.remaining reader.new.inner) reader.old.failures reader.new.failures
+    ensures fetched { Fetches (R.remaining reader.old.inner)
+        (R.remaining reader.new.inner) reader.old.failures reader.new.failures
         decoder.old.held ready.new.items (taken_in begun.new decoder.new) result }
     ensures more { IfOk result (λ fault. fault ≡ None → ready.new.items ≡ []
         → length decoder.old.held < length (taken_in begun.new decoder.new).held) }

@@ -4,12 +4,12 @@ ghost use Rattle.nbd_options.specs.Exports.{ExportFacts};
 ghost use Rattle.nbd_session.specs.Askings.{AskedAtTheEnd};
 ghost use Rattle.nbd_session.specs.Haggled.{HandshakeIsHaggled};
 ghost use Rattle.nbd_commands.specs.Exports.{Export};
-ghost use Rattle.nbd_session.specs.declared.talking.End.{End};
+ghost use Rattle.nbd_session.specs.declared.outcomes.End.{End};
 ghost use Rattle.nbd_session.specs.Conversation.{Talked, OneConversation, SomeConversation, BeginsAlike};
 ghost use Rattle.nbd_session.specs.Plainly.{RequestsArePlain, ServiceIsPlain};
 ghost use Rattle.nbd_session.specs.Worked.{one_export, written_bytes, written_text, chosen_bytes, chosen_text, zeros_bytes, zeros_text, unknown_flag_bytes, unknown_flag_text, silent_bytes, silent_text, unnamed_bytes, unnamed_text, past_end_bytes, past_end_text, cut_head_bytes, cut_head_text, cut_payload_bytes, cut_payload_text, other_magic_bytes, other_magic_text, too_long_bytes, too_long_text};
 
-use crate::talking::End;
+use crate::outcomes::End;
 use nbd_options::Attach;
 
 /// What is said to a client is a function of its bytes: one text and one end for each input, and some for any. And the

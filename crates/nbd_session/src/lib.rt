@@ -2,32 +2,32 @@
 //! client, and how the conversation ends.
 #![tactic(auto)]
 
-mod conversing;
 mod counted;
 mod ending;
-mod fetch;
-mod fill;
+mod exact_io;
 mod frames;
 mod haggling;
 mod intake;
 mod laws;
 mod long_write;
-mod offers;
+mod option_input;
+mod outcomes;
+mod pieces;
 mod replies;
 mod serving;
-mod talking;
+mod single_client;
 mod transmission;
 
-pub use conversing::{table_of, talk};
 pub use counted::Counted;
 pub use ending::{Ending, Frame};
-pub use fill::{WriteFailed, put};
+pub use exact_io::{WriteFailed, put};
 pub use frames::FrameReader;
 pub use haggling::haggle;
 pub use laws::{
     asked_at_the_end, handshake_is_haggled, one_conversation, requests_are_plain,
     worked_conversations,
 };
+pub use outcomes::{End, Entry, TalkFault};
 pub use replies::put_reply;
-pub use talking::{End, Entry, TalkFault};
+pub use single_client::{table_of, talk};
 pub use transmission::is_disc;

@@ -25,7 +25,8 @@ pub fn read_on<A: Allocator + Copy, R: Read>(
     requires room { 0 < length buffer.old }
     requires none { ready.old.items ≡ [] }
     requires not_begun { begun.old ≡ None }
-    ensures fetched { Fetches (R.remaining reader.old.inner) (R.remaining reader.new.inner) reader.old.failures reader.new.failures
+    ensures fetched { Fetches (R.remaining reader.old.inner)
+        (R.remaining reader.new.inner) reader.old.failures reader.new.failures
         (request_text write) ready.new.items (taken_in begun.new nothing_held) result }
     ensures more { IfOk result (λ fault. fault ≡ None → ready.new.items ≡ []
         → length (request_text write) < length (taken_in begun.new nothing_held).held) }
@@ -50,7 +51,8 @@ fn read_behind<A: Allocator + Copy, R: Read>(
     requires some { 0 < length room.old }
     requires missing { length payload.now + length room.old ≤ whole }
     ensures within { IfOk result (λ count. count ≤ length room.new) }
-    ensures came { IfOk result (λ count. Lengthens (R.remaining reader.old.inner) (R.remaining reader.new.inner)
+    ensures came { IfOk result
+        (λ count. Lengthens (R.remaining reader.old.inner) (R.remaining reader.new.inner)
         payload.now (payload.now ++ take count room.new) whole) }
     ensures kept { OnOk result (reader.new.failures ≡ reader.old.failures) }
     ensures ended { IfErr result (EndsWithin (R.remaining reader.old.inner)

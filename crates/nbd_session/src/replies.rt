@@ -5,7 +5,7 @@ ghost use Rattle.nbd_wire.specs.Grammar.{reply_text};
 ghost use Rattle.nbd_session.specs.Streams.{Rises, WritesPart};
 
 use crate::counted::Counted;
-use crate::fill::{WriteFailed, put, put_payload};
+use crate::exact_io::{WriteFailed, put, put_payload};
 use nbd_wire::{Reply, write_reply_head};
 use std::alloc::Allocator;
 use std::io::Write;

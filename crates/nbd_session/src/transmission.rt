@@ -10,10 +10,10 @@ ghost use Rattle.nbd_session.specs.Frames.{end_by};
 
 use crate::counted::Counted;
 use crate::ending::{Ending, Frame};
-use crate::fill::put;
+use crate::exact_io::put;
 use crate::frames::Frames;
+use crate::outcomes::{End, TalkFault};
 use crate::serving::{open, serve};
-use crate::talking::{End, TalkFault};
 use export_store::{Image, Paged};
 use lone_export::Lone;
 use nbd_commands::ExportConfig;
@@ -29,7 +29,8 @@ pub fn transmit<A: Allocator + Copy, R: Read, W: Write>(
     reader: &mut Counted<R>,
     writer: &mut Counted<W>,
 ) -> Result<End, TalkFault>
-    ensures conversation { Converses IsTold (Serves (terms_of export.now) (opened (terms_of export.now)))
+    ensures conversation { Converses IsTold
+        (Serves (terms_of export.now) (opened (terms_of export.now)))
         (R.remaining reader.old.inner) (R.remaining reader.new.inner)
         (W.contents writer.old.inner) (W.contents writer.new.inner) result }
     ensures read_failed { IsErrOf result TalkFault.ReadFailed

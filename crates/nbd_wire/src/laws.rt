@@ -29,12 +29,14 @@ pub fn one_option()
 
 /// Where a reply begins some bytes and the length of its content is known, they tell which, and where it ends.
 pub fn one_reply()
-    ensures { (a b : ReplyMessage) (x y : List ℕ) → IsReply a → IsReply b → length a.content ≡ length b.content
+    ensures { (a b : ReplyMessage) (x y : List ℕ) → IsReply a → IsReply b
+        → length a.content ≡ length b.content
         → reply_text a ++ x ≡ reply_text b ++ y → (a ≡ b) × (x ≡ y) }
 {}
 
 /// Where a reply to an option begins some bytes, they tell its option, its kind and its data, and where it ends.
 pub fn one_option_reply()
     ensures { (o k p l : ℕ) (c d x y : List ℕ) → IsOptionReply o k c → IsOptionReply p l d
-        → option_reply_text o k c ++ x ≡ option_reply_text p l d ++ y → (o ≡ p) × (k ≡ l) × (c ≡ d) × (x ≡ y) }
+        → option_reply_text o k c ++ x ≡ option_reply_text p l d ++ y → (o ≡ p) × (k ≡ l) × (c ≡ d)
+        × (x ≡ y) }
 {}

@@ -6,7 +6,7 @@ use Rattle.clap.specs.Kinds.{Kinds, or_else}
 use Rattle.clap.specs.Words.{App, FailsBy, HasKind, HasMatchesOf, Row, Text, fault_of, first_of, is_simple, is_simple_and_free, subcommand_of, subcommand_rows_of, ReadsOne, NarrowsTo}
 use Rattle.clap.specs.declared.error.Error.{Error}
 use Rattle.clap.specs.declared.parser.matches.ArgMatches.{ArgMatches}
-use Rattle.nbdq_cli.specs.Asked.{command_in, faults_in, number_faults, sessions_said, wants_number, IsCount}
+use Rattle.nbdq_cli.specs.Asked.{command_in, faults_in, number_faults, sessions_text, wants_number, IsCount}
 use Rattle.clap.specs.declared.builder.value_parser.ValueParser.{ValueParser}
 use Rattle.clap.specs.declared.builder.value_parser.ValueParser.TheVariants as parsers
 use Rattle.nbdq_cli.specs.Commands.{counting_program, numbers_up_to, program, program_with}
@@ -56,11 +56,11 @@ none_of_both a b one two = rw one two
 -- the faults of the words, by those of their two readings
 module _ (words : List Text) (m : ArgMatches) (is : subcommand_rows_of m ≡ command_in words) where
   abbrev pub more : Kinds
-  more = number_faults (wants_number (sessions_said (subcommand_rows_of m))) words
+  more = number_faults (wants_number (sessions_text (subcommand_rows_of m))) words
 
   both : or_else (fault_of program words) more ≡ faults_in words
   unfolding faults_in
-  both = ap (λ (said : Option (Text × List Row)). or_else (fault_of program words) (number_faults (wants_number (sessions_said said)) words)) is
+  both = ap (λ (said : Option (Text × List Row)). or_else (fault_of program words) (number_faults (wants_number (sessions_text said)) words)) is
 
   pub refused_by_number : (e : Error) → fault_of program words ≡ [] → HasKind more e → HasKind (faults_in words) e
   refused_by_number e none has = let P : Kinds → Type 0 = λ k. HasKind k e in subst P both (kind_of_second (fault_of program words) more e none has)
@@ -68,13 +68,13 @@ module _ (words : List Text) (m : ArgMatches) (is : subcommand_rows_of m ≡ com
   pub not_refused : fault_of program words ≡ [] → more ≡ [] → faults_in words ≡ []
   not_refused none no_more = sym both ∙ none_of_both (fault_of program words) more none no_more
 
-pub said_by_rows : (said : Option (Text × List Row)) → sessions_said said ≡ option_and_then (λ rows. first_of (codes "sessions") rows) (option_map (λ p. p.1) said)
+pub said_by_rows : (said : Option (Text × List Row)) → sessions_text said ≡ option_and_then (λ rows. first_of (codes "sessions") rows) (option_map (λ p. p.1) said)
 said_by_rows None = refl
 said_by_rows (Some s) = refl
 
 pub refused_by_words : (words : List Text) (e : Error) → HasKind (fault_of program words) e → HasKind (faults_in words) e
 unfolding faults_in
-refused_by_words words e has = kind_of_first (fault_of program words) (number_faults (wants_number (sessions_said (command_in words))) words) e has
+refused_by_words words e has = kind_of_first (fault_of program words) (number_faults (wants_number (sessions_text (command_in words))) words) e has
 
 -- the numbers of 64 bits, narrowed to those from 1 on
 module _ (p r : ValueParser) (low high : ℤ) (all : p ≡ parsers.Unsigned 0 18446744073709551615) (least : low ≡ pos 1) (narrows : NarrowsTo p (Some low) (Some high) r) where

@@ -59,8 +59,8 @@ unfoldable pub command_in : List Text → Option (Text × List Row)
 command_in words = subcommand_of program words
 
 -- what stands behind `--sessions`, and whether it has to be a number
-abbrev pub sessions_said : Option (Text × List Row) → Option Text
-sessions_said said = option_and_then (λ s. first_of (codes "sessions") s.1) said
+abbrev pub sessions_text : Option (Text × List Row) → Option Text
+sessions_text said = option_and_then (λ s. first_of (codes "sessions") s.1) said
 
 abbrev pub wants_number : Option Text → Bool
 wants_number None = false
@@ -74,7 +74,7 @@ number_faults true words = fault_of counting_program words
 -- The faults of words, of which the program tells one: those of the words with any text behind `--sessions`, and where there are
 -- none, those of the words with a number there, if it has to be one.
 unfoldable pub faults_in : List Text → Kinds
-faults_in words = or_else (fault_of program words) (number_faults (wants_number (sessions_said (command_in words))) words)
+faults_in words = or_else (fault_of program words) (number_faults (wants_number (sessions_text (command_in words))) words)
 
 -- the words ask for this
 abbrev pub AsksFor : List Text → Job → Type 0

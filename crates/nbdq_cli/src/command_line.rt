@@ -3,7 +3,7 @@
 ghost use Rattle.std.specs.Prelude.{◌≡◌, false, true, map, option_map, string_bytes, IfOk};
 ghost use Rattle.clap.specs.declared.builder.command.Command.TheViews.{out-Command as fields_of};
 ghost use Rattle.clap.specs.Words.{app_of, found_of, new_app, rows_of, rule_of, subcommand_name_of, subcommand_rows_of, with_subcommand, FailsBy};
-ghost use Rattle.nbdq_cli.specs.Asked.{faults_in, number_faults, sessions_said, wants_number, AsksFor, IsControl, IsJob, IsServe, IsSessions};
+ghost use Rattle.nbdq_cli.specs.Asked.{faults_in, number_faults, sessions_text, wants_number, AsksFor, IsControl, IsJob, IsServe, IsSessions};
 ghost use Rattle.nbdq_cli.specs.Commands.{control_command, number_rule, numbers_up_to, option_rule, program_with, serve_command, serving_program};
 
 use crate::crew::{Crew, Sessions};
@@ -126,7 +126,7 @@ fn check_sessions<S: AsStr>(
     matches: &ArgMatches<'_>,
     words: &[S],
 ) -> Result<(), Error>
-    ensures { FailsBy (number_faults (wants_number (sessions_said (subcommand_rows_of matches.now)))
+    ensures { FailsBy (number_faults (wants_number (sessions_text (subcommand_rows_of matches.now)))
         (map S.text words.now)) result }
 {
     if wants_number(matches) {
@@ -148,7 +148,7 @@ fn read_again<S: AsStr>(alloc: Global, words: &[S]) -> Result<(), Error>
 
 /// Whether something stands behind `--sessions` that has to be a number.
 fn wants_number(matches: &ArgMatches<'_>) -> bool
-    ensures { result ≡ wants_number (sessions_said (subcommand_rows_of matches.now)) }
+    ensures { result ≡ wants_number (sessions_text (subcommand_rows_of matches.now)) }
 {
     match matches.subcommand() {
         Some((_, given)) => is_no_word(given.get_str("sessions")),

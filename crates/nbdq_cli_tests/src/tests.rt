@@ -1,3 +1,3 @@
-mod checks;
+mod check_command;
 mod command_lines;
 mod warnings;

@@ -32,7 +32,8 @@ impl<A: Allocator + Copy> Model for Chunk<A> {
 
     ghost view = { λ chunk. record { pages = chunk.pages.items; holes = chunk.holes } };
 
-    ghost invariant = { λ chunk. (length chunk.pages.items ≡ 256) × (chunk.taken ≡ length (filter is_some chunk.pages.items)) };
+    ghost invariant = { λ chunk. (length chunk.pages.items ≡ 256)
+        × (chunk.taken ≡ length (filter is_some chunk.pages.items)) };
 }
 
 impl<A: Allocator + Copy> Chunk<A> {

@@ -111,7 +111,8 @@ fn put_in<A: Allocator + Copy>(
     requires there { IsSome (bitmap_of bitmaps.old.entries bitmap) }
     requires before { 16384 * bitmap < end }
     ensures here { (k : ℕ) → k / 16384 ≡ bitmap
-        → is_marked bitmaps.new.entries k ≡ (if is_between first end k then member else is_marked bitmaps.old.entries k) }
+        → is_marked bitmaps.new.entries k
+        ≡ (if is_between first end k then member else is_marked bitmaps.old.entries k) }
     ensures there { IsSome (bitmap_of bitmaps.new.entries bitmap) }
     ensures others { (q : ℕ) → q ≢ bitmap
         → bitmap_of bitmaps.new.entries q ≡ bitmap_of bitmaps.old.entries q }
@@ -197,7 +198,8 @@ impl<A: Allocator + Copy> HeldZeros<A> {
         requires there { IsSome (bitmap_of self.old bitmap) }
         requires before { 16384 * bitmap < end }
         ensures here { (k : ℕ) → k / 16384 ≡ bitmap
-            → is_marked self.new k ≡ (if is_between first end k then false else is_marked self.old k) }
+            → is_marked self.new k
+            ≡ (if is_between first end k then false else is_marked self.old k) }
         ensures others { (q : ℕ) → q ≢ bitmap → bitmap_of self.new q ≡ bitmap_of self.old q }
     {
         let begin = bitmap * BITMAP;

@@ -28,7 +28,8 @@ impl<A: Allocator + Copy> Model for Holes<A> {
 
     ghost view = { λ holes. holes.words.items };
 
-    ghost invariant = { λ holes. ((length holes.words.items ≡ 0) ⊎ (length holes.words.items ≡ 16384)) × (16384 ≤ vec_capacity holes.words) };
+    ghost invariant = { λ holes. ((length holes.words.items ≡ 0)
+        ⊎ (length holes.words.items ≡ 16384)) × (16384 ≤ vec_capacity holes.words) };
 }
 
 impl<A: Allocator + Copy> Holes<A> {

@@ -41,7 +41,8 @@ fn remove_places<A: Allocator + Copy>(
     requires there { IsSome (chunk_of chunks.old.entries number) }
     requires end { end ≤ 256 }
     ensures here { (k : ℕ) → in_chunk (chunk_of chunks.new.entries number) k
-        ≡ (if is_between first end k then None else in_chunk (chunk_of chunks.old.entries number) k) }
+        ≡ (if is_between first end k then None else in_chunk
+        (chunk_of chunks.old.entries number) k) }
     ensures left { IfSome (chunk_of chunks.new.entries number) (λ chunk. result ≡ taken chunk) }
     ensures others { (q : ℕ) → q ≢ number
         → chunk_of chunks.new.entries q ≡ chunk_of chunks.old.entries q }

@@ -38,9 +38,11 @@ impl<A: Allocator + Copy> Model for Growing<A> {
 
     ghost Value = { List ℕ };
 
-    ghost view = { λ growing. drop growing.start (concat growing.pages.items ++ growing.last.items) };
+    ghost view = { λ growing.
+        drop growing.start (concat growing.pages.items ++ growing.last.items) };
 
-    ghost invariant = { λ growing. IsGrown growing.pages.items growing.last.items growing.room growing.start growing.end };
+    ghost invariant = { λ growing.
+        IsGrown growing.pages.items growing.last.items growing.room growing.start growing.end };
 }
 
 // How many bytes become pages together, once so many pages came: those of 16 pages where these are a whole group of the image's,
@@ -91,7 +93,8 @@ fn closed<A: Allocator + Copy>(
 ) -> Result<Vec<Page<A>, A>, NoMemory>
     requires whole { AreWhole pages.items }
     ensures whole { IfOk result (λ all. AreWhole all.items) }
-    ensures bytes { IfOk result (λ all. take (length (concat pages.items ++ last.items)) (concat all.items)
+    ensures bytes { IfOk result
+        (λ all. take (length (concat pages.items ++ last.items)) (concat all.items)
         ≡ concat pages.items ++ last.items) }
 {
     let behind = last.len() % PAGE;

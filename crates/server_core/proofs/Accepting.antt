@@ -11,7 +11,7 @@ use Rattle.tag_clock.specs.declared.Tags.{Tags}
 use Rattle.tag_clock.specs.Clocks.{lowered}
 use Rattle.tag_clock.specs.declared.Phase.TheVariants.{Weight}
 use Rattle.eligibility.specs.Choice.{IsSlotInRange}
-use Rattle.lone_export.specs.Lone.{refusal_said, arrived_said}
+use Rattle.lone_export.specs.Lone.{step_answer_of_refusal, step_answer_of_arrive}
 use Rattle.lone_export.specs.declared.refusal.Arrived.{Arrived}
 use Rattle.lone_export.specs.declared.refusal.Arrived.TheVariants as arrival
 use Rattle.lone_export.specs.declared.refusal.NotArrived.{NotArrived as NotArrivedAlone}
@@ -35,7 +35,7 @@ use Rattle.server_core.specs.declared.refusal.NotArrived.{NotArrived}
 use Rattle.server_core.specs.Kept.{AreShort, IsPart, IsServer, Within, TagsInRange, total}
 use Rattle.server_core.specs.Members.{Standing, shifted_standing, accepted_standing, logged_as, AdmitsAt, IsLetIn, Arrives, Went}
 use Rattle.export_cell.specs.Journal.{Journal}
-use Rattle.server_core.specs.Served.{Served, parts, journals_of, served_of, AllMembers, IsServed, Stepped, arrive_says}
+use Rattle.server_core.specs.Served.{Served, parts, journals_of, served_of, AllMembers, IsServed, Stepped, answer_of_arrive}
 use Rattle.server_core.specs.Way.{lowered_to, way_of, IsFallInRange}
 use Rattle.server_core.proofs.Entries.{part_at}
 use Rattle.server_core.proofs.Picked.{total_small}
@@ -54,23 +54,23 @@ never_part m s q never a = never (record { is_open = a.is_open; young = a.young;
 
 -- ---- one that is refused
 module _ (A : Type 0) where
-  pub refused_went : (m m' : Standing) (s t : ℕ) (q : RequestMessage) (r : Result Arrived (NotArrivedAlone A)) → (AdmitsAt m s q → ⊥) → Arrives {A = A} m m' s t q r → Went {A = A} m m' (own.Arrive s t q) (arrived_said r)
+  pub refused_went : (m m' : Standing) (s t : ℕ) (q : RequestMessage) (r : Result Arrived (NotArrivedAlone A)) → (AdmitsAt m s q → ⊥) → Arrives {A = A} m m' s t q r → Went {A = A} m m' (own.Arrive s t q) (step_answer_of_arrive r)
   refused_went m m' s t q (Ok (arrival.Accepted n tag)) never arrives = absurd (never arrives.0)
   refused_went m m' s t q (Ok (arrival.Answered error)) never arrives = arrives.1
   refused_went m m' s t q (Err e) never arrives = arrives.1
 
-  refused_step : (ms : List Standing) (now inflight e s t : ℕ) (q : RequestMessage) (m m' : Standing) (x : ArriveRefusalAlone) → e < length ms → m ≡ get_or ms e m → (AdmitsAt m s q → ⊥) → Went {A = A} m m' (own.Arrive s t q) (refusal_said x) → Stepped {A = A} (served_of ms now inflight) (Arrive e s t q) (served_of (set ms e m') now inflight) (arrive_says {A = A} (Err (record { refusal = refusal_here x; request = q })))
+  refused_step : (ms : List Standing) (now inflight e s t : ℕ) (q : RequestMessage) (m m' : Standing) (x : ArriveRefusalAlone) → e < length ms → m ≡ get_or ms e m → (AdmitsAt m s q → ⊥) → Went {A = A} m m' (own.Arrive s t q) (step_answer_of_refusal x) → Stepped {A = A} (served_of ms now inflight) (Arrive e s t q) (served_of (set ms e m') now inflight) (answer_of_arrive {A = A} (Err (record { refusal = refusal_here x; request = q })))
   refused_step ms now inflight e s t q m m' arriving.NotOpen lt at never went = stepped_own ms now inflight e m m' (Arrive e s t q) (own.Arrive s t q) alone.NotOpen at went (step_refuses (parts ms) now inflight e s t q m.part Weight (within_parts ms e lt) (part_there ms e m lt at) (never_part m s q never))
   refused_step ms now inflight e s t q m m' arriving.Worn lt at never went = stepped_own ms now inflight e m m' (Arrive e s t q) (own.Arrive s t q) alone.Worn at went (step_refuses (parts ms) now inflight e s t q m.part Weight (within_parts ms e lt) (part_there ms e m lt at) (never_part m s q never))
   refused_step ms now inflight e s t q m m' arriving.Hold lt at never went = stepped_own ms now inflight e m m' (Arrive e s t q) (own.Arrive s t q) alone.Hold at went (step_refuses (parts ms) now inflight e s t q m.part Weight (within_parts ms e lt) (part_there ms e m lt at) (never_part m s q never))
 
-  pub stepped_refused : (ms : List Standing) (now inflight e s t : ℕ) (q : RequestMessage) (m m' : Standing) (r : Result Arrived (NotArrivedAlone A)) → e < length ms → m ≡ get_or ms e m → (AdmitsAt m s q → ⊥) → Arrives {A = A} m m' s t q r → Stepped {A = A} (served_of ms now inflight) (Arrive e s t q) (served_of (set ms e m') now inflight) (arrive_says {A = A} (arrived r))
+  pub stepped_refused : (ms : List Standing) (now inflight e s t : ℕ) (q : RequestMessage) (m m' : Standing) (r : Result Arrived (NotArrivedAlone A)) → e < length ms → m ≡ get_or ms e m → (AdmitsAt m s q → ⊥) → Arrives {A = A} m m' s t q r → Stepped {A = A} (served_of ms now inflight) (Arrive e s t q) (served_of (set ms e m') now inflight) (answer_of_arrive {A = A} (arrived r))
   stepped_refused ms now inflight e s t q m m' (Ok (arrival.Accepted n tag)) lt at never arrives = absurd (never arrives.0)
   stepped_refused ms now inflight e s t q m m' (Ok (arrival.Answered error)) lt at never arrives = stepped_own ms now inflight e m m' (Arrive e s t q) (own.Arrive s t q) (alone.Answered error) at arrives.1 (step_refuses (parts ms) now inflight e s t q m.part Weight (within_parts ms e lt) (part_there ms e m lt at) (never_part m s q never))
   stepped_refused ms now inflight e s t q m m' (Err x) lt at never arrives = refused_step ms now inflight e s t q m m' x.refusal lt at never arrives.1
 
   pub kept_refused : (ms : List Standing) (slots : List (Option Tags)) (asked now inflight served e s t : ℕ) (q : RequestMessage) (m m' : Standing) (r : Result Arrived (NotArrivedAlone A)) → IsServed ms slots asked now inflight served → e < length ms → m ≡ get_or ms e m → (AdmitsAt m s q → ⊥) → Arrives {A = A} m m' s t q r → IsServed (set ms e m') slots asked now inflight served
-  kept_refused ms slots asked now inflight served e s t q m m' r kept lt at never arrives = kept_own {A = A} ms slots asked now inflight served e m m' (own.Arrive s t q) (arrived_said r) kept lt at (refused_went m m' s t q r never arrives)
+  kept_refused ms slots asked now inflight served e s t q m m' r kept lt at never arrives = kept_own {A = A} ms slots asked now inflight served e m m' (own.Arrive s t q) (step_answer_of_arrive r) kept lt at (refused_went m m' s t q r never arrives)
 
   pub seats_refused : (ms : List Standing) (e s t : ℕ) (q : RequestMessage) (m m' : Standing) (r : Result Arrived (NotArrivedAlone A)) → m ≡ get_or ms e m → (AdmitsAt m s q → ⊥) → Arrives {A = A} m m' s t q r → all_seats (set ms e m') ≡ all_seats ms
   seats_refused ms e s t q m m' r at never arrives = same_seats ms e m m' at (ap (λ (x : Standing). x.seats) (refused_went m m' s t q r never arrives).standing)
@@ -199,12 +199,12 @@ module _ (A : Type 0) where
   accepted_at m m' s t q (Ok (arrival.Answered error)) a arrives = absurd (arrives.0 a)
   accepted_at m m' s t q (Err e) a arrives = absurd (arrives.0 a)
 
-  accepted_told : (m m' : Standing) (s t : ℕ) (q : RequestMessage) (r : Result Arrived (NotArrivedAlone A)) → AdmitsAt m s q → Arrives {A = A} m m' s t q r → Accepted m.part.next (part_tags m.part t).l ≡ arrive_says {A = A} (arrived r)
+  accepted_told : (m m' : Standing) (s t : ℕ) (q : RequestMessage) (r : Result Arrived (NotArrivedAlone A)) → AdmitsAt m s q → Arrives {A = A} m m' s t q r → Accepted m.part.next (part_tags m.part t).l ≡ answer_of_arrive {A = A} (arrived r)
   accepted_told m m' s t q (Ok (arrival.Accepted n tag)) a arrives = ap (λ k. Accepted k (part_tags m.part t).l) (sym arrives.2) ∙ ap (λ l. Accepted n l) (sym arrives.3)
   accepted_told m m' s t q (Ok (arrival.Answered error)) a arrives = absurd (arrives.0 a)
   accepted_told m m' s t q (Err e) a arrives = absurd (arrives.0 a)
 
-  pub stepped_accepted : (ms : List Standing) (slots : List (Option Tags)) (asked now inflight served e s t : ℕ) (q : RequestMessage) (m m' : Standing) (r : Result Arrived (NotArrivedAlone A)) → IsServed ms slots asked now inflight served → e < length ms → m ≡ get_or ms e m → AdmitsAt m s q → Arrives {A = A} m m' s t q r → Stepped {A = A} (served_of ms now inflight) (Arrive e s t q) (served_of (set (way_of (length m.part.waiting) (pos t) ms) e m') now inflight) (arrive_says {A = A} (arrived r))
+  pub stepped_accepted : (ms : List Standing) (slots : List (Option Tags)) (asked now inflight served e s t : ℕ) (q : RequestMessage) (m m' : Standing) (r : Result Arrived (NotArrivedAlone A)) → IsServed ms slots asked now inflight served → e < length ms → m ≡ get_or ms e m → AdmitsAt m s q → Arrives {A = A} m m' s t q r → Stepped {A = A} (served_of ms now inflight) (Arrive e s t q) (served_of (set (way_of (length m.part.waiting) (pos t) ms) e m') now inflight) (answer_of_arrive {A = A} (arrived r))
   stepped_accepted ms slots asked now inflight served e s t q m m' r kept lt at a arrives =
       let order = in_order (total (parts ms)) (parts ms) kept.server.each in
       let way = way_of (length m.part.waiting) (pos t) ms in

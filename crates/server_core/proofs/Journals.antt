@@ -12,7 +12,7 @@ use Rattle.tag_clock.specs.declared.Phase.TheVariants.{Weight}
 use Rattle.reply_box.specs.declared.fault.NotOpen.{NotOpen}
 use Rattle.reply_box.specs.declared.seat.Taken.{Taken}
 use Rattle.lone_export.specs.Alone.{Job}
-use Rattle.lone_export.specs.Lone.{attach_said, leave_said, gone_said, take_said, arrived_said, refusal_said}
+use Rattle.lone_export.specs.Lone.{step_answer_of_attach, step_answer_of_leave, step_answer_of_gone, step_answer_of_take, step_answer_of_arrive, step_answer_of_refusal}
 use Rattle.lone_export.specs.declared.refusal.NotAttached.{NotAttached}
 use Rattle.lone_export.specs.declared.refusal.NotAttached.TheVariants.{Refused, NoMemory}
 use Rattle.lone_export.specs.declared.refusal.AttachRefusal.TheVariants as attaching
@@ -36,7 +36,7 @@ use Rattle.server_table.proofs.Arrive.{waiting_rows}
 use Rattle.server_table.proofs.Rows.{side_at, filter_only, filter_entries, filter_all, filter_no}
 use Rattle.server_core.specs.Here.{here, attached, arrived}
 use Rattle.server_core.specs.Members.{Standing, IsReservedAt}
-use Rattle.server_core.specs.Served.{Served, parts, journals_of, served_of, attach_says, leave_says, gone_says, take_says, arrive_says}
+use Rattle.server_core.specs.Served.{Served, parts, journals_of, served_of, answer_of_attach, answer_of_leave, answer_of_gone, answer_of_take, answer_of_arrive}
 use Rattle.server_core.specs.Journals.{CellMoves, IsCellOf}
 use Rattle.server_core.proofs.Served.{within_parts, part_there, leave_told, gone_told, take_told}
 use Rattle.server_core.proofs.Tagged.{exports_there}
@@ -129,40 +129,40 @@ module _ {A : Type 0} where
       (moves ms now inflight e m m'.journal step (served_of (set ms e m') now' inflight) (as_answer e phase a) lt at (journals_set ms e m')
       (subst (λ (o : Option (StepAnswer A)). JournalMove m.part.terms step o m.journal m'.journal) (sym (alone_again e phase a)) move))
 
-  pub moves_leave : (ms : List Standing) (now inflight e s : ℕ) (m m' : Standing) (r : Result (Unit {0}) NotOpen) → e < length ms → m ≡ get_or ms e m → JournalMove {A = A} m.part.terms (own.Leave s) (Some (leave_said r)) m.journal m'.journal → CellMoves {A = A} (served_of ms now inflight) e (own.Leave s) (served_of (set ms e m') now inflight) (leave_says (here r))
-  moves_leave ms now inflight e s m m' r lt at move = moves_own ms now now inflight e Weight m m' (own.Leave s) (leave_said r) (leave_says (here r)) (leave_told e r) lt at move
+  pub moves_leave : (ms : List Standing) (now inflight e s : ℕ) (m m' : Standing) (r : Result (Unit {0}) NotOpen) → e < length ms → m ≡ get_or ms e m → JournalMove {A = A} m.part.terms (own.Leave s) (Some (step_answer_of_leave r)) m.journal m'.journal → CellMoves {A = A} (served_of ms now inflight) e (own.Leave s) (served_of (set ms e m') now inflight) (answer_of_leave (here r))
+  moves_leave ms now inflight e s m m' r lt at move = moves_own ms now now inflight e Weight m m' (own.Leave s) (step_answer_of_leave r) (answer_of_leave (here r)) (leave_told e r) lt at move
 
-  pub moves_gone : (ms : List Standing) (now inflight e s : ℕ) (m m' : Standing) (r : Result (Unit {0}) NotOpen) → e < length ms → m ≡ get_or ms e m → JournalMove {A = A} m.part.terms (own.Gone s) (Some (gone_said r)) m.journal m'.journal → CellMoves {A = A} (served_of ms now inflight) e (own.Gone s) (served_of (set ms e m') now inflight) (gone_says (here r))
-  moves_gone ms now inflight e s m m' r lt at move = moves_own ms now now inflight e Weight m m' (own.Gone s) (gone_said r) (gone_says (here r)) (gone_told e r) lt at move
+  pub moves_gone : (ms : List Standing) (now inflight e s : ℕ) (m m' : Standing) (r : Result (Unit {0}) NotOpen) → e < length ms → m ≡ get_or ms e m → JournalMove {A = A} m.part.terms (own.Gone s) (Some (step_answer_of_gone r)) m.journal m'.journal → CellMoves {A = A} (served_of ms now inflight) e (own.Gone s) (served_of (set ms e m') now inflight) (answer_of_gone (here r))
+  moves_gone ms now inflight e s m m' r lt at move = moves_own ms now now inflight e Weight m m' (own.Gone s) (step_answer_of_gone r) (answer_of_gone (here r)) (gone_told e r) lt at move
 
-  pub moves_take : (ms : List Standing) (now inflight e s : ℕ) (m m' : Standing) (r : Result (Taken A) NotOpen) → e < length ms → m ≡ get_or ms e m → JournalMove {A = A} m.part.terms (own.Take s) (Some (take_said r)) m.journal m'.journal → CellMoves {A = A} (served_of ms now inflight) e (own.Take s) (served_of (set ms e m') now inflight) (take_says (here r))
-  moves_take ms now inflight e s m m' r lt at move = moves_own ms now now inflight e Weight m m' (own.Take s) (take_said r) (take_says (here r)) (take_told e r) lt at move
+  pub moves_take : (ms : List Standing) (now inflight e s : ℕ) (m m' : Standing) (r : Result (Taken A) NotOpen) → e < length ms → m ≡ get_or ms e m → JournalMove {A = A} m.part.terms (own.Take s) (Some (step_answer_of_take r)) m.journal m'.journal → CellMoves {A = A} (served_of ms now inflight) e (own.Take s) (served_of (set ms e m') now inflight) (answer_of_take (here r))
+  moves_take ms now inflight e s m m' r lt at move = moves_own ms now now inflight e Weight m m' (own.Take s) (step_answer_of_take r) (answer_of_take (here r)) (take_told e r) lt at move
 
   -- ---- an attach
-  attach_alone : (e : ℕ) (r : Result ℕ NotAttached) → as_alone (attach_says {A = A} (attached e r)) ≡ attach_said r
+  attach_alone : (e : ℕ) (r : Result ℕ NotAttached) → as_alone (answer_of_attach {A = A} (attached e r)) ≡ step_answer_of_attach r
   attach_alone e (Ok n) = refl
   attach_alone e (Err (Refused attaching.Worn)) = refl
   attach_alone e (Err (Refused attaching.Full)) = refl
   attach_alone e (Err NoMemory) = refl
 
-  pub moves_attach : (ms : List Standing) (now inflight e : ℕ) (m m' : Standing) (r : Result ℕ NotAttached) → e < length ms → m ≡ get_or ms e m → JournalMove {A = A} m.part.terms own.Attach (attach_said r) m.journal m'.journal → CellMoves {A = A} (served_of ms now inflight) e own.Attach (served_of (set ms e m') now inflight) (attach_says (attached e r))
+  pub moves_attach : (ms : List Standing) (now inflight e : ℕ) (m m' : Standing) (r : Result ℕ NotAttached) → e < length ms → m ≡ get_or ms e m → JournalMove {A = A} m.part.terms own.Attach (step_answer_of_attach r) m.journal m'.journal → CellMoves {A = A} (served_of ms now inflight) e own.Attach (served_of (set ms e m') now inflight) (answer_of_attach (attached e r))
   moves_attach ms now inflight e m m' r lt at move =
-      moves ms now inflight e m m'.journal own.Attach (served_of (set ms e m') now inflight) (attach_says (attached e r)) lt at (journals_set ms e m')
+      moves ms now inflight e m m'.journal own.Attach (served_of (set ms e m') now inflight) (answer_of_attach (attached e r)) lt at (journals_set ms e m')
       (subst (λ (o : Option (StepAnswer A)). JournalMove m.part.terms own.Attach o m.journal m'.journal) (sym (attach_alone e r)) move)
 
 -- ---- an arrival: the journal moved once when its room was made, and once when it came
-told_moves : (A : Type 0) (terms : Terms) (old new : Journal) (s t : ℕ) (q : RequestMessage) (x : ArriveRefusalAlone) → new ≡ noted_as {A = A} (refusal_said x) (own.Arrive s t q) old → JournalMove {A = A} terms (own.Arrive s t q) (as_alone (arrive_says (arrived (Err (record { refusal = x; request = q }))))) old new
+told_moves : (A : Type 0) (terms : Terms) (old new : Journal) (s t : ℕ) (q : RequestMessage) (x : ArriveRefusalAlone) → new ≡ noted_as {A = A} (step_answer_of_refusal x) (own.Arrive s t q) old → JournalMove {A = A} terms (own.Arrive s t q) (as_alone (answer_of_arrive (arrived (Err (record { refusal = x; request = q }))))) old new
 told_moves A terms old new s t q arriving.NotOpen is = is
 told_moves A terms old new s t q arriving.Worn is = is
 told_moves A terms old new s t q arriving.Hold is = is
 
 module _ {A : Type 0} where
   pub arrival_moves : (terms : Terms) (old mid new : Journal) (standing : Standing) (kept : Option RequestMessage) (s t : ℕ) (q : RequestMessage) (r : Result Arrived (NotArrivedAlone A)) → is_ok r ≡ is_some kept → IsReservedAt standing s q kept → mid ≡ reserved terms kept old
-      → new ≡ noted_as {A = A} (arrived_said r) (own.Arrive s t q) mid → JournalMove {A = A} terms (own.Arrive s t q) (as_alone (arrive_says (arrived r))) old new
+      → new ≡ noted_as {A = A} (step_answer_of_arrive r) (own.Arrive s t q) mid → JournalMove {A = A} terms (own.Arrive s t q) (as_alone (answer_of_arrive (arrived r))) old new
   arrival_moves terms old mid new standing None s t q (Ok a) same room room_is is = absurd (cc)
   arrival_moves terms old mid new standing (Some kept) s t q (Err x) same room room_is is = absurd (cc)
   arrival_moves terms old mid new standing None s t q (Err x) same room room_is is =
-      told_moves A terms old new s t q x.refusal (is ∙ ap (noted_as {A = A} (refusal_said x.refusal) (own.Arrive s t q)) room_is)
+      told_moves A terms old new s t q x.refusal (is ∙ ap (noted_as {A = A} (step_answer_of_refusal x.refusal) (own.Arrive s t q)) room_is)
   arrival_moves terms old mid new standing (Some kept) s t q (Ok (arrival.Accepted n tag)) same room room_is is =
       is ∙ ap (noted (own.Arrive s t q)) (room_is ∙ ap (λ (k : RequestMessage). reserved terms (Some k) old) room.1)
   arrival_moves terms old mid new standing (Some kept) s t q (Ok (arrival.Answered error)) same room room_is is =

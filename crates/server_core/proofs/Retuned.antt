@@ -5,7 +5,7 @@ use Rattle.tag_clock.specs.declared.Tags.{Tags}
 use Rattle.tag_clock.specs.Intervals.{Intervals, IsInterval}
 use Rattle.tag_clock.specs.Clocks.{Share, share_retuned, last_r_for}
 use Rattle.lone_export.specs.Alone.{Alone, Moved, stays, moves}
-use Rattle.lone_export.specs.Lone.{Whole, Does, DoesOr, MayRetune, retune_said}
+use Rattle.lone_export.specs.Lone.{Whole, Does, DoesOr, MayRetune, step_answer_of_retune}
 use Rattle.lone_export.specs.declared.refusal.RetuneRefusal.{RetuneRefusal}
 use Rattle.lone_export.specs.declared.refusal.RetuneRefusal.TheVariants as tuned
 use Rattle.lone_export.specs.declared.step.Step.{Step}
@@ -13,7 +13,7 @@ use Rattle.lone_export.specs.declared.step.Step.TheVariants as own
 use Rattle.lone_export.specs.declared.step.StepAnswer.{StepAnswer}
 use Rattle.lone_export.specs.declared.step.StepAnswer.TheVariants as alone
 use Rattle.lone_export.proofs.Asked.{if_yes, if_no}
-use Rattle.export_cell.specs.Journal.{Journal, JournalMove, retuned_said}
+use Rattle.export_cell.specs.Journal.{Journal, JournalMove, step_answer_of_retuned}
 use Rattle.export_cell.specs.declared.refusal.NotRetuned.{NotRetuned}
 use Rattle.export_cell.specs.declared.refusal.NotRetuned.TheVariants as retuning
 use Rattle.server_table.specs.declared.event.Event.TheVariants.{Retune}
@@ -28,7 +28,7 @@ use Rattle.server_table.proofs.Retunes.{step_retune, no_retune, no_room_to_retun
 use Rattle.server_core.specs.Here.{retuned}
 use Rattle.server_core.specs.Kept.{AllEntries, BelowLast, IsOptionShort, IsOptionWithin, LastKind, AreShort, IsPart, IsServer, total}
 use Rattle.server_core.specs.Members.{Kept, Standing, part_of, standing_of, IsMember, with_log, logged_as, retuned_standing, Retunes}
-use Rattle.server_core.specs.Served.{parts, served_of, IsServed, Stepped, retune_says}
+use Rattle.server_core.specs.Served.{parts, served_of, IsServed, Stepped, answer_of_retune}
 use Rattle.server_core.specs.Journals.{CellMoves}
 use Rattle.server_core.proofs.Entries.{part_at}
 use Rattle.server_core.proofs.Picking.{entries_length}
@@ -84,20 +84,20 @@ module _ {A : Type 0} where
 -- ---- a retune is refused
 module _ (A : Type 0) where
   -- the export and its log
-  refused_whole : (old new : Whole) (rates : Intervals) (e : NotRetuned) → DoesOr {A = A} old new (own.Retune rates) (retuned_said (Err e)) → new.slots ≡ old.slots → new ≡ old
+  refused_whole : (old new : Whole) (rates : Intervals) (e : NotRetuned) → DoesOr {A = A} old new (own.Retune rates) (step_answer_of_retuned (Err e)) → new.slots ≡ old.slots → new ≡ old
   refused_whole old new rates (retuning.Refused tuned.Worn) does slots = whole_is {A = A} old new (own.Retune rates) alone.Worn old.state does slots (told_worn {A = A} old new rates does).1
   refused_whole old new rates (retuning.Refused tuned.Waiting) does slots = whole_is {A = A} old new (own.Retune rates) alone.Waiting old.state does slots (told_waiting {A = A} old new rates does).2
   refused_whole old new rates retuning.NoMemory same slots = same
 
-  pub refused_kept : (m : Kept) (new : Whole) (j : Journal) (r : ℕ) (rates : Intervals) (e : NotRetuned) → IsMember m → DoesOr {A = A} m.whole new (own.Retune rates) (retuned_said (Err e)) → new.slots ≡ m.whole.slots → IsMember (record m { whole = new; journal = j; room = r })
+  pub refused_kept : (m : Kept) (new : Whole) (j : Journal) (r : ℕ) (rates : Intervals) (e : NotRetuned) → IsMember m → DoesOr {A = A} m.whole new (own.Retune rates) (step_answer_of_retuned (Err e)) → new.slots ≡ m.whole.slots → IsMember (record m { whole = new; journal = j; room = r })
   refused_kept m new j r rates e h does slots =
       subst (λ (w : Whole). IsMember (record m { whole = w; journal = j; room = r })) (sym (refused_whole m.whole new rates e does slots)) (relogged m j r h)
 
   -- its rates stay short
-  pub refused_short : (old new : Whole) (rates : Intervals) (e : NotRetuned) → DoesOr {A = A} old new (own.Retune rates) (retuned_said (Err e)) → new.slots ≡ old.slots → AreShort old.state.rates → AreShort new.state.rates
+  pub refused_short : (old new : Whole) (rates : Intervals) (e : NotRetuned) → DoesOr {A = A} old new (own.Retune rates) (step_answer_of_retuned (Err e)) → new.slots ≡ old.slots → AreShort old.state.rates → AreShort new.state.rates
   refused_short old new rates e does slots short = subst (λ (w : Whole). AreShort w.state.rates) (sym (refused_whole old new rates e does slots)) short
 
-  pub refused_retunes : (m : Kept) (new : Whole) (j : Journal) (r : ℕ) (rates : Intervals) (e : NotRetuned) → IsMember m → DoesOr {A = A} m.whole new (own.Retune rates) (retuned_said (Err e)) → (IsErrOf {T = Unit {0}} (Err e) retuning.NoMemory → MayRetune m.whole (Ok tt)) → new.slots ≡ m.whole.slots
+  pub refused_retunes : (m : Kept) (new : Whole) (j : Journal) (r : ℕ) (rates : Intervals) (e : NotRetuned) → IsMember m → DoesOr {A = A} m.whole new (own.Retune rates) (step_answer_of_retuned (Err e)) → (IsErrOf {T = Unit {0}} (Err e) retuning.NoMemory → MayRetune m.whole (Ok tt)) → new.slots ≡ m.whole.slots
       → Retunes (standing_of m) (standing_of (record m { whole = new; journal = j; room = r })) rates (Err e)
   refused_retunes m new j r rates (retuning.Refused tuned.Worn) h does may slots =
       ((told_worn {A = A} m.whole new rates does).0, ap (λ (w : Whole). standing_of (record m { whole = w; journal = j; room = r })) (refused_whole m.whole new rates (retuning.Refused tuned.Worn) does slots))
@@ -228,7 +228,7 @@ module _ {A : Type 0} where
         setup = ap (λ (l : List Part). setup_of l inflight) back;
       }
 
-  pub stepped_retune : (ms : List Standing) (now inflight e : ℕ) (rates : Intervals) (m m' : Standing) (r : Result (Unit {0}) NotRetuned) → e < length ms → m ≡ get_or ms e m → Retunes m m' rates r → Stepped (served_of ms now inflight) (Retune e rates) (served_of (set ms e m') now inflight) (retune_says {A = A} (retuned r))
+  pub stepped_retune : (ms : List Standing) (now inflight e : ℕ) (rates : Intervals) (m m' : Standing) (r : Result (Unit {0}) NotRetuned) → e < length ms → m ≡ get_or ms e m → Retunes m m' rates r → Stepped (served_of ms now inflight) (Retune e rates) (served_of (set ms e m') now inflight) (answer_of_retune {A = A} (retuned r))
   stepped_retune ms now inflight e rates m m' (Ok done) lt at made =
       let q : m'.part ≡ part_retuned rates m.part = ap (λ (x : Standing). x.part) made.2 in
       record {
@@ -253,13 +253,13 @@ module _ {A : Type 0} where
   pub absent_retune : (ms : List Standing) (now inflight e : ℕ) (rates : Intervals) → length ms ≤ e → Stepped {A = A} (served_of ms now inflight) (Retune e rates) (served_of ms now inflight) answer.NoExport
   absent_retune ms now inflight e rates le = record { stepped = no_retune (parts ms) now inflight e rates true (beyond ms e le); setup = refl }
 
-  retune_alone : (r : Result (Unit {0}) NotRetuned) → as_alone (retune_says {A = A} (retuned r)) ≡ retuned_said r
+  retune_alone : (r : Result (Unit {0}) NotRetuned) → as_alone (answer_of_retune {A = A} (retuned r)) ≡ step_answer_of_retuned r
   retune_alone (Ok done) = refl
   retune_alone (Err (retuning.Refused tuned.Worn)) = refl
   retune_alone (Err (retuning.Refused tuned.Waiting)) = refl
   retune_alone (Err retuning.NoMemory) = refl
 
-  pub moves_retune : (ms : List Standing) (now inflight e : ℕ) (rates : Intervals) (m m' : Standing) (r : Result (Unit {0}) NotRetuned) → e < length ms → m ≡ get_or ms e m → JournalMove {A = A} m.part.terms (own.Retune rates) (retuned_said r) m.journal m'.journal → CellMoves {A = A} (served_of ms now inflight) e (own.Retune rates) (served_of (set ms e m') now inflight) (retune_says (retuned r))
+  pub moves_retune : (ms : List Standing) (now inflight e : ℕ) (rates : Intervals) (m m' : Standing) (r : Result (Unit {0}) NotRetuned) → e < length ms → m ≡ get_or ms e m → JournalMove {A = A} m.part.terms (own.Retune rates) (step_answer_of_retuned r) m.journal m'.journal → CellMoves {A = A} (served_of ms now inflight) e (own.Retune rates) (served_of (set ms e m') now inflight) (answer_of_retune (retuned r))
   moves_retune ms now inflight e rates m m' r lt at move =
-      journal_moves ms now inflight e m m'.journal (own.Retune rates) (served_of (set ms e m') now inflight) (retune_says (retuned r)) lt at (journals_set ms e m')
+      journal_moves ms now inflight e m m'.journal (own.Retune rates) (served_of (set ms e m') now inflight) (answer_of_retune (retuned r)) lt at (journals_set ms e m')
       (subst (λ (o : Option (StepAnswer A)). JournalMove m.part.terms (own.Retune rates) o m.journal m'.journal) (sym (retune_alone r)) move)

@@ -8,7 +8,7 @@ use Rattle.reply_box.specs.declared.fault.NotOpen.{NotOpen}
 use Rattle.reply_box.specs.declared.seat.Taken.{Taken}
 use Rattle.reply_box.specs.declared.seat.Taken.TheVariants as taking
 use Rattle.lone_export.specs.Alone.{Alone, own_step}
-use Rattle.lone_export.specs.Lone.{attach_said, leave_said, gone_said, take_said}
+use Rattle.lone_export.specs.Lone.{step_answer_of_attach, step_answer_of_leave, step_answer_of_gone, step_answer_of_take}
 use Rattle.lone_export.specs.declared.refusal.NotAttached.{NotAttached}
 use Rattle.lone_export.specs.declared.refusal.NotAttached.TheVariants.{Refused, NoMemory}
 use Rattle.lone_export.specs.declared.refusal.AttachRefusal.TheVariants as attaching
@@ -32,7 +32,7 @@ use Rattle.server_table.proofs.Refused.{no_attach, no_take, no_leave, no_gone, n
 use Rattle.server_core.specs.Here.{here, attached}
 use Rattle.server_core.specs.Kept.{IsServer}
 use Rattle.server_core.specs.Members.{Standing, own as own_of, logged_as, Went, WentOr, WantsMemory}
-use Rattle.server_core.specs.Served.{parts, served_of, AllMembers, IsServed, Stepped, attach_says, leave_says, gone_says, take_says}
+use Rattle.server_core.specs.Served.{parts, served_of, AllMembers, IsServed, Stepped, answer_of_attach, answer_of_leave, answer_of_gone, answer_of_take}
 use Rattle.server_core.proofs.Changed.{kept_seated}
 
 -- ---- the parts of the members
@@ -125,34 +125,34 @@ module _ {A : Type 0} where
   seats_own ms e m m' one said at went = same_seats ms e m m' at (ap (λ (x : Standing). x.seats) went.standing)
 
   -- ---- calls on sessions
-  pub leave_told : (e : ℕ) (r : Result (Unit {0}) NotOpen) → as_answer e Weight (leave_said r) ≡ leave_says {A = A} (here r)
+  pub leave_told : (e : ℕ) (r : Result (Unit {0}) NotOpen) → as_answer e Weight (step_answer_of_leave r) ≡ answer_of_leave {A = A} (here r)
   leave_told e (Ok done) = refl
   leave_told e (Err x) = refl
 
-  pub gone_told : (e : ℕ) (r : Result (Unit {0}) NotOpen) → as_answer e Weight (gone_said r) ≡ gone_says {A = A} (here r)
+  pub gone_told : (e : ℕ) (r : Result (Unit {0}) NotOpen) → as_answer e Weight (step_answer_of_gone r) ≡ answer_of_gone {A = A} (here r)
   gone_told e (Ok done) = refl
   gone_told e (Err x) = refl
 
-  pub take_told : (e : ℕ) (r : Result (Taken A) NotOpen) → as_answer e Weight (take_said r) ≡ take_says {A = A} (here r)
+  pub take_told : (e : ℕ) (r : Result (Taken A) NotOpen) → as_answer e Weight (step_answer_of_take r) ≡ answer_of_take {A = A} (here r)
   take_told e (Ok (taking.Reply r)) = refl
   take_told e (Ok taking.Empty) = refl
   take_told e (Ok taking.End) = refl
   take_told e (Err x) = refl
 
-  pub stepped_leave : (ms : List Standing) (now inflight e s : ℕ) (m m' : Standing) (r : Result (Unit {0}) NotOpen) → e < length ms → m ≡ get_or ms e m → Went {A = A} m m' (own.Leave s) (leave_said r) → Stepped (served_of ms now inflight) (Leave e s) (served_of (set ms e m') now inflight) (leave_says {A = A} (here r))
+  pub stepped_leave : (ms : List Standing) (now inflight e s : ℕ) (m m' : Standing) (r : Result (Unit {0}) NotOpen) → e < length ms → m ≡ get_or ms e m → Went {A = A} m m' (own.Leave s) (step_answer_of_leave r) → Stepped (served_of ms now inflight) (Leave e s) (served_of (set ms e m') now inflight) (answer_of_leave {A = A} (here r))
   stepped_leave ms now inflight e s m m' r lt at went =
       subst (Stepped (served_of ms now inflight) (Leave e s) (served_of (set ms e m') now inflight)) (leave_told e r)
-      (stepped_own ms now inflight e m m' (Leave e s) (own.Leave s) (leave_said r) at went (step_leave (parts ms) now inflight e s (mark_of (as_answer {A = A} e Weight (leave_said r))) m.part Weight (within_parts ms e lt) (part_there ms e m lt at)))
+      (stepped_own ms now inflight e m m' (Leave e s) (own.Leave s) (step_answer_of_leave r) at went (step_leave (parts ms) now inflight e s (mark_of (as_answer {A = A} e Weight (step_answer_of_leave r))) m.part Weight (within_parts ms e lt) (part_there ms e m lt at)))
 
-  pub stepped_gone : (ms : List Standing) (now inflight e s : ℕ) (m m' : Standing) (r : Result (Unit {0}) NotOpen) → e < length ms → m ≡ get_or ms e m → Went {A = A} m m' (own.Gone s) (gone_said r) → Stepped (served_of ms now inflight) (Gone e s) (served_of (set ms e m') now inflight) (gone_says {A = A} (here r))
+  pub stepped_gone : (ms : List Standing) (now inflight e s : ℕ) (m m' : Standing) (r : Result (Unit {0}) NotOpen) → e < length ms → m ≡ get_or ms e m → Went {A = A} m m' (own.Gone s) (step_answer_of_gone r) → Stepped (served_of ms now inflight) (Gone e s) (served_of (set ms e m') now inflight) (answer_of_gone {A = A} (here r))
   stepped_gone ms now inflight e s m m' r lt at went =
       subst (Stepped (served_of ms now inflight) (Gone e s) (served_of (set ms e m') now inflight)) (gone_told e r)
-      (stepped_own ms now inflight e m m' (Gone e s) (own.Gone s) (gone_said r) at went (step_gone (parts ms) now inflight e s (mark_of (as_answer {A = A} e Weight (gone_said r))) m.part Weight (within_parts ms e lt) (part_there ms e m lt at)))
+      (stepped_own ms now inflight e m m' (Gone e s) (own.Gone s) (step_answer_of_gone r) at went (step_gone (parts ms) now inflight e s (mark_of (as_answer {A = A} e Weight (step_answer_of_gone r))) m.part Weight (within_parts ms e lt) (part_there ms e m lt at)))
 
-  pub stepped_take : (ms : List Standing) (now inflight e s : ℕ) (m m' : Standing) (r : Result (Taken A) NotOpen) → e < length ms → m ≡ get_or ms e m → Went {A = A} m m' (own.Take s) (take_said r) → Stepped (served_of ms now inflight) (Take e s) (served_of (set ms e m') now inflight) (take_says {A = A} (here r))
+  pub stepped_take : (ms : List Standing) (now inflight e s : ℕ) (m m' : Standing) (r : Result (Taken A) NotOpen) → e < length ms → m ≡ get_or ms e m → Went {A = A} m m' (own.Take s) (step_answer_of_take r) → Stepped (served_of ms now inflight) (Take e s) (served_of (set ms e m') now inflight) (answer_of_take {A = A} (here r))
   stepped_take ms now inflight e s m m' r lt at went =
       subst (Stepped (served_of ms now inflight) (Take e s) (served_of (set ms e m') now inflight)) (take_told e r)
-      (stepped_own ms now inflight e m m' (Take e s) (own.Take s) (take_said r) at went (step_take (parts ms) now inflight e s (mark_of (as_answer {A = A} e Weight (take_said r))) m.part Weight (within_parts ms e lt) (part_there ms e m lt at)))
+      (stepped_own ms now inflight e m m' (Take e s) (own.Take s) (step_answer_of_take r) at went (step_take (parts ms) now inflight e s (mark_of (as_answer {A = A} e Weight (step_answer_of_take r))) m.part Weight (within_parts ms e lt) (part_there ms e m lt at)))
 
   -- ---- there is no such export
   pub absent_leave : (ms : List Standing) (now inflight e s : ℕ) → length ms ≤ e → Stepped {A = A} (served_of ms now inflight) (Leave e s) (served_of ms now inflight) NoExport
@@ -169,7 +169,7 @@ module _ {A : Type 0} where
 
 -- ---- attach
 module _ {A : Type 0} where
-  pub stepped_attach : (ms : List Standing) (now inflight e : ℕ) (m m' : Standing) (r : Result ℕ NotAttached) → e < length ms → m ≡ get_or ms e m → WentOr {A = A} m m' own.Attach (attach_said r) → WantsMemory m r → Stepped (served_of ms now inflight) (Attach e) (served_of (set ms e m') now inflight) (attach_says {A = A} (attached e r))
+  pub stepped_attach : (ms : List Standing) (now inflight e : ℕ) (m m' : Standing) (r : Result ℕ NotAttached) → e < length ms → m ≡ get_or ms e m → WentOr {A = A} m m' own.Attach (step_answer_of_attach r) → WantsMemory m r → Stepped (served_of ms now inflight) (Attach e) (served_of (set ms e m') now inflight) (answer_of_attach {A = A} (attached e r))
   stepped_attach ms now inflight e m m' (Ok n) lt at went may = stepped_own ms now inflight e m m' (Attach e) own.Attach (alone.Session n) at went (step_attach (parts ms) now inflight e m.part Weight (within_parts ms e lt) (part_there ms e m lt at))
   stepped_attach ms now inflight e m m' (Err (Refused attaching.Worn)) lt at went may = stepped_own ms now inflight e m m' (Attach e) own.Attach alone.Worn at went (step_attach (parts ms) now inflight e m.part Weight (within_parts ms e lt) (part_there ms e m lt at))
   stepped_attach ms now inflight e m m' (Err (Refused attaching.Full)) lt at went may = stepped_own ms now inflight e m m' (Attach e) own.Attach alone.Full at went (step_attach (parts ms) now inflight e m.part Weight (within_parts ms e lt) (part_there ms e m lt at))

@@ -7,7 +7,7 @@ use Rattle.tag_clock.specs.declared.Phase.{Phase}
 use Rattle.tag_clock.specs.Clocks.{Share}
 use Rattle.tag_clock.specs.Intervals.{Intervals}
 use Rattle.lone_export.specs.Alone.{Alone, Job, Moved, own_step, opening}
-use Rattle.lone_export.specs.Lone.{Whole, Admits, MayArrive, refusal_said}
+use Rattle.lone_export.specs.Lone.{Whole, Admits, MayArrive, step_answer_of_refusal}
 use Rattle.lone_export.specs.declared.refusal.Arrived.{Arrived}
 use Rattle.lone_export.specs.declared.refusal.Arrived.TheVariants.{Accepted, Answered}
 use Rattle.lone_export.specs.declared.refusal.NotArrived.{NotArrived}
@@ -216,7 +216,7 @@ abbrev pub Arrives : {A : Type 0} → Standing → Standing → ℕ → ℕ → 
 Arrives old new s t q (Ok (Accepted number limit_tag)) =
     AdmitsAt old s q × (new ≡ accepted_standing s t q (logged_as new old)) × (number ≡ old.part.next) × (limit_tag ≡ (part_tags old.part t).l)
 Arrives {A} old new s t q (Ok (Answered error)) = (AdmitsAt old s q → ⊥) × Went {A = A} old new (Arrive s t q) (said.Answered error)
-Arrives {A} old new s t q (Err e) = (AdmitsAt old s q → ⊥) × Went {A = A} old new (Arrive s t q) (refusal_said e.refusal)
+Arrives {A} old new s t q (Err e) = (AdmitsAt old s q → ⊥) × Went {A = A} old new (Arrive s t q) (step_answer_of_refusal e.refusal)
 
 -- ---- what is told of a request that waits
 abbrev pub told_tags : Entry → (ℕ × Tags)

@@ -81,57 +81,57 @@ module _ {A : Type 0} where
     pub stepped : step old.setup old.table event (mark_of answer) ≡ record { table = new.table; answer = answer }
     pub setup : new.setup ≡ old.setup
 
-  abbrev pub refusal_says : SessionRefusal → Answer A
-  refusal_says refusing.NoExport = said.NoExport
-  refusal_says refusing.NotOpen = said.NotOpen
+  abbrev pub answer_of_refusal : SessionRefusal → Answer A
+  answer_of_refusal refusing.NoExport = said.NoExport
+  answer_of_refusal refusing.NotOpen = said.NotOpen
 
-  abbrev pub leave_says : Result (Unit {0}) SessionRefusal → Answer A
-  leave_says (Ok done) = said.Left
-  leave_says (Err e) = refusal_says e
+  abbrev pub answer_of_leave : Result (Unit {0}) SessionRefusal → Answer A
+  answer_of_leave (Ok done) = said.Left
+  answer_of_leave (Err e) = answer_of_refusal e
 
-  abbrev pub gone_says : Result (Unit {0}) SessionRefusal → Answer A
-  gone_says (Ok done) = said.Dropped
-  gone_says (Err e) = refusal_says e
+  abbrev pub answer_of_gone : Result (Unit {0}) SessionRefusal → Answer A
+  answer_of_gone (Ok done) = said.Dropped
+  answer_of_gone (Err e) = answer_of_refusal e
 
-  abbrev pub take_says : Result (Taken A) SessionRefusal → Answer A
-  take_says (Ok (taking.Reply r)) = said.Reply r
-  take_says (Ok taking.Empty) = said.Empty
-  take_says (Ok taking.End) = said.End
-  take_says (Err e) = refusal_says e
+  abbrev pub answer_of_take : Result (Taken A) SessionRefusal → Answer A
+  answer_of_take (Ok (taking.Reply r)) = said.Reply r
+  answer_of_take (Ok taking.Empty) = said.Empty
+  answer_of_take (Ok taking.End) = said.End
+  answer_of_take (Err e) = answer_of_refusal e
 
-  abbrev pub attach_says : Result SessionId NotAttached → Answer A
-  attach_says (Ok session) = said.Session session.number
-  attach_says (Err attaching.NoExport) = said.NoExport
-  attach_says (Err attaching.Worn) = said.Worn
-  attach_says (Err attaching.Full) = said.Full
-  attach_says (Err attaching.NoMemory) = said.NoMemory
+  abbrev pub answer_of_attach : Result SessionId NotAttached → Answer A
+  answer_of_attach (Ok session) = said.Session session.number
+  answer_of_attach (Err attaching.NoExport) = said.NoExport
+  answer_of_attach (Err attaching.Worn) = said.Worn
+  answer_of_attach (Err attaching.Full) = said.Full
+  answer_of_attach (Err attaching.NoMemory) = said.NoMemory
 
-  abbrev pub retune_says : Result (Unit {0}) NotRetuned → Answer A
-  retune_says (Ok done) = said.Retuned
-  retune_says (Err retuning.NoExport) = said.NoExport
-  retune_says (Err retuning.Worn) = said.Worn
-  retune_says (Err retuning.Waiting) = said.Waiting
-  retune_says (Err retuning.NoMemory) = said.NoMemory
+  abbrev pub answer_of_retune : Result (Unit {0}) NotRetuned → Answer A
+  answer_of_retune (Ok done) = said.Retuned
+  answer_of_retune (Err retuning.NoExport) = said.NoExport
+  answer_of_retune (Err retuning.Worn) = said.Worn
+  answer_of_retune (Err retuning.Waiting) = said.Waiting
+  answer_of_retune (Err retuning.NoMemory) = said.NoMemory
 
-  abbrev pub arrive_refusal_says : ArriveRefusal → Answer A
-  arrive_refusal_says arriving.NoExport = said.NoExport
-  arrive_refusal_says arriving.NotOpen = said.NotOpen
-  arrive_refusal_says arriving.Worn = said.Worn
-  arrive_refusal_says arriving.Hold = said.Hold
-  arrive_refusal_says arriving.NoMemory = said.NoMemory
+  abbrev pub answer_of_arrive_refusal : ArriveRefusal → Answer A
+  answer_of_arrive_refusal arriving.NoExport = said.NoExport
+  answer_of_arrive_refusal arriving.NotOpen = said.NotOpen
+  answer_of_arrive_refusal arriving.Worn = said.Worn
+  answer_of_arrive_refusal arriving.Hold = said.Hold
+  answer_of_arrive_refusal arriving.NoMemory = said.NoMemory
 
-  abbrev pub arrive_says : Result Arrived (NotArrived A) → Answer A
-  arrive_says (Ok (arrival.Accepted n tag)) = said.Accepted n tag
-  arrive_says (Ok (arrival.Answered error)) = said.Answered error
-  arrive_says (Err e) = arrive_refusal_says e.refusal
+  abbrev pub answer_of_arrive : Result Arrived (NotArrived A) → Answer A
+  answer_of_arrive (Ok (arrival.Accepted n tag)) = said.Accepted n tag
+  answer_of_arrive (Ok (arrival.Answered error)) = said.Answered error
+  answer_of_arrive (Err e) = answer_of_arrive_refusal e.refusal
 
-  abbrev pub dispatch_says : Option Chosen → Answer A
-  dispatch_says None = said.Nothing
-  dispatch_says (Some chosen) = said.Picked chosen.ticket.export chosen.ticket.number chosen.phase
+  abbrev pub answer_of_dispatch : Option Chosen → Answer A
+  answer_of_dispatch None = said.Nothing
+  answer_of_dispatch (Some chosen) = said.Picked chosen.ticket.export chosen.ticket.number chosen.phase
 
-  abbrev pub perform_says : Option Bool → Answer A
-  perform_says None = said.NotOut
-  perform_says (Some memory) = said.Performed memory
+  abbrev pub answer_of_perform : Option Bool → Answer A
+  answer_of_perform None = said.NotOut
+  answer_of_perform (Some memory) = said.Performed memory
 
 -- the seats once a request was chosen
 abbrev pub seats_chosen : Option Chosen → List (List Seat) → List (List Seat)

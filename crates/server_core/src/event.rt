@@ -3,7 +3,7 @@ ghost use Rattle.std.specs.Prelude.{◌≡◌};
 ghost use Rattle.server_table.specs.declared.event.Event.TheVariants as event;
 ghost use Rattle.server_core.specs.Journals.{EventMoves};
 ghost use Rattle.server_core.specs.Seats.{EventSeats};
-ghost use Rattle.server_core.specs.Served.{Stepped, attach_says, retune_says, arrive_says, dispatch_says, take_says, leave_says, gone_says, refusal_says};
+ghost use Rattle.server_core.specs.Served.{Stepped, answer_of_attach, answer_of_retune, answer_of_arrive, answer_of_dispatch, answer_of_take, answer_of_leave, answer_of_gone, answer_of_refusal};
 
 use crate::refusal::{ArriveRefusal, NotArrived, NotAttached, NotRetuned, SessionRefusal};
 use crate::server::Server;
@@ -17,7 +17,7 @@ use server_table::{Answer, Event};
 use std::alloc::Allocator;
 
 fn attach_answer<A: Allocator>(said: Result<SessionId, NotAttached>) -> Answer<A>
-    ensures { result ≡ attach_says said }
+    ensures { result ≡ answer_of_attach said }
 {
     match said {
         Ok(session) => Answer::Session(session.number),
@@ -29,7 +29,7 @@ fn attach_answer<A: Allocator>(said: Result<SessionId, NotAttached>) -> Answer<A
 }
 
 fn arrive_answer<A: Allocator>(said: Result<Arrived, NotArrived<A>>) -> Answer<A>
-    ensures { result ≡ arrive_says said }
+    ensures { result ≡ answer_of_arrive said }
 {
     match said {
         Ok(Arrived::Accepted { number, limit_tag }) => Answer::Accepted { number, limit_tag },
@@ -45,7 +45,7 @@ fn arrive_answer<A: Allocator>(said: Result<Arrived, NotArrived<A>>) -> Answer<A
 }
 
 fn dispatch_answer<A: Allocator>(said: Option<Chosen>) -> Answer<A>
-    ensures { result ≡ dispatch_says said }
+    ensures { result ≡ answer_of_dispatch said }
 {
     match said {
         Some(chosen) => Answer::Picked {
@@ -58,7 +58,7 @@ fn dispatch_answer<A: Allocator>(said: Option<Chosen>) -> Answer<A>
 }
 
 fn refusal_answer<A: Allocator>(refusal: SessionRefusal) -> Answer<A>
-    ensures { result ≡ refusal_says refusal }
+    ensures { result ≡ answer_of_refusal refusal }
 {
     match refusal {
         SessionRefusal::NoExport => Answer::NoExport,
@@ -67,7 +67,7 @@ fn refusal_answer<A: Allocator>(refusal: SessionRefusal) -> Answer<A>
 }
 
 fn take_answer<A: Allocator>(said: Result<Taken<A>, SessionRefusal>) -> Answer<A>
-    ensures { result ≡ take_says said }
+    ensures { result ≡ answer_of_take said }
 {
     match said {
         Ok(Taken::Reply(reply)) => Answer::Reply(reply),
@@ -78,7 +78,7 @@ fn take_answer<A: Allocator>(said: Result<Taken<A>, SessionRefusal>) -> Answer<A
 }
 
 fn leave_answer<A: Allocator>(said: Result<(), SessionRefusal>) -> Answer<A>
-    ensures { result ≡ leave_says said }
+    ensures { result ≡ answer_of_leave said }
 {
     match said {
         Ok(()) => Answer::Left,
@@ -87,7 +87,7 @@ fn leave_answer<A: Allocator>(said: Result<(), SessionRefusal>) -> Answer<A>
 }
 
 fn gone_answer<A: Allocator>(said: Result<(), SessionRefusal>) -> Answer<A>
-    ensures { result ≡ gone_says said }
+    ensures { result ≡ answer_of_gone said }
 {
     match said {
         Ok(()) => Answer::Dropped,
@@ -96,7 +96,7 @@ fn gone_answer<A: Allocator>(said: Result<(), SessionRefusal>) -> Answer<A>
 }
 
 fn retune_answer<A: Allocator>(said: Result<(), NotRetuned>) -> Answer<A>
-    ensures { result ≡ retune_says said }
+    ensures { result ≡ answer_of_retune said }
 {
     match said {
         Ok(()) => Answer::Retuned,

@@ -3,9 +3,9 @@ ghost use Rattle.std.specs.Prelude.{◌≡◌, ◌≢◌, ◌<◌, ◌++◌, len
 ghost use Rattle.std.specs.Vec.{vec_capacity};
 ghost use Rattle.nbd_commands.specs.Terms.{terms_of};
 ghost use Rattle.nbd_commands.specs.Exports.{IsWithin};
-ghost use Rattle.lone_export.specs.Lone.{leave_said, gone_said, take_said, attach_said, arrived_said};
+ghost use Rattle.lone_export.specs.Lone.{step_answer_of_leave, step_answer_of_gone, step_answer_of_take, step_answer_of_attach, step_answer_of_arrive};
 ghost use Rattle.lone_export.specs.declared.step.StepAnswer.TheVariants.{Performed};
-ghost use Rattle.export_cell.specs.Journal.{JournalMove, IsAdvanced, IsJournal, surplus, reserved, noted_as, retuned_said};
+ghost use Rattle.export_cell.specs.Journal.{JournalMove, IsAdvanced, IsJournal, surplus, reserved, noted_as, step_answer_of_retuned};
 ghost use Rattle.server_table.specs.Parts.{alone_of};
 
 use crate::tagging::{give_credit, put_behind, shift_all};
@@ -45,9 +45,29 @@ impl<I: Image> Model for Member<I> {
 
     ghost Value = { Standing };
 
-    ghost view = { λ m. standing_of (record { whole = m.cell.live; journal = m.cell.journal; room = m.cell.room; share = m.shares; waiting = m.waiting.items; waiting_room = deque_capacity m.waiting; out = m.out.items; out_room = vec_capacity m.out }) };
+    ghost view = { λ m.
+        standing_of (record {
+          whole = m.cell.live;
+          journal = m.cell.journal;
+          room = m.cell.room;
+          share = m.shares;
+          waiting = m.waiting.items;
+          waiting_room = deque_capacity m.waiting;
+          out = m.out.items;
+          out_room = vec_capacity m.out;
+        }) };
 
-    ghost invariant = { λ m. IsMember (record { whole = m.cell.live; journal = m.cell.journal; room = m.cell.room; share = m.shares; waiting = m.waiting.items; waiting_room = deque_capacity m.waiting; out = m.out.items; out_room = vec_capacity m.out }) };
+    ghost invariant = { λ m.
+        IsMember (record {
+          whole = m.cell.live;
+          journal = m.cell.journal;
+          room = m.cell.room;
+          share = m.shares;
+          waiting = m.waiting.items;
+          waiting_room = deque_capacity m.waiting;
+          out = m.out.items;
+          out_room = vec_capacity m.out;
+        }) };
 }
 
 impl<I: Image> Member<I> {
@@ -85,37 +105,40 @@ impl<I: Image> Member<I> {
     /// Nothing more arrives on the session.
     pub(crate) fn leave(&mut self, session: u64) -> Result<(), NotOpen>
         ensures went { Went {A = I.Alloc} self.old self.new (Step.Leave session)
-            (leave_said result) }
+            (step_answer_of_leave result) }
         ensures journal { JournalMove {A = I.Alloc} self.old.part.terms (Step.Leave session)
-            (Some (leave_said result)) self.old.journal self.new.journal }
+            (Some (step_answer_of_leave result)) self.old.journal self.new.journal }
     {
         self.cell.leave(session)
     }
 
     /// The session is dropped with its replies.
     pub(crate) fn gone(&mut self, session: u64) -> Result<(), NotOpen>
-        ensures went { Went {A = I.Alloc} self.old self.new (Step.Gone session) (gone_said result) }
+        ensures went { Went {A = I.Alloc} self.old self.new (Step.Gone session)
+            (step_answer_of_gone result) }
         ensures journal { JournalMove {A = I.Alloc} self.old.part.terms (Step.Gone session)
-            (Some (gone_said result)) self.old.journal self.new.journal }
+            (Some (step_answer_of_gone result)) self.old.journal self.new.journal }
     {
         self.cell.gone(session)
     }
 
     /// The oldest reply of the session is taken.
     pub(crate) fn take(&mut self, session: u64) -> Result<Taken<I::Alloc>, NotOpen>
-        ensures went { Went {A = I.Alloc} self.old self.new (Step.Take session) (take_said result) }
+        ensures went { Went {A = I.Alloc} self.old self.new (Step.Take session)
+            (step_answer_of_take result) }
         ensures journal { JournalMove {A = I.Alloc} self.old.part.terms (Step.Take session)
-            (Some (take_said result)) self.old.journal self.new.journal }
+            (Some (step_answer_of_take result)) self.old.journal self.new.journal }
     {
         self.cell.take(session)
     }
 
     /// Opens a session and gives its number.
     pub(crate) fn attach(&mut self) -> Result<u64, NotAttached>
-        ensures step { WentOr {A = I.Alloc} self.old self.new Step.Attach (attach_said result) }
+        ensures step { WentOr {A = I.Alloc} self.old self.new Step.Attach
+            (step_answer_of_attach result) }
         ensures memory { WantsMemory self.old result }
         ensures journal { JournalMove {A = I.Alloc} self.old.part.terms Step.Attach
-            (attach_said result) self.old.journal self.new.journal }
+            (step_answer_of_attach result) self.old.journal self.new.journal }
     {
         self.cell.attach()
     }
@@ -125,7 +148,7 @@ impl<I: Image> Member<I> {
         ensures retunes { Retunes self.old self.new rates result }
         ensures short { AreShort self.old.part.rates → AreShort self.new.part.rates }
         ensures journal { JournalMove {A = I.Alloc} self.old.part.terms (Step.Retune rates)
-            (retuned_said result) self.old.journal self.new.journal }
+            (step_answer_of_retuned result) self.old.journal self.new.journal }
     {
         if let Err(refused) = self.cell.retune(rates) {
             return Err(refused);
@@ -243,7 +266,9 @@ impl<I: Image> Member<I> {
         ensures journal { IfOk result (λ kept.
             self.new.journal ≡ reserved self.old.part.terms kept self.old.journal) }
         ensures no_memory { OnErr result (IsLetIn self.old session
-            × IsAdvanced self.old.part.terms (surplus (length request.now.payload) self.old.journal.log) self.old.journal self.new.journal) }
+            × IsAdvanced self.old.part.terms
+            (surplus
+            (length request.now.payload) self.old.journal.log) self.old.journal self.new.journal) }
     {
         self.cell.reserve(session, request)
     }
@@ -262,7 +287,7 @@ impl<I: Image> Member<I> {
         requires reserved { IsReservedAt self.old session request kept }
         ensures arrives { Arrives {A = I.Alloc} self.old self.new session moment request result }
         ensures entered { is_ok result ≡ is_some kept }
-        ensures journal { self.new.journal ≡ noted_as {A = I.Alloc} (arrived_said result)
+        ensures journal { self.new.journal ≡ noted_as {A = I.Alloc} (step_answer_of_arrive result)
             (Step.Arrive session moment request) self.old.journal }
         ensures back { IfErr result (λ e. e.request ≡ request) }
     {

@@ -55,7 +55,9 @@ impl<I: Image, E: Eligibility<Alloc = I::Alloc>> Model for Server<I, E> {
 
     ghost view = { λ s. served_of s.members.items s.latest s.inflight };
 
-    ghost invariant = { λ s. IsServed s.members.items (E.contents s.eligible) (E.asked s.eligible) s.latest s.inflight s.served };
+    ghost invariant = { λ s.
+        IsServed s.members.items (E.contents s.eligible)
+        (E.asked s.eligible) s.latest s.inflight s.served };
 }
 
 /// The exports of a configuration, each in its opening state.
@@ -179,7 +181,7 @@ fn arrived<A: Allocator>(
 }
 
 impl<I: Image, E: Eligibility<Alloc = I::Alloc>> Server<I, E> {
-    ghost use Rattle.server_core.specs.Served.{Holds, Stepped, attach_says, retune_says, leave_says, gone_says, take_says, arrive_says, dispatch_says, perform_says, seats_chosen, opening_served, setup_for, waiting_tags};
+    ghost use Rattle.server_core.specs.Served.{Holds, Stepped, answer_of_attach, answer_of_retune, answer_of_leave, answer_of_gone, answer_of_take, answer_of_arrive, answer_of_dispatch, answer_of_perform, seats_chosen, opening_served, setup_for, waiting_tags};
     ghost use Rattle.server_core.specs.Counted.{counted_steps, rise, IsSound};
     ghost use Rattle.server_core.specs.Journals.{EventMoves, IsCellOf};
 
@@ -273,11 +275,11 @@ impl<I: Image, E: Eligibility<Alloc = I::Alloc>> Server<I, E> {
     /// Nothing more arrives on a session that is open. It takes no memory.
     pub fn leave(&mut self, session: SessionId) -> Result<(), SessionRefusal>
         ensures step { Stepped {A = I.Alloc} self.old (event.Leave session.export session.number)
-            self.new (leave_says result) }
+            self.new (answer_of_leave result) }
         ensures journals { EventMoves {A = I.Alloc} self.old
-            (event.Leave session.export session.number) self.new (leave_says result) }
+            (event.Leave session.export session.number) self.new (answer_of_leave result) }
         ensures counted { counted_steps self.new
-            ≡ counted_steps self.old + rise {A = I.Alloc} (leave_says result) }
+            ≡ counted_steps self.old + rise {A = I.Alloc} (answer_of_leave result) }
         ensures seats { self.new.seats ≡ self.old.seats }
     {
         if session.export as usize >= self.members.len() {
@@ -290,11 +292,11 @@ impl<I: Image, E: Eligibility<Alloc = I::Alloc>> Server<I, E> {
     /// A session that isn't gone is dropped with its replies; its requests are still served. It takes no memory.
     pub fn gone(&mut self, session: SessionId) -> Result<(), SessionRefusal>
         ensures step { Stepped {A = I.Alloc} self.old (event.Gone session.export session.number)
-            self.new (gone_says result) }
+            self.new (answer_of_gone result) }
         ensures journals { EventMoves {A = I.Alloc} self.old
-            (event.Gone session.export session.number) self.new (gone_says result) }
+            (event.Gone session.export session.number) self.new (answer_of_gone result) }
         ensures counted { counted_steps self.new
-            ≡ counted_steps self.old + rise {A = I.Alloc} (gone_says result) }
+            ≡ counted_steps self.old + rise {A = I.Alloc} (answer_of_gone result) }
         ensures seats { self.new.seats ≡ self.old.seats }
     {
         if session.export as usize >= self.members.len() {
@@ -307,11 +309,11 @@ impl<I: Image, E: Eligibility<Alloc = I::Alloc>> Server<I, E> {
     /// The oldest reply of a session that isn't gone is taken. It takes no memory.
     pub fn take_reply(&mut self, session: SessionId) -> Result<Taken<I::Alloc>, SessionRefusal>
         ensures step { Stepped {A = I.Alloc} self.old (event.Take session.export session.number)
-            self.new (take_says result) }
+            self.new (answer_of_take result) }
         ensures journals { EventMoves {A = I.Alloc} self.old
-            (event.Take session.export session.number) self.new (take_says result) }
+            (event.Take session.export session.number) self.new (answer_of_take result) }
         ensures counted { counted_steps self.new
-            ≡ counted_steps self.old + rise {A = I.Alloc} (take_says result) }
+            ≡ counted_steps self.old + rise {A = I.Alloc} (answer_of_take result) }
         ensures seats { self.new.seats ≡ self.old.seats }
     {
         if session.export as usize >= self.members.len() {
@@ -325,11 +327,11 @@ impl<I: Image, E: Eligibility<Alloc = I::Alloc>> Server<I, E> {
     /// of these.
     pub fn attach(&mut self, export: u32) -> Result<SessionId, NotAttached>
         ensures step { Stepped {A = I.Alloc} self.old (event.Attach export) self.new
-            (attach_says result) }
+            (answer_of_attach result) }
         ensures journals { EventMoves {A = I.Alloc} self.old (event.Attach export) self.new
-            (attach_says result) }
+            (answer_of_attach result) }
         ensures counted { counted_steps self.new
-            ≡ counted_steps self.old + rise {A = I.Alloc} (attach_says result) }
+            ≡ counted_steps self.old + rise {A = I.Alloc} (answer_of_attach result) }
         ensures seats { self.new.seats ≡ self.old.seats }
         ensures export { IfOk result (λ session. session.export ≡ export) }
     {
@@ -345,11 +347,11 @@ impl<I: Image, E: Eligibility<Alloc = I::Alloc>> Server<I, E> {
     /// have to; without memory some of these.
     pub fn retune(&mut self, export: u32, rates: Rates) -> Result<(), NotRetuned>
         ensures step { Stepped {A = I.Alloc} self.old (event.Retune export rates) self.new
-            (retune_says result) }
+            (answer_of_retune result) }
         ensures journals { EventMoves {A = I.Alloc} self.old (event.Retune export rates) self.new
-            (retune_says result) }
+            (answer_of_retune result) }
         ensures counted { counted_steps self.new
-            ≡ counted_steps self.old + rise {A = I.Alloc} (retune_says result) }
+            ≡ counted_steps self.old + rise {A = I.Alloc} (answer_of_retune result) }
         ensures seats { self.new.seats ≡ self.old.seats }
     {
         if export as usize >= self.members.len() {
@@ -383,12 +385,13 @@ impl<I: Image, E: Eligibility<Alloc = I::Alloc>> Server<I, E> {
     /// it; None where the ticket's slot doesn't hold its number any more.
     pub fn perform(&mut self, ticket: Ticket) -> Option<bool>
         ensures some { IfSome result (λ memory. Holds self.old ticket
-            × Stepped {A = I.Alloc} self.old (event.Perform ticket.export ticket.number) self.new (answer.Performed memory)) }
+            × Stepped {A = I.Alloc} self.old (event.Perform ticket.export ticket.number) self.new
+            (answer.Performed memory)) }
         ensures none { IfNone result ((Holds self.old ticket → ⊥) × (self.new ≡ self.old)) }
         ensures journals { EventMoves {A = I.Alloc} self.old
-            (event.Perform ticket.export ticket.number) self.new (perform_says result) }
+            (event.Perform ticket.export ticket.number) self.new (answer_of_perform result) }
         ensures counted { counted_steps self.new
-            ≡ counted_steps self.old + rise {A = I.Alloc} (perform_says result) }
+            ≡ counted_steps self.old + rise {A = I.Alloc} (answer_of_perform result) }
         ensures seats { OnSome result (self.new.seats
             ≡ change_at (seats_without ticket.number) ticket.export self.old.seats) }
     {
@@ -415,11 +418,11 @@ impl<I: Image, E: Eligibility<Alloc = I::Alloc>> Server<I, E> {
         request: Request<I::Alloc>,
     ) -> Result<Arrived, NotArrived<I::Alloc>>
         ensures step { Stepped {A = I.Alloc} self.old (event.Arrive session.export session.number
-            moment request) self.new (arrive_says result) }
+            moment request) self.new (answer_of_arrive result) }
         ensures journals { EventMoves {A = I.Alloc} self.old (event.Arrive session.export
-            session.number moment request) self.new (arrive_says result) }
+            session.number moment request) self.new (answer_of_arrive result) }
         ensures counted { counted_steps self.new
-            ≡ counted_steps self.old + rise {A = I.Alloc} (arrive_says result) }
+            ≡ counted_steps self.old + rise {A = I.Alloc} (answer_of_arrive result) }
         ensures seats { self.new.seats ≡ self.old.seats }
         ensures back { IfErr result (λ e. e.request ≡ request) }
     {
@@ -451,11 +454,11 @@ impl<I: Image, E: Eligibility<Alloc = I::Alloc>> Server<I, E> {
     /// request scheduling). It takes no memory.
     pub fn dispatch(&mut self, moment: Moment) -> Option<Chosen>
         ensures step { Stepped {A = I.Alloc} self.old (event.Dispatch moment) self.new
-            (dispatch_says result) }
+            (answer_of_dispatch result) }
         ensures journals { EventMoves {A = I.Alloc} self.old (event.Dispatch moment) self.new
-            (dispatch_says result) }
+            (answer_of_dispatch result) }
         ensures counted { counted_steps self.new
-            ≡ counted_steps self.old + rise {A = I.Alloc} (dispatch_says result) }
+            ≡ counted_steps self.old + rise {A = I.Alloc} (answer_of_dispatch result) }
         ensures ticket { IfSome result (λ chosen. Holds self.new chosen.ticket) }
         ensures seats { self.new.seats ≡ seats_chosen result self.old.seats }
     {

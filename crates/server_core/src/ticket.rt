@@ -19,9 +19,11 @@ impl Model for Ticket {
 
     ghost Value = { Place };
 
-    ghost view = { λ ticket. record { export = ticket.export; number = ticket.number; slot = ticket.slot } };
+    ghost view = { λ ticket.
+        record { export = ticket.export; number = ticket.number; slot = ticket.slot } };
 
-    ghost inverse = { λ place. record { export = place.export; number = place.number; slot = place.slot } };
+    ghost inverse = { λ place.
+        record { export = place.export; number = place.number; slot = place.slot } };
 }
 
 impl Ticket {

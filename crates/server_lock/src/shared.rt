@@ -3,7 +3,7 @@ ghost use Rattle.std.specs.Prelude.{◌≡◌, ◌≤◌, IfOk, IfErr, IfSome, v
 ghost use Rattle.std.specs.Sync.Mutex.{mutex_guard_value};
 ghost use Rattle.server_table.specs.declared.event.Event.TheVariants as event;
 ghost use Rattle.server_core.specs.Counted.{counted_steps, IsSound};
-ghost use Rattle.server_core.specs.Served.{attach_says, arrive_says, dispatch_says, perform_says, take_says, leave_says, gone_says, retune_says};
+ghost use Rattle.server_core.specs.Served.{answer_of_attach, answer_of_arrive, answer_of_dispatch, answer_of_perform, answer_of_take, answer_of_leave, answer_of_gone, answer_of_retune};
 ghost use Rattle.server_lock.specs.Scores.{noted, opened, without, chosen_by};
 
 use crate::turns;
@@ -123,7 +123,7 @@ impl<L: Ledger, I: Image, E: Eligibility<Alloc = I::Alloc>> Shared<L, I, E> {
         export: u32,
     ) -> Result<SessionId, NotAttached>
         ensures pass { pass.new
-            ≡ noted {A = I.Alloc} pass.old (event.Attach export) (attach_says result) }
+            ≡ noted {A = I.Alloc} pass.old (event.Attach export) (answer_of_attach result) }
         ensures export { IfOk result (λ session. session.export ≡ export) }
     {
         turns::turn_attach(&mut *self.hold(rt), pass, export)
@@ -139,7 +139,7 @@ impl<L: Ledger, I: Image, E: Eligibility<Alloc = I::Alloc>> Shared<L, I, E> {
         request: Request<I::Alloc>,
     ) -> Result<Arrived, NotArrived<I::Alloc>>
         ensures pass { pass.new ≡ noted {A = I.Alloc} pass.old
-            (event.Arrive session.export session.number moment request) (arrive_says result) }
+            (event.Arrive session.export session.number moment request) (answer_of_arrive result) }
         ensures back { IfErr result (λ e. e.request ≡ request) }
     {
         turns::turn_arrive(&mut *self.hold(rt), pass, session, moment, request)
@@ -153,7 +153,7 @@ impl<L: Ledger, I: Image, E: Eligibility<Alloc = I::Alloc>> Shared<L, I, E> {
         moment: Moment,
     ) -> Option<Chosen>
         ensures { pass.new ≡ chosen_by
-            (noted {A = I.Alloc} pass.old (event.Dispatch moment) (dispatch_says result)) result }
+            (noted {A = I.Alloc} pass.old (event.Dispatch moment) (answer_of_dispatch result)) result }
     {
         turns::turn_dispatch(&mut *self.hold(rt), pass, moment)
     }
@@ -162,7 +162,7 @@ impl<L: Ledger, I: Image, E: Eligibility<Alloc = I::Alloc>> Shared<L, I, E> {
     /// is that of the pass's latest choice, the pass holds it no more.
     pub fn turn_perform<R: Wait>(&self, rt: &R, pass: &mut Pass<L>, ticket: Ticket) -> Option<bool>
         ensures { pass.new ≡ without (noted {A = I.Alloc} pass.old
-            (event.Perform ticket.export ticket.number) (perform_says result)) ticket }
+            (event.Perform ticket.export ticket.number) (answer_of_perform result)) ticket }
     {
         turns::turn_perform(&mut *self.hold(rt), pass, ticket)
     }
@@ -175,7 +175,7 @@ impl<L: Ledger, I: Image, E: Eligibility<Alloc = I::Alloc>> Shared<L, I, E> {
         session: SessionId,
     ) -> Result<Taken<I::Alloc>, SessionRefusal>
         ensures { pass.new ≡ noted {A = I.Alloc} pass.old (event.Take session.export session.number)
-            (take_says result) }
+            (answer_of_take result) }
     {
         turns::turn_take(&mut *self.hold(rt), pass, session)
     }
@@ -188,7 +188,7 @@ impl<L: Ledger, I: Image, E: Eligibility<Alloc = I::Alloc>> Shared<L, I, E> {
         session: SessionId,
     ) -> Result<(), SessionRefusal>
         ensures { pass.new ≡ noted {A = I.Alloc} pass.old
-            (event.Leave session.export session.number) (leave_says result) }
+            (event.Leave session.export session.number) (answer_of_leave result) }
     {
         turns::turn_leave(&mut *self.hold(rt), pass, session)
     }
@@ -201,7 +201,7 @@ impl<L: Ledger, I: Image, E: Eligibility<Alloc = I::Alloc>> Shared<L, I, E> {
         session: SessionId,
     ) -> Result<(), SessionRefusal>
         ensures { pass.new ≡ noted {A = I.Alloc} pass.old (event.Gone session.export session.number)
-            (gone_says result) }
+            (answer_of_gone result) }
     {
         turns::turn_gone(&mut *self.hold(rt), pass, session)
     }
@@ -215,7 +215,7 @@ impl<L: Ledger, I: Image, E: Eligibility<Alloc = I::Alloc>> Shared<L, I, E> {
         rates: Rates,
     ) -> Result<(), NotRetuned>
         ensures { pass.new
-            ≡ noted {A = I.Alloc} pass.old (event.Retune export rates) (retune_says result) }
+            ≡ noted {A = I.Alloc} pass.old (event.Retune export rates) (answer_of_retune result) }
     {
         turns::turn_retune(&mut *self.hold(rt), pass, export, rates)
     }

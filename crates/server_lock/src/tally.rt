@@ -28,7 +28,8 @@ impl<A: Allocator> Model for ExportTally<A> {
 
     ghost Value = { Known };
 
-    ghost view = { λ t. record { counts = t.counts; arrivals = t.arrivals.items; waits = t.waits } };
+    ghost view = { λ t.
+        record { counts = t.counts; arrivals = t.arrivals.items; waits = t.waits } };
 
     ghost invariant = { λ t. IsPowerOfTwo (length t.arrivals.items) };
 }
@@ -167,7 +168,8 @@ impl<A: Allocator + Copy> Tally<A> {
     /// A request with this number and head arrived at a moment, and was accepted by an export.
     pub fn note_arrival(&mut self, export: u32, number: u64, moment: Moment, head: RequestHead)
         ensures { self.new ≡ with_known self.old export
-            (option_map (λ known. arrived known number moment head) (slice_get self.old.exports export)) }
+            (option_map (λ known. arrived known number moment head)
+            (slice_get self.old.exports export)) }
     {
         if let Some(tally) = self.exports.get_mut(export as usize) {
             tally.note_arrival(number, moment, head);
@@ -187,7 +189,8 @@ impl<A: Allocator + Copy> Tally<A> {
     /// The request with this number was chosen at a moment.
     pub fn note_choice(&mut self, export: u32, number: u64, moment: Moment, phase: Phase)
         ensures { self.new ≡ with_known self.old export
-            (option_map (λ known. chosen known number moment phase) (slice_get self.old.exports export)) }
+            (option_map (λ known. chosen known number moment phase)
+            (slice_get self.old.exports export)) }
     {
         if let Some(tally) = self.exports.get_mut(export as usize) {
             tally.note_choice(number, moment, phase);

@@ -1,7 +1,7 @@
 //! What a pass remembers of its latest turn.
 ghost use Rattle.std.specs.Prelude.{◌≡◌};
 ghost use Rattle.server_core.specs.Counted.{rise};
-ghost use Rattle.server_core.specs.Served.{attach_says, arrive_says, dispatch_says, perform_says, take_says, leave_says, gone_says, retune_says};
+ghost use Rattle.server_core.specs.Served.{answer_of_attach, answer_of_arrive, answer_of_dispatch, answer_of_perform, answer_of_take, answer_of_leave, answer_of_gone, answer_of_retune};
 ghost use Rattle.server_lock.specs.Traces.{short_answer, is_counted_trace, rise_of_trace};
 
 use lone_export::Arrived;
@@ -125,9 +125,9 @@ impl AnswerTrace {
     }
 }
 
-pub(crate) fn told_attach<A: Allocator>(answer: &Result<SessionId, NotAttached>) -> AnswerTrace
-    ensures trace { result ≡ short_answer {A = A} (attach_says answer.now) }
-    ensures rise { rise_of_trace result ≡ rise {A = A} (attach_says answer.now) }
+pub(crate) fn trace_of_attach<A: Allocator>(answer: &Result<SessionId, NotAttached>) -> AnswerTrace
+    ensures trace { result ≡ short_answer {A = A} (answer_of_attach answer.now) }
+    ensures rise { rise_of_trace result ≡ rise {A = A} (answer_of_attach answer.now) }
 {
     match answer {
         Ok(session) => AnswerTrace::Session(session.number),
@@ -138,9 +138,9 @@ pub(crate) fn told_attach<A: Allocator>(answer: &Result<SessionId, NotAttached>)
     }
 }
 
-pub(crate) fn told_arrive<A: Allocator>(answer: &Result<Arrived, NotArrived<A>>) -> AnswerTrace
-    ensures trace { result ≡ short_answer (arrive_says answer.now) }
-    ensures rise { rise_of_trace result ≡ rise (arrive_says answer.now) }
+pub(crate) fn trace_of_arrive<A: Allocator>(answer: &Result<Arrived, NotArrived<A>>) -> AnswerTrace
+    ensures trace { result ≡ short_answer (answer_of_arrive answer.now) }
+    ensures rise { rise_of_trace result ≡ rise (answer_of_arrive answer.now) }
 {
     match answer {
         Ok(Arrived::Accepted { number, limit_tag }) => AnswerTrace::Accepted {
@@ -158,9 +158,9 @@ pub(crate) fn told_arrive<A: Allocator>(answer: &Result<Arrived, NotArrived<A>>)
     }
 }
 
-pub(crate) fn told_dispatch<A: Allocator>(answer: &Option<Chosen>) -> AnswerTrace
-    ensures trace { result ≡ short_answer {A = A} (dispatch_says answer.now) }
-    ensures rise { rise_of_trace result ≡ rise {A = A} (dispatch_says answer.now) }
+pub(crate) fn trace_of_dispatch<A: Allocator>(answer: &Option<Chosen>) -> AnswerTrace
+    ensures trace { result ≡ short_answer {A = A} (answer_of_dispatch answer.now) }
+    ensures rise { rise_of_trace result ≡ rise {A = A} (answer_of_dispatch answer.now) }
 {
     match answer {
         Some(chosen) => AnswerTrace::Picked {
@@ -172,9 +172,9 @@ pub(crate) fn told_dispatch<A: Allocator>(answer: &Option<Chosen>) -> AnswerTrac
     }
 }
 
-pub(crate) fn told_perform<A: Allocator>(answer: Option<bool>) -> AnswerTrace
-    ensures trace { result ≡ short_answer {A = A} (perform_says answer) }
-    ensures rise { rise_of_trace result ≡ rise {A = A} (perform_says answer) }
+pub(crate) fn trace_of_perform<A: Allocator>(answer: Option<bool>) -> AnswerTrace
+    ensures trace { result ≡ short_answer {A = A} (answer_of_perform answer) }
+    ensures rise { rise_of_trace result ≡ rise {A = A} (answer_of_perform answer) }
 {
     match answer {
         Some(memory) => AnswerTrace::Performed { memory },
@@ -182,9 +182,9 @@ pub(crate) fn told_perform<A: Allocator>(answer: Option<bool>) -> AnswerTrace
     }
 }
 
-pub(crate) fn told_take<A: Allocator>(answer: &Result<Taken<A>, SessionRefusal>) -> AnswerTrace
-    ensures trace { result ≡ short_answer (take_says answer.now) }
-    ensures rise { rise_of_trace result ≡ rise (take_says answer.now) }
+pub(crate) fn trace_of_take<A: Allocator>(answer: &Result<Taken<A>, SessionRefusal>) -> AnswerTrace
+    ensures trace { result ≡ short_answer (answer_of_take answer.now) }
+    ensures rise { rise_of_trace result ≡ rise (answer_of_take answer.now) }
 {
     match answer {
         Ok(Taken::Reply(reply)) => AnswerTrace::Reply {
@@ -198,9 +198,9 @@ pub(crate) fn told_take<A: Allocator>(answer: &Result<Taken<A>, SessionRefusal>)
     }
 }
 
-pub(crate) fn told_leave<A: Allocator>(answer: &Result<(), SessionRefusal>) -> AnswerTrace
-    ensures trace { result ≡ short_answer {A = A} (leave_says answer.now) }
-    ensures rise { rise_of_trace result ≡ rise {A = A} (leave_says answer.now) }
+pub(crate) fn trace_of_leave<A: Allocator>(answer: &Result<(), SessionRefusal>) -> AnswerTrace
+    ensures trace { result ≡ short_answer {A = A} (answer_of_leave answer.now) }
+    ensures rise { rise_of_trace result ≡ rise {A = A} (answer_of_leave answer.now) }
 {
     match answer {
         Ok(()) => AnswerTrace::Left,
@@ -209,9 +209,9 @@ pub(crate) fn told_leave<A: Allocator>(answer: &Result<(), SessionRefusal>) -> A
     }
 }
 
-pub(crate) fn told_gone<A: Allocator>(answer: &Result<(), SessionRefusal>) -> AnswerTrace
-    ensures trace { result ≡ short_answer {A = A} (gone_says answer.now) }
-    ensures rise { rise_of_trace result ≡ rise {A = A} (gone_says answer.now) }
+pub(crate) fn trace_of_gone<A: Allocator>(answer: &Result<(), SessionRefusal>) -> AnswerTrace
+    ensures trace { result ≡ short_answer {A = A} (answer_of_gone answer.now) }
+    ensures rise { rise_of_trace result ≡ rise {A = A} (answer_of_gone answer.now) }
 {
     match answer {
         Ok(()) => AnswerTrace::Dropped,
@@ -220,9 +220,9 @@ pub(crate) fn told_gone<A: Allocator>(answer: &Result<(), SessionRefusal>) -> An
     }
 }
 
-pub(crate) fn told_retune<A: Allocator>(answer: &Result<(), NotRetuned>) -> AnswerTrace
-    ensures trace { result ≡ short_answer {A = A} (retune_says answer.now) }
-    ensures rise { rise_of_trace result ≡ rise {A = A} (retune_says answer.now) }
+pub(crate) fn trace_of_retune<A: Allocator>(answer: &Result<(), NotRetuned>) -> AnswerTrace
+    ensures trace { result ≡ short_answer {A = A} (answer_of_retune answer.now) }
+    ensures rise { rise_of_trace result ≡ rise {A = A} (answer_of_retune answer.now) }
 {
     match answer {
         Ok(()) => AnswerTrace::Retuned,

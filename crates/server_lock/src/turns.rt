@@ -8,15 +8,15 @@ ghost use Rattle.server_table.specs.declared.event.Answer.TheVariants as answer;
 ghost use Rattle.server_core.specs.Counted.{counted_steps, IsSound};
 ghost use Rattle.server_core.specs.Members.{seats_without};
 ghost use Rattle.server_core.specs.Journals.{EventMoves};
-ghost use Rattle.server_core.specs.Served.{Holds, Stepped, seats_chosen, attach_says, arrive_says, dispatch_says, perform_says, take_says, leave_says, gone_says, retune_says};
+ghost use Rattle.server_core.specs.Served.{Holds, Stepped, seats_chosen, answer_of_attach, answer_of_arrive, answer_of_dispatch, answer_of_perform, answer_of_take, answer_of_leave, answer_of_gone, answer_of_retune};
 ghost use Rattle.server_lock.specs.Traces.{rise_of_trace};
 ghost use Rattle.server_lock.specs.Tally.{answered};
 ghost use Rattle.server_lock.specs.Scores.{noted, scored, opened, unused, holding, without, chosen_by};
 
 use crate::tally::Tally;
 use crate::trace::{
-    AnswerTrace, EventTrace, Trace, told_arrive, told_attach, told_dispatch, told_gone, told_leave,
-    told_perform, told_retune, told_take,
+    AnswerTrace, EventTrace, Trace, trace_of_arrive, trace_of_attach, trace_of_dispatch,
+    trace_of_gone, trace_of_leave, trace_of_perform, trace_of_retune, trace_of_take,
 };
 use eligibility::Eligibility;
 use export_cell::Outdated;
@@ -56,7 +56,8 @@ impl<L: Ledger, I: Image, E: Eligibility<Alloc = I::Alloc>> Model for Booked<L, 
 
     ghost view = { λ b. b.server };
 
-    ghost invariant = { λ b. (b.book.total ≡ counted_steps b.server) × (b.rest.parts ≡ 0) × (b.passes ≡ L.parts) };
+    ghost invariant = { λ b. (b.book.total ≡ counted_steps b.server) × (b.rest.parts ≡ 0)
+        × (b.passes ≡ L.parts) };
 }
 
 /// One actor's part of the book. It can't be copied, nor made but by `Shared::new`.
@@ -75,7 +76,14 @@ impl<L: Ledger> Model for Pass<L> {
 
     ghost Value = { Score };
 
-    ghost view = { λ p. record { turns = p.turns; share = p.share.amount; last = p.last; held = p.held; choice = p.choice } };
+    ghost view = { λ p.
+        record {
+          turns = p.turns;
+          share = p.share.amount;
+          last = p.last;
+          held = p.held;
+          choice = p.choice;
+        } };
 
     ghost invariant = { λ p. (p.share.parts ≡ 1) × (is_some p.choice ≡ true → 0 < p.held) };
 }
@@ -303,16 +311,16 @@ pub fn turn_attach<L: Ledger, I: Image, E: Eligibility<Alloc = I::Alloc>>(
     export: u32,
 ) -> Result<SessionId, NotAttached>
     ensures step { Stepped {A = I.Alloc} booked.old (event.Attach export) booked.new
-        (attach_says result) }
+        (answer_of_attach result) }
     ensures journals { EventMoves {A = I.Alloc} booked.old (event.Attach export) booked.new
-        (attach_says result) }
+        (answer_of_attach result) }
     ensures seats { booked.new.seats ≡ booked.old.seats }
     ensures export { IfOk result (λ session. session.export ≡ export) }
     ensures pass { pass.new
-        ≡ noted {A = I.Alloc} pass.old (event.Attach export) (attach_says result) }
+        ≡ noted {A = I.Alloc} pass.old (event.Attach export) (answer_of_attach result) }
 {
     let answer = booked.server.attach(export);
-    let told = told_attach::<I::Alloc>(&answer);
+    let told = trace_of_attach::<I::Alloc>(&answer);
     pass.note(&mut booked.book, EventTrace::Attach { export }, told);
     answer
 }
@@ -326,18 +334,18 @@ pub fn turn_arrive<L: Ledger, I: Image, E: Eligibility<Alloc = I::Alloc>>(
     request: Request<I::Alloc>,
 ) -> Result<Arrived, NotArrived<I::Alloc>>
     ensures step { Stepped {A = I.Alloc} booked.old (event.Arrive session.export session.number
-        moment request) booked.new (arrive_says result) }
+        moment request) booked.new (answer_of_arrive result) }
     ensures journals { EventMoves {A = I.Alloc} booked.old (event.Arrive session.export
-        session.number moment request) booked.new (arrive_says result) }
+        session.number moment request) booked.new (answer_of_arrive result) }
     ensures seats { booked.new.seats ≡ booked.old.seats }
     ensures back { IfErr result (λ e. e.request ≡ request) }
     ensures pass { pass.new ≡ noted {A = I.Alloc} pass.old
-        (event.Arrive session.export session.number moment request) (arrive_says result) }
+        (event.Arrive session.export session.number moment request) (answer_of_arrive result) }
 {
     let SessionId { export, number } = session;
     let head = request.head();
     let answer = booked.server.arrive(session, moment, request);
-    let told = told_arrive(&answer);
+    let told = trace_of_arrive(&answer);
     let event = EventTrace::Arrive {
         export,
         session: number,
@@ -373,16 +381,16 @@ pub fn turn_dispatch<L: Ledger, I: Image, E: Eligibility<Alloc = I::Alloc>>(
     moment: Moment,
 ) -> Option<Chosen>
     ensures step { Stepped {A = I.Alloc} booked.old (event.Dispatch moment) booked.new
-        (dispatch_says result) }
+        (answer_of_dispatch result) }
     ensures journals { EventMoves {A = I.Alloc} booked.old (event.Dispatch moment) booked.new
-        (dispatch_says result) }
+        (answer_of_dispatch result) }
     ensures ticket { IfSome result (λ chosen. Holds booked.new chosen.ticket) }
     ensures seats { booked.new.seats ≡ seats_chosen result booked.old.seats }
     ensures pass { pass.new ≡ chosen_by
-        (noted {A = I.Alloc} pass.old (event.Dispatch moment) (dispatch_says result)) result }
+        (noted {A = I.Alloc} pass.old (event.Dispatch moment) (answer_of_dispatch result)) result }
 {
     let answer = booked.server.dispatch(moment);
-    let told = told_dispatch::<I::Alloc>(&answer);
+    let told = trace_of_dispatch::<I::Alloc>(&answer);
     let event = EventTrace::Dispatch { moment };
     pass.note(&mut booked.book, event, told);
     if let Some(chosen) = &answer {
@@ -404,17 +412,18 @@ pub fn turn_perform<L: Ledger, I: Image, E: Eligibility<Alloc = I::Alloc>>(
     ticket: Ticket,
 ) -> Option<bool>
     ensures some { IfSome result (λ memory. Holds booked.old ticket
-        × Stepped {A = I.Alloc} booked.old (event.Perform ticket.export ticket.number) booked.new (answer.Performed memory)) }
+        × Stepped {A = I.Alloc} booked.old (event.Perform ticket.export ticket.number) booked.new
+        (answer.Performed memory)) }
     ensures none { IfNone result ((Holds booked.old ticket → ⊥) × (booked.new ≡ booked.old)) }
     ensures journals { EventMoves {A = I.Alloc} booked.old
-        (event.Perform ticket.export ticket.number) booked.new (perform_says result) }
+        (event.Perform ticket.export ticket.number) booked.new (answer_of_perform result) }
     ensures seats { OnSome result (booked.new.seats
         ≡ change_at (seats_without ticket.number) ticket.export booked.old.seats) }
     ensures pass { pass.new ≡ without (noted {A = I.Alloc} pass.old
-        (event.Perform ticket.export ticket.number) (perform_says result)) ticket }
+        (event.Perform ticket.export ticket.number) (answer_of_perform result)) ticket }
 {
     let answer = booked.server.perform(ticket);
-    let told = told_perform::<I::Alloc>(answer);
+    let told = trace_of_perform::<I::Alloc>(answer);
     let event = EventTrace::Perform {
         export: ticket.export(),
         number: ticket.number(),
@@ -434,16 +443,16 @@ pub fn turn_take<L: Ledger, I: Image, E: Eligibility<Alloc = I::Alloc>>(
     session: SessionId,
 ) -> Result<Taken<I::Alloc>, SessionRefusal>
     ensures step { Stepped {A = I.Alloc} booked.old (event.Take session.export session.number)
-        booked.new (take_says result) }
+        booked.new (answer_of_take result) }
     ensures journals { EventMoves {A = I.Alloc} booked.old
-        (event.Take session.export session.number) booked.new (take_says result) }
+        (event.Take session.export session.number) booked.new (answer_of_take result) }
     ensures seats { booked.new.seats ≡ booked.old.seats }
     ensures pass { pass.new ≡ noted {A = I.Alloc} pass.old
-        (event.Take session.export session.number) (take_says result) }
+        (event.Take session.export session.number) (answer_of_take result) }
 {
     let SessionId { export, number } = session;
     let answer = booked.server.take_reply(session);
-    let told = told_take(&answer);
+    let told = trace_of_take(&answer);
     let event = EventTrace::Take {
         export,
         session: number,
@@ -459,16 +468,16 @@ pub fn turn_leave<L: Ledger, I: Image, E: Eligibility<Alloc = I::Alloc>>(
     session: SessionId,
 ) -> Result<(), SessionRefusal>
     ensures step { Stepped {A = I.Alloc} booked.old (event.Leave session.export session.number)
-        booked.new (leave_says result) }
+        booked.new (answer_of_leave result) }
     ensures journals { EventMoves {A = I.Alloc} booked.old
-        (event.Leave session.export session.number) booked.new (leave_says result) }
+        (event.Leave session.export session.number) booked.new (answer_of_leave result) }
     ensures seats { booked.new.seats ≡ booked.old.seats }
     ensures pass { pass.new ≡ noted {A = I.Alloc} pass.old
-        (event.Leave session.export session.number) (leave_says result) }
+        (event.Leave session.export session.number) (answer_of_leave result) }
 {
     let SessionId { export, number } = session;
     let answer = booked.server.leave(session);
-    let told = told_leave::<I::Alloc>(&answer);
+    let told = trace_of_leave::<I::Alloc>(&answer);
     let event = EventTrace::Leave {
         export,
         session: number,
@@ -484,16 +493,16 @@ pub fn turn_gone<L: Ledger, I: Image, E: Eligibility<Alloc = I::Alloc>>(
     session: SessionId,
 ) -> Result<(), SessionRefusal>
     ensures step { Stepped {A = I.Alloc} booked.old (event.Gone session.export session.number)
-        booked.new (gone_says result) }
+        booked.new (answer_of_gone result) }
     ensures journals { EventMoves {A = I.Alloc} booked.old
-        (event.Gone session.export session.number) booked.new (gone_says result) }
+        (event.Gone session.export session.number) booked.new (answer_of_gone result) }
     ensures seats { booked.new.seats ≡ booked.old.seats }
     ensures pass { pass.new ≡ noted {A = I.Alloc} pass.old
-        (event.Gone session.export session.number) (gone_says result) }
+        (event.Gone session.export session.number) (answer_of_gone result) }
 {
     let SessionId { export, number } = session;
     let answer = booked.server.gone(session);
-    let told = told_gone::<I::Alloc>(&answer);
+    let told = trace_of_gone::<I::Alloc>(&answer);
     let event = EventTrace::Gone {
         export,
         session: number,
@@ -510,15 +519,15 @@ pub fn turn_retune<L: Ledger, I: Image, E: Eligibility<Alloc = I::Alloc>>(
     rates: Rates,
 ) -> Result<(), NotRetuned>
     ensures step { Stepped {A = I.Alloc} booked.old (event.Retune export rates) booked.new
-        (retune_says result) }
+        (answer_of_retune result) }
     ensures journals { EventMoves {A = I.Alloc} booked.old (event.Retune export rates) booked.new
-        (retune_says result) }
+        (answer_of_retune result) }
     ensures seats { booked.new.seats ≡ booked.old.seats }
     ensures pass { pass.new
-        ≡ noted {A = I.Alloc} pass.old (event.Retune export rates) (retune_says result) }
+        ≡ noted {A = I.Alloc} pass.old (event.Retune export rates) (answer_of_retune result) }
 {
     let answer = booked.server.retune(export, rates);
-    let told = told_retune::<I::Alloc>(&answer);
+    let told = trace_of_retune::<I::Alloc>(&answer);
     pass.note(&mut booked.book, EventTrace::Retune { export, rates }, told);
     answer
 }

@@ -2,7 +2,7 @@
 use Rattle.std.specs.Prelude.{◌≡◌, ℕ, true, false, List, [], ◌∷◌, ◌++◌, Option, Result}
 use Rattle.std.specs.Io.KnownBytes.{Appends, Keeps}
 use Rattle.nbd_wire.specs.Grammar.{ReplyMessage, reply_text}
-use Rattle.nbd_session.specs.declared.fill.WriteFailed.{WriteFailed}
+use Rattle.nbd_session.specs.declared.exact_io.WriteFailed.{WriteFailed}
 use Rattle.nbd_session.specs.Streams.{WritesPart}
 use Rattle.session_turns.specs.Outgoing.{Outgoing, IsFresh, Writes, texts_of}
 

@@ -7,7 +7,7 @@ use Rattle.server_table.specs.declared.event.Answer.{Answer}
 use Rattle.server_table.specs.declared.event.Answer.TheVariants as said
 use Rattle.server_core.specs.declared.session.SessionId.{SessionId}
 use Rattle.server_core.specs.declared.refusal.SessionRefusal.{SessionRefusal}
-use Rattle.server_core.specs.Served.{Served, Stepped, arrive_says, refusal_says}
+use Rattle.server_core.specs.Served.{Served, Stepped, answer_of_arrive, answer_of_refusal}
 use Rattle.server_lock.specs.Scores.{Score, noted}
 use Rattle.nbd_session.specs.declared.ending.Frame.{Frame}
 use Rattle.nbd_session.specs.declared.ending.Frame.TheVariants as frames
@@ -25,13 +25,13 @@ module _ (A : Type 0) where
   -- the session left, or it was refused since it isn't open
   abbrev pub MakesLeave : Served → Score → SessionId → Served → Score → Type 0
   MakesLeave old p s new q = Makes old p (event.Leave s.export s.number) said.Left new q
-      ⊎ ((e : SessionRefusal) × Makes old p (event.Leave s.export s.number) (refusal_says {A = A} e) new q)
+      ⊎ ((e : SessionRefusal) × Makes old p (event.Leave s.export s.number) (answer_of_refusal {A = A} e) new q)
 
   -- the arrival, and where the export is worn or no memory was there, the leaving behind it
   abbrev pub MakesOffer : Served → Score → SessionId → Event A → Turn A → Served → Score → Type 0
-  MakesOffer old p s what (Going a) new q = Makes old p what (arrive_says {A = A} (Ok a.answer)) new q
+  MakesOffer old p s what (Going a) new q = Makes old p what (answer_of_arrive {A = A} (Ok a.answer)) new q
   MakesOffer old p s what (Held back) new q = Makes old p what said.Hold new q
-  MakesOffer old p s what Ended new q = ((e : SessionRefusal) × Makes old p what (refusal_says {A = A} e) new q)
+  MakesOffer old p s what Ended new q = ((e : SessionRefusal) × Makes old p what (answer_of_refusal {A = A} e) new q)
       ⊎ ((mid : Served) × (m : Score) × Makes old p what said.Worn mid m × MakesLeave mid m s new q)
       ⊎ ((mid : Served) × (m : Score) × Makes old p what said.NoMemory mid m × MakesLeave mid m s new q)
 

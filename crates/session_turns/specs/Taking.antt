@@ -5,7 +5,7 @@ use Rattle.server_table.specs.declared.event.Event.TheVariants as event
 use Rattle.server_table.specs.declared.event.Answer.{Answer}
 use Rattle.server_table.specs.declared.event.Answer.TheVariants as said
 use Rattle.server_core.specs.declared.session.SessionId.{SessionId}
-use Rattle.server_core.specs.Served.{Served, Stepped, refusal_says}
+use Rattle.server_core.specs.Served.{Served, Stepped, answer_of_refusal}
 use Rattle.server_lock.specs.declared.trace.AnswerTrace.TheVariants as answer
 use Rattle.server_lock.specs.Scores.{Score, noted}
 use Rattle.session_turns.specs.SessionTurns.{Turns, IsTake, IsGiven, IsRefused}
@@ -28,7 +28,7 @@ module _ (A : Type 0) where
   TakesNone old p s Full new q = ⊥
   TakesNone old p s Empty new q = TakeSays old p s said.Empty new q
   TakesNone old p s End new q = TakeSays old p s said.End new q
-  TakesNone old p s (Refused e) new q = TakeSays old p s (refusal_says e) new q
+  TakesNone old p s (Refused e) new q = TakeSays old p s (answer_of_refusal e) new q
 
   -- a reply, or none
   abbrev pub TakesReply : Served → Score → SessionId → Result ReplyMessage Stop → Served → Score → Type 0
@@ -40,7 +40,7 @@ module _ (A : Type 0) where
   Stops old p s room count Full new q = (room ≤ count) × (old ≡ new) × (p ≡ q)
   Stops old p s room count Empty new q = TakeSays old p s said.Empty new q
   Stops old p s room count End new q = TakeSays old p s said.End new q
-  Stops old p s room count (Refused e) new q = TakeSays old p s (refusal_says e) new q
+  Stops old p s room count (Refused e) new q = TakeSays old p s (answer_of_refusal e) new q
 
   -- the session's takes give replies, which go behind those that a list of so much room has, and then stop
   pub record Takes (old : Served) (p : Score) (s : SessionId) (before : List ReplyMessage) (room : ℕ) (stop : Stop) (all : List ReplyMessage) (new : Served) (q : Score) : Type 0 where

@@ -34,7 +34,14 @@ impl<W: Write + Drop, A: Allocator> Model for ReplyWriter<W, A> {
 
     ghost Value = { Outgoing };
 
-    ghost view = { λ r. record { text = W.contents r.writer.inner; failures = r.writer.failures; waiting = r.waiting.items; room = vec_capacity r.waiting; broken = r.broken } };
+    ghost view = { λ r.
+        record {
+          text = W.contents r.writer.inner;
+          failures = r.writer.failures;
+          waiting = r.waiting.items;
+          room = vec_capacity r.waiting;
+          broken = r.broken;
+        } };
 }
 
 /// Writes replies one behind another.

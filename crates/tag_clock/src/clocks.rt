@@ -78,7 +78,13 @@ impl Model for ShareClock {
 
     ghost Value = { Share };
 
-    ghost view = { λ clock. record { r_interval = clock.r_interval; p_interval = clock.p_interval; last_r = clock.last_r; last_p = clock.last_p } };
+    ghost view = { λ clock.
+        record {
+          r_interval = clock.r_interval;
+          p_interval = clock.p_interval;
+          last_r = clock.last_r;
+          last_p = clock.last_p;
+        } };
 }
 
 impl ShareClock {

@@ -23,11 +23,26 @@ impl Model for Tuning {
 
     ghost Value = { Intervals };
 
-    ghost view = { λ tuning. record { r_interval = tuning.r_interval; l_interval = tuning.l_interval; p_interval = tuning.p_interval } };
+    ghost view = { λ tuning.
+        record {
+          r_interval = tuning.r_interval;
+          l_interval = tuning.l_interval;
+          p_interval = tuning.p_interval;
+        } };
 
-    ghost invariant = { λ tuning. AreIntervals (record { r_interval = tuning.r_interval; l_interval = tuning.l_interval; p_interval = tuning.p_interval }) };
+    ghost invariant = { λ tuning.
+        AreIntervals (record {
+          r_interval = tuning.r_interval;
+          l_interval = tuning.l_interval;
+          p_interval = tuning.p_interval;
+        }) };
 
-    ghost inverse = { λ v. record { r_interval = v.r_interval; l_interval = v.l_interval; p_interval = v.p_interval } };
+    ghost inverse = { λ v.
+        record {
+          r_interval = v.r_interval;
+          l_interval = v.l_interval;
+          p_interval = v.p_interval;
+        } };
 }
 
 fn reservation_interval(rate: u32) -> Option<u64>

@@ -1,11 +1,11 @@
-//! How a step is made on a base, together with those that are late.
+//! How a step is made on a base, together with those that are deferred.
 ghost use Rattle.std.specs.Prelude.{◌≡◌, ◌<◌, [], ◌∷◌, length, true, IfOk, IfErr, OnOk};
 ghost use Rattle.lone_export.specs.Lone.{IsIdleFor, DoesAll, MayReplay, is_reading};
 ghost use Rattle.lone_export.specs.declared.step.Step.TheVariants as step;
 ghost use Rattle.std.specs.Bool.{OnTrue, OnFalse};
 ghost use Rattle.export_cell.specs.Past.{arrival_of, past_of, IsPast, IsPicked, Goes, Comes, Stays};
 
-use crate::late::{Arrival, Late};
+use crate::deferred::{Arrival, Deferred};
 use export_store::Image;
 use lone_export::{Lone, Step};
 use nbd_wire::Request;
@@ -14,95 +14,96 @@ use std::alloc::Allocator;
 use std::mem;
 use tag_clock::Moment;
 
-/// A step for which no memory was there, and the steps that are late now.
+/// A step for which no memory was there, and the steps that are deferred now.
 #[derive(Drop)]
 pub(super) struct Unmade<A: Allocator> {
-    pub(super) late: Late<A>,
+    pub(super) deferred: Deferred<A>,
     pub(super) step: Step<A>,
 }
 
-/// Makes a step, at once with those that are late where they go together. Tells what is late from then on.
+/// Makes a step, at once with those that are deferred where they go together. Tells what is deferred from then on.
 pub(super) fn remade<I: Image>(
     lone: &mut Lone<I>,
-    late: Late<I::Alloc>,
+    deferred: Deferred<I::Alloc>,
     step: Step<I::Alloc>,
-) -> Result<Late<I::Alloc>, Unmade<I::Alloc>>
-    requires past { IsPast lone.old late }
-    requires may { MayReplay (past_of lone.old late) step }
-    ensures ok { IfOk result (λ after. Comes lone.old late step lone.new after) }
+) -> Result<Deferred<I::Alloc>, Unmade<I::Alloc>>
+    requires past { IsPast lone.old deferred }
+    requires may { MayReplay (past_of lone.old deferred) step }
+    ensures ok { IfOk result (λ after. Comes lone.old deferred step lone.new after) }
     ensures err { IfErr result (λ back. (back.step ≡ step)
-        × Stays lone.old late lone.new back.late) }
+        × Stays lone.old deferred lone.new back.deferred) }
 {
     match step {
         Step::Arrive {
             session,
             moment,
             request,
-        } => arrived(lone, late, session, moment, request),
-        Step::Pick => picked(lone, late).map_err(|late| Unmade {
-            late,
+        } => arrived(lone, deferred, session, moment, request),
+        Step::Pick => picked(lone, deferred).map_err(|deferred| Unmade {
+            deferred,
             step: Step::Pick,
         }),
         Step::Perform { number, memory } => {
-            performed(lone, late, number, memory).map_err(|late| Unmade {
-                late,
+            performed(lone, deferred, number, memory).map_err(|deferred| Unmade {
+                deferred,
                 step: Step::Perform { number, memory },
             })
         }
-        Step::Take { session } => taken(lone, late, session).map_err(|late| Unmade {
-            late,
+        Step::Take { session } => taken(lone, deferred, session).map_err(|deferred| Unmade {
+            deferred,
             step: Step::Take { session },
         }),
-        step => match replayed(lone, late, &step) {
-            Ok(late) => Ok(late),
-            Err(late) => Err(Unmade { late, step }),
+        step => match replayed(lone, deferred, &step) {
+            Ok(deferred) => Ok(deferred),
+            Err(deferred) => Err(Unmade { deferred, step }),
         },
     }
 }
 
-/// Makes a pick or a take where neither what is late nor the step has to be moved for it, as most can be. False where it isn't
+/// Makes a pick or a take where neither what is deferred nor the step has to be moved for it, as most can be. False where it isn't
 /// such a step: then nothing is done.
 pub(super) fn made_in_place<I: Image>(
     lone: &mut Lone<I>,
-    late: &mut Late<I::Alloc>,
+    deferred: &mut Deferred<I::Alloc>,
     step: &Step<I::Alloc>,
 ) -> bool
-    requires past { IsPast lone.old late.old }
-    requires may { MayReplay (past_of lone.old late.old) step.now }
-    ensures made { OnTrue result (Comes lone.old late.old step.now lone.new late.new) }
-    ensures stays { OnFalse result ((lone.new ≡ lone.old) × (late.new ≡ late.old)) }
+    requires past { IsPast lone.old deferred.old }
+    requires may { MayReplay (past_of lone.old deferred.old) step.now }
+    ensures made { OnTrue result (Comes lone.old deferred.old step.now lone.new deferred.new) }
+    ensures stays { OnFalse result ((lone.new ≡ lone.old) × (deferred.new ≡ deferred.old)) }
 {
     match step {
-        Step::Pick => pick_late(late),
-        Step::Take { session } => take_alone(lone, late, *session),
+        Step::Pick => pick_deferred(deferred),
+        Step::Take { session } => take_alone(lone, deferred, *session),
         _ => false,
     }
 }
 
-/// The request that arrived is picked, where one is late. False where none is.
-fn pick_late<A: Allocator>(late: &mut Late<A>) -> bool
-    ensures picked { OnTrue result (IsPicked late.old late.new) }
-    ensures stays { OnFalse result (late.new ≡ late.old) }
+/// The request that arrived is picked, where one is deferred. False where none is.
+fn pick_deferred<A: Allocator>(deferred: &mut Deferred<A>) -> bool
+    ensures picked { OnTrue result (IsPicked deferred.old deferred.new) }
+    ensures stays { OnFalse result (deferred.new ≡ deferred.old) }
 {
-    match mem::replace(late, Late::Nothing) {
-        Late::Arrived(arrival) => {
-            *late = Late::Picked(arrival);
+    match mem::replace(deferred, Deferred::Nothing) {
+        Deferred::Arrived(arrival) => {
+            *deferred = Deferred::Picked(arrival);
             true
         }
         other => {
-            *late = other;
+            *deferred = other;
             false
         }
     }
 }
 
-/// The session's oldest reply is taken, where nothing is late. False where something is.
-fn take_alone<I: Image>(lone: &mut Lone<I>, late: &Late<I::Alloc>, session: u64) -> bool
-    ensures made { OnTrue result (Comes lone.old late.now (step.Take session) lone.new late.now) }
+/// The session's oldest reply is taken, where nothing is deferred. False where something is.
+fn take_alone<I: Image>(lone: &mut Lone<I>, deferred: &Deferred<I::Alloc>, session: u64) -> bool
+    ensures made { OnTrue result
+        (Comes lone.old deferred.now (step.Take session) lone.new deferred.now) }
     ensures stays { OnFalse result (lone.new ≡ lone.old) }
 {
-    match late {
-        Late::Nothing => {
+    match deferred {
+        Deferred::Nothing => {
             let _ = lone.take(session);
             true
         }
@@ -112,99 +113,99 @@ fn take_alone<I: Image>(lone: &mut Lone<I>, late: &Late<I::Alloc>, session: u64)
 
 fn arrived<I: Image>(
     lone: &mut Lone<I>,
-    late: Late<I::Alloc>,
+    deferred: Deferred<I::Alloc>,
     session: u64,
     moment: Moment,
     request: Request<I::Alloc>,
-) -> Result<Late<I::Alloc>, Unmade<I::Alloc>>
-    requires { IsPast lone.old late }
+) -> Result<Deferred<I::Alloc>, Unmade<I::Alloc>>
+    requires { IsPast lone.old deferred }
     ensures ok { IfOk result (λ after.
-        Comes lone.old late (step.Arrive session moment request) lone.new after) }
+        Comes lone.old deferred (step.Arrive session moment request) lone.new after) }
     ensures err { IfErr result (λ back. (back.step ≡ step.Arrive session moment request)
-        × Stays lone.old late lone.new back.late) }
+        × Stays lone.old deferred lone.new back.deferred) }
 {
-    if let Err(late) = catch_up(lone, late) {
+    if let Err(deferred) = catch_up(lone, deferred) {
         let step = Step::Arrive {
             session,
             moment,
             request,
         };
-        return Err(Unmade { late, step });
+        return Err(Unmade { deferred, step });
     }
     if lone.is_idle_for(session, &request) {
-        return Ok(Late::Arrived(Arrival {
+        return Ok(Deferred::Arrived(Arrival {
             session,
             moment,
             request,
         }));
     }
     let _ = lone.arrive(session, moment, request);
-    Ok(Late::Nothing)
+    Ok(Deferred::Nothing)
 }
 
 fn picked<I: Image>(
     lone: &mut Lone<I>,
-    late: Late<I::Alloc>,
-) -> Result<Late<I::Alloc>, Late<I::Alloc>>
-    requires past { IsPast lone.old late }
-    requires room { length (past_of lone.old late).state.out < lone.old.inflight }
-    ensures ok { IfOk result (λ after. Comes lone.old late step.Pick lone.new after) }
-    ensures err { IfErr result (λ back. Stays lone.old late lone.new back) }
+    deferred: Deferred<I::Alloc>,
+) -> Result<Deferred<I::Alloc>, Deferred<I::Alloc>>
+    requires past { IsPast lone.old deferred }
+    requires room { length (past_of lone.old deferred).state.out < lone.old.inflight }
+    ensures ok { IfOk result (λ after. Comes lone.old deferred step.Pick lone.new after) }
+    ensures err { IfErr result (λ back. Stays lone.old deferred lone.new back) }
 {
-    let late = match late {
-        Late::Arrived(arrival) => return Ok(Late::Picked(arrival)),
-        late => late,
+    let deferred = match deferred {
+        Deferred::Arrived(arrival) => return Ok(Deferred::Picked(arrival)),
+        deferred => deferred,
     };
-    if let Err(late) = catch_up(lone, late) {
-        return Err(late);
+    if let Err(deferred) = catch_up(lone, deferred) {
+        return Err(deferred);
     }
     let _ = lone.pick();
-    Ok(Late::Nothing)
+    Ok(Deferred::Nothing)
 }
 
 fn performed<I: Image>(
     lone: &mut Lone<I>,
-    late: Late<I::Alloc>,
+    deferred: Deferred<I::Alloc>,
     number: u64,
     memory: bool,
-) -> Result<Late<I::Alloc>, Late<I::Alloc>>
-    requires { IsPast lone.old late }
+) -> Result<Deferred<I::Alloc>, Deferred<I::Alloc>>
+    requires { IsPast lone.old deferred }
     ensures ok { IfOk result (λ after.
-        Comes lone.old late (step.Perform number memory) lone.new after) }
-    ensures err { IfErr result (λ back. Stays lone.old late lone.new back) }
+        Comes lone.old deferred (step.Perform number memory) lone.new after) }
+    ensures err { IfErr result (λ back. Stays lone.old deferred lone.new back) }
 {
-    let late = match late {
-        Late::Picked(arrival) if memory && number == lone.next_number() => {
+    let deferred = match deferred {
+        Deferred::Picked(arrival) if memory && number == lone.next_number() => {
             return performed_at_once(lone, arrival);
         }
-        late => late,
+        deferred => deferred,
     };
-    if let Err(late) = catch_up(lone, late) {
-        return Err(late);
+    if let Err(deferred) = catch_up(lone, deferred) {
+        return Err(deferred);
     }
     if memory && lone.is_reading(number) {
-        return Ok(Late::Performed(number));
+        return Ok(Deferred::Performed(number));
     }
     let perform = Step::Perform { number, memory };
     match lone.replay(&perform) {
-        Ok(_) => Ok(Late::Nothing),
-        Err(_) => Err(Late::Nothing),
+        Ok(_) => Ok(Deferred::Nothing),
+        Err(_) => Err(Deferred::Nothing),
     }
 }
 
-/// The request that arrived and was picked is performed as well, but for a READ, which is late.
+/// The request that arrived and was picked is performed as well, but for a READ, which is deferred.
 fn performed_at_once<I: Image>(
     lone: &mut Lone<I>,
     arrival: Arrival<I::Alloc>,
-) -> Result<Late<I::Alloc>, Late<I::Alloc>>
+) -> Result<Deferred<I::Alloc>, Deferred<I::Alloc>>
     requires idle { IsIdleFor lone.old.terms lone.old.state arrival.session arrival.request }
     requires room { 0 < lone.old.inflight }
-    ensures ok { IfOk result (λ after. Comes lone.old (Late.Picked arrival)
+    ensures ok { IfOk result (λ after. Comes lone.old (Deferred.Picked arrival)
         (step.Perform lone.old.state.next true) lone.new after) }
-    ensures err { IfErr result (λ back. Stays lone.old (Late.Picked arrival) lone.new back) }
+    ensures err { IfErr result (λ back. Stays lone.old (Deferred.Picked arrival) lone.new back) }
 {
     if arrival.request.head().kind == READ {
-        return Ok(Late::Read(arrival));
+        return Ok(Deferred::Read(arrival));
     }
     let Arrival {
         session,
@@ -212,8 +213,8 @@ fn performed_at_once<I: Image>(
         request,
     } = arrival;
     match lone.serve(session, moment, request) {
-        Ok(()) => Ok(Late::Nothing),
-        Err(request) => Err(Late::Picked(Arrival {
+        Ok(()) => Ok(Deferred::Nothing),
+        Err(request) => Err(Deferred::Picked(Arrival {
             session,
             moment,
             request,
@@ -223,75 +224,79 @@ fn performed_at_once<I: Image>(
 
 fn taken<I: Image>(
     lone: &mut Lone<I>,
-    late: Late<I::Alloc>,
+    deferred: Deferred<I::Alloc>,
     session: u64,
-) -> Result<Late<I::Alloc>, Late<I::Alloc>>
-    requires { IsPast lone.old late }
-    ensures ok { IfOk result (λ after. Comes lone.old late (step.Take session) lone.new after) }
-    ensures err { IfErr result (λ back. Stays lone.old late lone.new back) }
+) -> Result<Deferred<I::Alloc>, Deferred<I::Alloc>>
+    requires { IsPast lone.old deferred }
+    ensures ok { IfOk result (λ after. Comes lone.old deferred (step.Take session) lone.new after) }
+    ensures err { IfErr result (λ back. Stays lone.old deferred lone.new back) }
 {
-    let late = match late {
-        Late::Read(arrival) if arrival.session == session => {
-            lone.pass(session, arrival.moment, &arrival.request);
-            return Ok(Late::Nothing);
+    let deferred = match deferred {
+        Deferred::Read(arrival) if arrival.session == session => {
+            lone.serve_dropped_read(session, arrival.moment, &arrival.request);
+            return Ok(Deferred::Nothing);
         }
-        late => late,
+        deferred => deferred,
     };
-    if let Late::Performed(number) = late {
+    if let Deferred::Performed(number) = deferred {
         if lone.skip_read(number, session) {
-            return Ok(Late::Nothing);
+            return Ok(Deferred::Nothing);
         }
     }
-    if let Err(late) = catch_up(lone, late) {
-        return Err(late);
+    if let Err(deferred) = catch_up(lone, deferred) {
+        return Err(deferred);
     }
     let _ = lone.take(session);
-    Ok(Late::Nothing)
+    Ok(Deferred::Nothing)
 }
 
-/// A step of another kind is made once those that are late are.
+/// A step of another kind is made once those that are deferred are.
 fn replayed<I: Image>(
     lone: &mut Lone<I>,
-    late: Late<I::Alloc>,
+    deferred: Deferred<I::Alloc>,
     step: &Step<I::Alloc>,
-) -> Result<Late<I::Alloc>, Late<I::Alloc>>
-    requires past { IsPast lone.old late }
-    requires may { MayReplay (past_of lone.old late) step.now }
-    ensures ok { IfOk result (λ after. Comes lone.old late step.now lone.new after) }
-    ensures err { IfErr result (λ back. Stays lone.old late lone.new back) }
+) -> Result<Deferred<I::Alloc>, Deferred<I::Alloc>>
+    requires past { IsPast lone.old deferred }
+    requires may { MayReplay (past_of lone.old deferred) step.now }
+    ensures ok { IfOk result (λ after. Comes lone.old deferred step.now lone.new after) }
+    ensures err { IfErr result (λ back. Stays lone.old deferred lone.new back) }
 {
-    if let Err(late) = catch_up(lone, late) {
-        return Err(late);
+    if let Err(deferred) = catch_up(lone, deferred) {
+        return Err(deferred);
     }
     match lone.replay(step) {
-        Ok(_) => Ok(Late::Nothing),
-        Err(_) => Err(Late::Nothing),
+        Ok(_) => Ok(Deferred::Nothing),
+        Err(_) => Err(Deferred::Nothing),
     }
 }
 
-/// Makes the steps that are late, one after another.
+/// Makes the steps that are deferred, one after another.
 #[inline(never)]
-fn catch_up<I: Image>(lone: &mut Lone<I>, late: Late<I::Alloc>) -> Result<(), Late<I::Alloc>>
-    requires { IsPast lone.old late }
-    ensures ok { OnOk result (past_of {A = I.Alloc} lone.new Late.Nothing ≡ past_of lone.old late) }
-    ensures err { IfErr result (λ back. Stays lone.old late lone.new back) }
+fn catch_up<I: Image>(
+    lone: &mut Lone<I>,
+    deferred: Deferred<I::Alloc>,
+) -> Result<(), Deferred<I::Alloc>>
+    requires { IsPast lone.old deferred }
+    ensures ok { OnOk result (past_of {A = I.Alloc} lone.new Deferred.Nothing
+        ≡ past_of lone.old deferred) }
+    ensures err { IfErr result (λ back. Stays lone.old deferred lone.new back) }
 {
-    match late {
-        Late::Nothing => Ok(()),
-        Late::Arrived(arrival) => {
+    match deferred {
+        Deferred::Nothing => Ok(()),
+        Deferred::Arrived(arrival) => {
             arrive(lone, arrival);
             Ok(())
         }
-        Late::Picked(arrival) => {
+        Deferred::Picked(arrival) => {
             arrive_and_pick(lone, arrival);
             Ok(())
         }
-        Late::Read(arrival) => {
+        Deferred::Read(arrival) => {
             let number = lone.next_number();
             arrive_and_pick(lone, arrival);
             read(lone, number)
         }
-        Late::Performed(number) => read(lone, number),
+        Deferred::Performed(number) => read(lone, number),
     }
 }
 
@@ -318,11 +323,11 @@ fn arrive_and_pick<I: Image>(lone: &mut Lone<I>, arrival: Arrival<I::Alloc>)
 }
 
 /// The READ that is in service under this number is performed.
-fn read<I: Image>(lone: &mut Lone<I>, number: u64) -> Result<(), Late<I::Alloc>>
+fn read<I: Image>(lone: &mut Lone<I>, number: u64) -> Result<(), Deferred<I::Alloc>>
     requires { is_reading lone.old.state number ≡ true }
-    ensures ok { OnOk result (past_of {A = I.Alloc} lone.new Late.Nothing
-        ≡ past_of {A = I.Alloc} lone.old (Late.Performed number)) }
-    ensures err { IfErr result (λ back. Stays lone.old (Late.Performed number) lone.new back) }
+    ensures ok { OnOk result (past_of {A = I.Alloc} lone.new Deferred.Nothing
+        ≡ past_of {A = I.Alloc} lone.old (Deferred.Performed number)) }
+    ensures err { IfErr result (λ back. Stays lone.old (Deferred.Performed number) lone.new back) }
 {
     let perform = Step::Perform {
         number,
@@ -330,6 +335,6 @@ fn read<I: Image>(lone: &mut Lone<I>, number: u64) -> Result<(), Late<I::Alloc>>
     };
     match lone.replay(&perform) {
         Ok(_) => Ok(()),
-        Err(_) => Err(Late::Performed(number)),
+        Err(_) => Err(Deferred::Performed(number)),
     }
 }

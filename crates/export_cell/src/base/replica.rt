@@ -6,7 +6,7 @@ ghost use Rattle.lone_export.specs.Lone.{opening_of, MayReplay};
 ghost use Rattle.export_cell.specs.Past.{Goes};
 
 use super::remaking::{made_in_place, remade};
-use crate::late::Late;
+use crate::deferred::Deferred;
 use crate::work::work_of;
 use export_store::{Image, Swept};
 use lone_export::{Lone, Step};
@@ -18,12 +18,12 @@ use std::mem;
 
 /// An export on which steps are made again.
 ///
-/// Its latest steps may be late: those of a request that comes to an export without any other are made at once, with its Perform, or where
+/// Its latest steps may be deferred: those of a request that comes to an export without any other are made at once, with its Perform, or where
 /// it is a READ with the step that takes its reply, which nobody looks at: so no data are read.
 #[derive(Drop)]
 pub(super) struct Replica<I: Image> {
     lone: Lone<I>,
-    late: Late<I::Alloc>,
+    deferred: Deferred<I::Alloc>,
 }
 
 impl<I: Image> Model for Replica<I> {
@@ -32,9 +32,9 @@ impl<I: Image> Model for Replica<I> {
 
     ghost Value = { Whole };
 
-    ghost view = { λ b. past_of b.lone b.late };
+    ghost view = { λ b. past_of b.lone b.deferred };
 
-    ghost invariant = { λ b. IsPast b.lone b.late };
+    ghost invariant = { λ b. IsPast b.lone b.deferred };
 }
 
 impl<I: Image> Replica<I> {
@@ -50,7 +50,7 @@ impl<I: Image> Replica<I> {
         let lone = Lone::new(alloc, config, inflight)?;
         Ok(Replica {
             lone,
-            late: Late::Nothing,
+            deferred: Deferred::Nothing,
         })
     }
 
@@ -60,12 +60,12 @@ impl<I: Image> Replica<I> {
         ensures few { result ≤ 2 ^ 58 + 3 }
     {
         self.lone.laws();
-        match &self.late {
-            Late::Nothing => self.lone.steps(),
-            Late::Arrived(_) => self.lone.steps() + 1,
-            Late::Picked(_) => self.lone.steps() + 2,
-            Late::Read(_) => self.lone.steps() + 3,
-            Late::Performed(_) => self.lone.steps() + 1,
+        match &self.deferred {
+            Deferred::Nothing => self.lone.steps(),
+            Deferred::Arrived(_) => self.lone.steps() + 1,
+            Deferred::Picked(_) => self.lone.steps() + 2,
+            Deferred::Read(_) => self.lone.steps() + 3,
+            Deferred::Performed(_) => self.lone.steps() + 1,
         }
     }
 
@@ -101,8 +101,8 @@ impl<I: Image> Replica<I> {
 
     // The head of the request that is in service under this number.
     fn head_of(&self, number: u64) -> Option<RequestHead> {
-        match &self.late {
-            Late::Picked(arrival) if number == self.lone.next_number() => {
+        match &self.deferred {
+            Deferred::Picked(arrival) if number == self.lone.next_number() => {
                 Some(arrival.request.head())
             }
             _ => self.lone.head_of(number),
@@ -115,17 +115,17 @@ impl<I: Image> Replica<I> {
         ensures ok { OnOk result (Goes {A = I.Alloc} self.old self.new step) }
         ensures err { IfErr result (λ back. (back ≡ step) × (self.new ≡ self.old)) }
     {
-        if made_in_place(&mut self.lone, &mut self.late, &step) {
+        if made_in_place(&mut self.lone, &mut self.deferred, &step) {
             return Ok(());
         }
-        let late = mem::replace(&mut self.late, Late::Nothing);
-        match remade(&mut self.lone, late, step) {
-            Ok(late) => {
-                self.late = late;
+        let deferred = mem::replace(&mut self.deferred, Deferred::Nothing);
+        match remade(&mut self.lone, deferred, step) {
+            Ok(deferred) => {
+                self.deferred = deferred;
                 Ok(())
             }
             Err(back) => {
-                self.late = back.late;
+                self.deferred = back.deferred;
                 Err(back.step)
             }
         }

@@ -12,7 +12,7 @@ enum Retuning {
     Logged,
     // An export of its own, on which the cell's log is made again, goes on as the cell does.
     MadeAgain,
-    // The steps of a READ are late in the base when the retunes between them come there.
+    // The steps of a READ are deferred in the base when the retunes between them come there.
     InTheBase,
     // The rates stay behind so many retunes, with which the log may be as long as it has room.
     StaysBehind(u64),

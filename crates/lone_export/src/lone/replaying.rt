@@ -7,10 +7,11 @@ ghost use Rattle.nbd_commands.specs.Meaning.{image_after, data_of, may_want_memo
 ghost use Rattle.lone_export.specs.Lone.{Does, MayReplay, IsReplayed, StopsAt, mark_again, wants_memory};
 
 use crate::lone::{Lone, settle};
-use crate::said::{
-    arrived_said, attach_said, gone_said, leave_said, pick_said, retune_said, take_said,
-};
 use crate::step::{Step, StepAnswer};
+use crate::step_answers::{
+    step_answer_of_arrive, step_answer_of_attach, step_answer_of_gone, step_answer_of_leave,
+    step_answer_of_pick, step_answer_of_retune, step_answer_of_take,
+};
 use export_store::Image;
 use nbd_base::NoMemory;
 use nbd_commands::{Done, apply, may_want_memory};
@@ -33,7 +34,7 @@ impl<I: Image> Lone<I> {
     {
         match step {
             Step::Attach => {
-                let Some(answer) = attach_said(self.attach()) else {
+                let Some(answer) = step_answer_of_attach(self.attach()) else {
                     return Err(NoMemory);
                 };
                 Ok(answer)
@@ -46,14 +47,14 @@ impl<I: Image> Lone<I> {
                 let Ok(request) = request.clone() else {
                     return Err(NoMemory);
                 };
-                Ok(arrived_said(self.arrive(*session, *moment, request)))
+                Ok(step_answer_of_arrive(self.arrive(*session, *moment, request)))
             }
-            Step::Pick => Ok(pick_said(self.pick())),
+            Step::Pick => Ok(step_answer_of_pick(self.pick())),
             Step::Perform { number, memory } => self.perform_again(*number, *memory),
-            Step::Take { session } => Ok(take_said(self.take(*session))),
-            Step::Leave { session } => Ok(leave_said(self.leave(*session))),
-            Step::Gone { session } => Ok(gone_said(self.gone(*session))),
-            Step::Retune { rates } => Ok(retune_said(self.retune(*rates))),
+            Step::Take { session } => Ok(step_answer_of_take(self.take(*session))),
+            Step::Leave { session } => Ok(step_answer_of_leave(self.leave(*session))),
+            Step::Gone { session } => Ok(step_answer_of_gone(self.gone(*session))),
+            Step::Retune { rates } => Ok(step_answer_of_retune(self.retune(*rates))),
         }
     }
 
@@ -138,7 +139,8 @@ fn apply_again<I: Image>(
     ensures done { IfSome result (λ done. OnTrue done.memory ((done.error ≡ 0)
         × (done.content ≡ data_of (I.bytes image.old) request.now)
         × (I.bytes image.new ≡ image_after (I.bytes image.old) request.now))) }
-    ensures no_memory { IfSome result (λ done. OnFalse done.memory ((done.error ≡ 12) × (done.content ≡ [])
+    ensures no_memory { IfSome result
+        (λ done. OnFalse done.memory ((done.error ≡ 12) × (done.content ≡ [])
         × (I.bytes image.new ≡ I.bytes image.old)
         × IsTrue (may_want_memory request.now))) }
     ensures none { IfNone result ((I.bytes image.new ≡ I.bytes image.old)

@@ -34,7 +34,7 @@ impl<I: Image> Lone<I> {
     }
 
     /// Whether no request waits or is in service, and one of the session would be the only one, if it arrived, and its reply the next that
-    /// the session takes. Then `serve` and `pass` may make its steps.
+    /// the session takes. Then `serve` and `serve_dropped_read` may make its steps.
     pub fn is_idle_for(&self, session: u64, request: &Request<I::Alloc>) -> bool
         ensures { IsTrue result ↔ IsIdleFor self.now.terms self.now.state session request.now }
     {
@@ -79,7 +79,7 @@ impl<I: Image> Lone<I> {
 
     /// Makes all four steps of a READ: it arrives, is picked and performed with memory, and its reply is taken. No data are read, since
     /// the reply is dropped.
-    pub fn pass(&mut self, session: u64, moment: Moment, request: &Request<I::Alloc>)
+    pub fn serve_dropped_read(&mut self, session: u64, moment: Moment, request: &Request<I::Alloc>)
         requires idle { IsIdleFor self.old.terms self.old.state session request.now }
         requires read { is_read request.now ≡ true }
         ensures { DoesAll {A = I.Alloc} self.old self.new

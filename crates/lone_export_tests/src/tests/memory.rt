@@ -1,6 +1,6 @@
 //! Each growth is refused in turn: a call that finds no memory leaves all as it was, and succeeds when it is made again.
 
-use super::said::is_told;
+use super::step_answers::is_told;
 use super::*;
 use nbd_commands::ExportConfig;
 use refusing::Refusing;

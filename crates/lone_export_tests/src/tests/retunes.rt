@@ -1,7 +1,7 @@
 //! Rates that change while an export runs.
 
 use super::runs::first_wrong;
-use super::said::remade;
+use super::step_answers::remade;
 use super::*;
 use refusing::Refusing;
 

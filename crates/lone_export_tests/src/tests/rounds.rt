@@ -20,7 +20,7 @@ fn served<A: Allocator + Copy>(
 fn passed(lone: &mut Alone, session: u64, read: &Request<Global>) -> bool {
     let passes = read.head().kind == READ && lone.is_idle_for(session, read);
     if passes {
-        lone.pass(session, Moment::zero(), read);
+        lone.serve_dropped_read(session, Moment::zero(), read);
     }
     passes
 }

@@ -1,6 +1,6 @@
 //! Runs that were worked out by hand, by an export's own calls and by replays.
 
-use super::said::{is_told, made, remade};
+use super::step_answers::{is_told, made, remade};
 use super::*;
 
 // Whether a call is answered as was worked out.

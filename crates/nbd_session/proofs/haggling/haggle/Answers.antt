@@ -4,9 +4,9 @@ use Rattle.std.proofs.lemmas.List.{length-take, append-nil}
 use Rattle.std.proofs.lemmas.Result.{err_from_is_err_and}
 use Rattle.std.specs.Io.KnownBytes.{Appends, Consumes}
 use Rattle.nbd_options.specs.Haggled.{greeting_text}
-use Rattle.nbd_session.specs.declared.talking.End.TheVariants as ends
-use Rattle.nbd_session.specs.declared.talking.Entry.TheVariants as entries
-use Rattle.nbd_session.specs.declared.talking.TalkFault.TheVariants as faults
+use Rattle.nbd_session.specs.declared.outcomes.End.TheVariants as ends
+use Rattle.nbd_session.specs.declared.outcomes.Entry.TheVariants as entries
+use Rattle.nbd_session.specs.declared.outcomes.TalkFault.TheVariants as faults
 use Rattle.nbd_session.specs.Streams.{WritesPart}
 use Rattle.nbd_session.specs.Conversation.{Handshake, HagglesOn, IsEntryTold}
 use Rattle.nbd_session.proofs.BufferLemmas.{Consumes-none}

@@ -4,7 +4,7 @@ use Rattle.nbd_options.specs.Counting.{Counting}
 use Rattle.nbd_options.specs.declared.saying.HaggleEnd.{HaggleEnd}
 use Rattle.nbd_options.specs.Replies.{ClientOption}
 use Rattle.nbd_options.specs.Haggled.{Asked}
-use Rattle.nbd_session.specs.declared.talking.Entry.TheVariants as entries
+use Rattle.nbd_session.specs.declared.outcomes.Entry.TheVariants as entries
 use Rattle.nbd_session.specs.Options.{IsAsked, entry_after, text_to}
 use Rattle.nbd_session.specs.Outcomes.{Going}
 use Rattle.nbd_session.specs.Conversation.{HagglesOn, IsEntryTold}

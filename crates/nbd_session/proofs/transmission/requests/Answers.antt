@@ -1,8 +1,8 @@
 use Rattle.std.proofs.Common.{◌≡◌, ℕ, Result, Ok, Err, arith, refl, ap, subst, ◌∙◌}
 use Rattle.std.specs.Result.{OnOk}
 use Rattle.std.proofs.lemmas.Result.{err_from_is_err_and}
-use Rattle.nbd_session.specs.declared.talking.End.{End}
-use Rattle.nbd_session.specs.declared.talking.TalkFault.{TalkFault}
+use Rattle.nbd_session.specs.declared.outcomes.End.{End}
+use Rattle.nbd_session.specs.declared.outcomes.TalkFault.{TalkFault}
 use Rattle.nbd_session.specs.Frames.{Reading}
 use Rattle.nbd_session.specs.Streams.{Rises}
 use Rattle.nbd_session.specs.Requests.{opened}

@@ -1,7 +1,7 @@
 use Rattle.std.proofs.Common.{◌≡◌, List, [], Option, map, option_map, subst, refl, rules}
 use Rattle.clap.specs.Words.{FailsBy, HasKind, Row, Text, fault_of, subcommand_name_of, subcommand_rows_of}
 use Rattle.clap.specs.declared.builder.value_parser.ValueParser.TheVariants as parsers
-use Rattle.nbdq_cli.specs.Asked.{command_in, faults_in, number_faults, sessions_said, wants_number, IsJob}
+use Rattle.nbdq_cli.specs.Asked.{command_in, faults_in, number_faults, sessions_text, wants_number, IsJob}
 use Rattle.nbdq_cli.specs.Commands.{program}
 use Rattle.nbdq_cli.proofs.AskedLemmas.{names_same, command_is, fails_by, refused_by_words, refused_by_number, not_refused}
 use Rattle.nbdq_cli.proofs.command_line.asked_job.Goals as goal
@@ -24,8 +24,8 @@ returns-in_err-check_sessions-clause-refused g c =
     fails_by parsers.String _ words c.try_get_matches_from.result c.in_ok-command.ensures refl c.try_get_matches_from.ensures.kinds in
     let none : fault_of program words ≡ [] = rw c.in_ok-matches.was at told in
     let found : subcommand_rows_of matches ≡ command_in words = command_is _ words matches c.in_ok-command.ensures c.in_ok-matches.ensures.matches in
-    let checked : FailsBy (number_faults (wants_number (sessions_said (subcommand_rows_of matches))) words) c.check_sessions.result = c.check_sessions.ensures in
-    let more : HasKind (number_faults (wants_number (sessions_said (subcommand_rows_of matches))) words) error = rw c.in_err-check_sessions.was at checked in
+    let checked : FailsBy (number_faults (wants_number (sessions_text (subcommand_rows_of matches))) words) c.check_sessions.result = c.check_sessions.ensures in
+    let more : HasKind (number_faults (wants_number (sessions_text (subcommand_rows_of matches))) words) error = rw c.in_err-check_sessions.was at checked in
     let kind : HasKind (faults_in words) error = refused_by_number words matches found error none more in
     search rules
 
@@ -48,6 +48,6 @@ returns-clause-refused g c =
     fails_by parsers.String _ words c.try_get_matches_from.result c.in_ok-command.ensures refl c.try_get_matches_from.ensures.kinds in
     let none : fault_of program words ≡ [] = rw c.in_ok-matches.was at told in
     let found : subcommand_rows_of matches ≡ command_in words = command_is _ words matches c.in_ok-command.ensures c.in_ok-matches.ensures.matches in
-    let checked : FailsBy (number_faults (wants_number (sessions_said (subcommand_rows_of matches))) words) c.check_sessions.result = c.check_sessions.ensures in
-    let no_more : number_faults (wants_number (sessions_said (subcommand_rows_of matches))) words ≡ [] = rw c.in_ok-check_sessions.was at checked in
+    let checked : FailsBy (number_faults (wants_number (sessions_text (subcommand_rows_of matches))) words) c.check_sessions.result = c.check_sessions.ensures in
+    let no_more : number_faults (wants_number (sessions_text (subcommand_rows_of matches))) words ≡ [] = rw c.in_ok-check_sessions.was at checked in
     not_refused words matches found none no_more

@@ -6,7 +6,7 @@ use Rattle.std.specs.Vec.{vec_capacity}
 use Rattle.std.specs.VecDeque.{deque_capacity}
 use Rattle.tag_clock.specs.declared.Tags.{Tags}
 use Rattle.nbd_wire.specs.Grammar.{RequestMessage}
-use Rattle.lone_export.specs.Lone.{Whole, Does, refusal_said, arrived_said}
+use Rattle.lone_export.specs.Lone.{Whole, Does, step_answer_of_refusal, step_answer_of_arrive}
 use Rattle.server_core.specs.Kept.{AreShort, TagsInRange}
 use Rattle.lone_export.specs.declared.refusal.Arrived.{Arrived}
 use Rattle.lone_export.specs.declared.refusal.Arrived.TheVariants as arrived
@@ -19,11 +19,11 @@ use Rattle.server_core.proofs.Arriving.{Waits, kept_waiting, has_room, was_admit
 use Rattle.server_core.proofs.member.Member.arrive.Goals as goal
 
 -- the answer of the export alone
-arrived_is : {A : Type 0} (old new : Whole) (s t n : ℕ) (tag : ℤ) (q : RequestMessage) (said : Arrived) → said ≡ arrived.Accepted n tag → Does {A = A} old new (Arrive s t q) (arrived_said (Ok said)) → Does {A = A} old new (Arrive s t q) (Accepted n tag)
-arrived_is {A} old new s t n tag q said is does = subst (λ (x : Arrived). Does {A = A} old new (Arrive s t q) (arrived_said {A = A} (Ok x))) is does
+arrived_is : {A : Type 0} (old new : Whole) (s t n : ℕ) (tag : ℤ) (q : RequestMessage) (said : Arrived) → said ≡ arrived.Accepted n tag → Does {A = A} old new (Arrive s t q) (step_answer_of_arrive (Ok said)) → Does {A = A} old new (Arrive s t q) (Accepted n tag)
+arrived_is {A} old new s t n tag q said is does = subst (λ (x : Arrived). Does {A = A} old new (Arrive s t q) (step_answer_of_arrive {A = A} (Ok x))) is does
 
-answered_is : {A : Type 0} (old new : Whole) (s t error : ℕ) (q : RequestMessage) (said : Arrived) → said ≡ arrived.Answered error → Does {A = A} old new (Arrive s t q) (arrived_said (Ok said)) → Does {A = A} old new (Arrive s t q) (Answered error)
-answered_is {A} old new s t error q said is does = subst (λ (x : Arrived). Does {A = A} old new (Arrive s t q) (arrived_said {A = A} (Ok x))) is does
+answered_is : {A : Type 0} (old new : Whole) (s t error : ℕ) (q : RequestMessage) (said : Arrived) → said ≡ arrived.Answered error → Does {A = A} old new (Arrive s t q) (step_answer_of_arrive (Ok said)) → Does {A = A} old new (Arrive s t q) (Answered error)
+answered_is {A} old new s t error q said is does = subst (λ (x : Arrived). Does {A = A} old new (Arrive s t q) (step_answer_of_arrive {A = A} (Ok x))) is does
 
 pub put_behind-requires : goal.put_behind-requires
 put_behind-requires g c =
@@ -155,7 +155,7 @@ invariant_of-self-in-Err g c =
     let t = c.args.moment in
     let q = c.args.request in
     let new = c.enter.new.self.live in
-    let said = refusal_said {A = A} c.in-Err.refused.refusal in
+    let said = step_answer_of_refusal {A = A} c.in-Err.refused.refusal in
     let never = not_admitted A i.cell.live new s t q said c.in-Err.ensures.step (refusal_is A c.in-Err.refused.refusal) in
     let keeps = (refuses A i.cell.live.terms i.cell.live.state s t q never).0 in
     went_kept {A = A} m0 new j r (Arrive s t q) said c.self.invariant c.in-Err.ensures.step c.in-Err.ensures.slots keeps
@@ -173,7 +173,7 @@ returns-in-Err-clause-arrives g c =
     let t = c.args.moment in
     let q = c.args.request in
     let new = c.enter.new.self.live in
-    let said = refusal_said {A = A} c.in-Err.refused.refusal in
+    let said = step_answer_of_refusal {A = A} c.in-Err.refused.refusal in
     let never = not_admitted A i.cell.live new s t q said c.in-Err.ensures.step (refusal_is A c.in-Err.refused.refusal) in
     let keeps = (refuses A i.cell.live.terms i.cell.live.state s t q never).0 in
     let went_one = went {A = A} m0 new j r (Arrive s t q) said c.self.invariant c.in-Err.ensures.step c.in-Err.ensures.slots keeps in
@@ -192,7 +192,7 @@ returns-in-Ok-Accepted-clause-journal g c =
     let s = c.args.session in
     let t = c.args.moment in
     let q = c.args.request in
-    subst (λ (x : Arrived). c.enter.new.self.journal ≡ noted_as {A = A} (arrived_said (Ok x)) (Arrive s t q) i.cell.journal) c.in-Ok-Accepted.field-0-is c.in-Ok-Accepted.ensures.journal
+    subst (λ (x : Arrived). c.enter.new.self.journal ≡ noted_as {A = A} (step_answer_of_arrive (Ok x)) (Arrive s t q) i.cell.journal) c.in-Ok-Accepted.field-0-is c.in-Ok-Accepted.ensures.journal
     ∙ ap (λ (v : Standing). noted_as {A = A} (Answered 0) (Arrive s t q) v.journal) c.self.view_is
 
 pub returns-in-Ok-Answered-clause-journal : goal.returns-in-Ok-Answered-clause-journal
@@ -202,10 +202,10 @@ returns-in-Ok-Answered-clause-journal g c =
     let s = c.args.session in
     let t = c.args.moment in
     let q = c.args.request in
-    subst (λ (x : Arrived). c.enter.new.self.journal ≡ noted_as {A = A} (arrived_said (Ok x)) (Arrive s t q) i.cell.journal) c.in-Ok-Answered.field-0-is c.in-Ok-Answered.ensures.journal
+    subst (λ (x : Arrived). c.enter.new.self.journal ≡ noted_as {A = A} (step_answer_of_arrive (Ok x)) (Arrive s t q) i.cell.journal) c.in-Ok-Answered.field-0-is c.in-Ok-Answered.ensures.journal
     ∙ ap (λ (v : Standing). noted_as {A = A} (Answered 0) (Arrive s t q) v.journal) c.self.view_is
 
 pub returns-in-Err-clause-journal : goal.returns-in-Err-clause-journal
 returns-in-Err-clause-journal g c =
     let A = g.row.I-Alloc.Denot in
-    c.in-Err.ensures.journal ∙ ap (λ (v : Standing). noted_as {A = A} (refusal_said c.in-Err.refused.refusal) (Arrive c.args.session c.args.moment c.args.request) v.journal) c.self.view_is
+    c.in-Err.ensures.journal ∙ ap (λ (v : Standing). noted_as {A = A} (step_answer_of_refusal c.in-Err.refused.refusal) (Arrive c.args.session c.args.moment c.args.request) v.journal) c.self.view_is

@@ -1,7 +1,7 @@
 use Rattle.std.proofs.Common.{subst, sym, Err, Ok}
 use Rattle.std.specs.Vec.{vec_capacity}
 use Rattle.std.specs.VecDeque.{deque_capacity}
-use Rattle.export_cell.specs.Journal.{JournalMove, retuned_said}
+use Rattle.export_cell.specs.Journal.{JournalMove, step_answer_of_retuned}
 use Rattle.lone_export.specs.declared.step.Step.TheVariants.{Retune}
 use Rattle.server_core.specs.Kept.{AreShort}
 use Rattle.server_core.specs.Members.{Kept, Standing, standing_of, Retunes}
@@ -30,7 +30,7 @@ returns-in-Err-clause-short g c = λ short.
 
 pub returns-in-Err-clause-journal : goal.returns-in-Err-clause-journal
 returns-in-Err-clause-journal g c =
-    subst (λ (v : Standing). JournalMove {A = g.row.I-Alloc.Denot} v.part.terms (Retune c.args.rates) (retuned_said (Err c.in-Err.refused)) v.journal c.retune.new.self.journal) c.self.view_is c.in-Err.ensures.journal
+    subst (λ (v : Standing). JournalMove {A = g.row.I-Alloc.Denot} v.part.terms (Retune c.args.rates) (step_answer_of_retuned (Err c.in-Err.refused)) v.journal c.retune.new.self.journal) c.self.view_is c.in-Err.ensures.journal
 
 pub invariant_of-self-2 : goal.invariant_of-self-2
 invariant_of-self-2 g c =
@@ -77,4 +77,4 @@ returns-clause-short g c = λ _.
 
 pub returns-clause-journal : goal.returns-clause-journal
 returns-clause-journal g c =
-    subst (λ (v : Standing). JournalMove {A = g.row.I-Alloc.Denot} v.part.terms (Retune c.args.rates) (retuned_said (Ok c.in_default.field-0)) v.journal c.retune.new.self.journal) c.self.view_is c.in_default.ensures.journal
+    subst (λ (v : Standing). JournalMove {A = g.row.I-Alloc.Denot} v.part.terms (Retune c.args.rates) (step_answer_of_retuned (Ok c.in_default.field-0)) v.journal c.retune.new.self.journal) c.self.view_is c.in_default.ensures.journal

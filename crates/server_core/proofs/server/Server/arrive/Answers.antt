@@ -4,14 +4,14 @@ use Rattle.tag_clock.specs.declared.Tags.{Tags}
 use Rattle.eligibility.specs.Choice.{IsSlotInRange}
 use Rattle.server_table.specs.declared.event.Event.TheVariants.{Arrive}
 use Rattle.server_table.specs.declared.event.Answer.TheVariants.{NoExport, NoMemory}
-use Rattle.lone_export.specs.Lone.{arrived_said}
+use Rattle.lone_export.specs.Lone.{step_answer_of_arrive}
 use Rattle.lone_export.specs.declared.step.Step.TheVariants as own
 use Rattle.std.proofs.lemmas.List.{length-set, get_or-set_same}
 use Rattle.server_table.specs.Order.{head_tags, heads}
 use Rattle.server_core.specs.Kept.{AreShort, TagsInRange}
 use Rattle.export_cell.specs.Journal.{noted_as}
 use Rattle.server_core.specs.Members.{Standing, AdmitsAt, IsReservedAt, Arrives}
-use Rattle.server_core.specs.Served.{Served, parts, journals_of, served_of, Stepped, IsServed, arrive_says, arrive_refusal_says}
+use Rattle.server_core.specs.Served.{Served, parts, journals_of, served_of, Stepped, IsServed, answer_of_arrive, answer_of_arrive_refusal}
 use Rattle.server_core.specs.declared.refusal.ArriveRefusal.{ArriveRefusal}
 use Rattle.server_core.specs.Here.{arrived as told_arrived}
 use Rattle.server_core.specs.Way.{way_of}
@@ -36,7 +36,7 @@ returns-then-session-len-clause-step g c =
     let t = c.args.moment in
     let q = c.args.request in
     let le : length ms ≤ e = search rules in
-    subst (λ (x : ArriveRefusal). Stepped {A = A} c.args.self.now (Arrive e s t q) c.args.self.now (arrive_refusal_says x)) (sym c.not_arrived.ensures.refusal)
+    subst (λ (x : ArriveRefusal). Stepped {A = A} c.args.self.now (Arrive e s t q) c.args.self.now (answer_of_arrive_refusal x)) (sym c.not_arrived.ensures.refusal)
     (subst (λ (v : Served). Stepped {A = A} v (Arrive e s t q) v NoExport) c.self.view_is (absent_arrive A ms i.latest i.inflight e s t q le))
 
 pub arrive-requires-clause-in_range : goal.arrive-requires-clause-in_range
@@ -140,10 +140,10 @@ returns-then-not-admits-clause-step g c =
     let m' = c.arrive.new.self in
     let r = c.arrive.result in
     let one = stepped_refused A ms i.latest i.inflight e s t q d m' r lt d_at never c.arrive.ensures.arrives in
-    let two = subst (λ x. Stepped {A = A} (served_of ms i.latest i.inflight) (Arrive e s t q) (served_of (set ms e m') i.latest i.inflight) (arrive_says {A = A} x)) (sym c.arrived.ensures) one in
+    let two = subst (λ x. Stepped {A = A} (served_of ms i.latest i.inflight) (Arrive e s t q) (served_of (set ms e m') i.latest i.inflight) (answer_of_arrive {A = A} x)) (sym c.arrived.ensures) one in
     let back = parts_back ms0 e m0 c.reserve.new.self at0 (ap (λ (x : Standing). x.part) c.reserve.ensures.standing) in
-    subst (λ (v : Served). Stepped {A = A} v (Arrive e s t q) (served_of (set ms e m') i.latest i.inflight) (arrive_says {A = A} c.arrived.result)) c.self.view_is
-    (stepped_from A ms0 ms i.latest i.inflight (Arrive e s t q) (served_of (set ms e m') i.latest i.inflight) (arrive_says {A = A} c.arrived.result) back two)
+    subst (λ (v : Served). Stepped {A = A} v (Arrive e s t q) (served_of (set ms e m') i.latest i.inflight) (answer_of_arrive {A = A} c.arrived.result)) c.self.view_is
+    (stepped_from A ms0 ms i.latest i.inflight (Arrive e s t q) (served_of (set ms e m') i.latest i.inflight) (answer_of_arrive {A = A} c.arrived.result) back two)
 
 pub returns-then-not-admits-clause-seats : goal.returns-then-not-admits-clause-seats
 returns-then-not-admits-clause-seats g c =
@@ -488,11 +488,11 @@ returns-clause-step g c =
     let arrives : Arrives {A = A} m m' s t q r = subst (λ (x : Standing). Arrives {A = A} x m' s t q r) d_is c.arrive-said.ensures.arrives in
     let way_is : way ≡ way_of (length m.part.waiting) (pos t) ms = c.make_way.ensures.members ∙ ap (λ k. way_of k (pos t) ms) c.waiting-waiting.ensures in
     let one = stepped_accepted A ms slots asked i.latest i.inflight i.served e s t q m m' r kept0 lt at a arrives in
-    let two = subst (λ (l : List Standing). Stepped {A = A} (served_of ms i.latest i.inflight) (Arrive e s t q) (served_of (set l e m') i.latest i.inflight) (arrive_says {A = A} (told_arrived r))) (sym way_is) one in
-    let three = subst (λ x. Stepped {A = A} (served_of ms i.latest i.inflight) (Arrive e s t q) (served_of (set way e m') i.latest i.inflight) (arrive_says {A = A} x)) (sym c.arrived-2.ensures) two in
+    let two = subst (λ (l : List Standing). Stepped {A = A} (served_of ms i.latest i.inflight) (Arrive e s t q) (served_of (set l e m') i.latest i.inflight) (answer_of_arrive {A = A} (told_arrived r))) (sym way_is) one in
+    let three = subst (λ x. Stepped {A = A} (served_of ms i.latest i.inflight) (Arrive e s t q) (served_of (set way e m') i.latest i.inflight) (answer_of_arrive {A = A} x)) (sym c.arrived-2.ensures) two in
     let back = parts_back ms0 e m0 c.reserve.new.self at0 (ap (λ (x : Standing). x.part) c.reserve.ensures.standing) in
-    subst (λ (v : Served). Stepped {A = A} v (Arrive e s t q) (served_of (set way e m') i.latest i.inflight) (arrive_says {A = A} c.arrived-2.result)) c.self.view_is
-    (stepped_from A ms0 ms i.latest i.inflight (Arrive e s t q) (served_of (set way e m') i.latest i.inflight) (arrive_says {A = A} c.arrived-2.result) back three)
+    subst (λ (v : Served). Stepped {A = A} v (Arrive e s t q) (served_of (set way e m') i.latest i.inflight) (answer_of_arrive {A = A} c.arrived-2.result)) c.self.view_is
+    (stepped_from A ms0 ms i.latest i.inflight (Arrive e s t q) (served_of (set way e m') i.latest i.inflight) (answer_of_arrive {A = A} c.arrived-2.result) back three)
 
 pub returns-clause-seats : goal.returns-clause-seats
 returns-clause-seats g c =
@@ -605,7 +605,7 @@ returns-then-session-len-clause-journals g c =
     let A = g.row.I-Alloc.Denot in
     let e = c.args.session.export in
     let le : length i.members.items ≤ e = search rules in
-    subst (λ (x : ArriveRefusal). CellMoves {A = A} c.args.self.now e (own.Arrive c.args.session.number c.args.moment c.args.request) c.args.self.now (arrive_refusal_says x)) (sym c.not_arrived.ensures.refusal)
+    subst (λ (x : ArriveRefusal). CellMoves {A = A} c.args.self.now e (own.Arrive c.args.session.number c.args.moment c.args.request) c.args.self.now (answer_of_arrive_refusal x)) (sym c.not_arrived.ensures.refusal)
     (subst (λ (v : Served). CellMoves {A = A} v e (own.Arrive c.args.session.number c.args.moment c.args.request) v NoExport) c.self.view_is (absent i.members.items i.latest i.inflight e (own.Arrive c.args.session.number c.args.moment c.args.request) NoExport le))
 
 pub returns-then-not-admits-clause-journals : goal.returns-then-not-admits-clause-journals
@@ -636,11 +636,11 @@ returns-then-not-admits-clause-journals g c =
     let rm = c.reserve.new.self in
     let d_rm : d ≡ rm = d_is ∙ at ∙ get_or-set_same ms0 e rm m lt0 in
     let new = served_of (set ms e m') i.latest i.inflight in
-    let made = arrival_moves {A = A} m0.part.terms m0.journal rm.journal m'.journal rm c.in-Ok.kept s t q r c.arrive.ensures.entered c.in-Ok.ensures.reserved c.in-Ok.ensures.journal (c.arrive.ensures.journal ∙ ap (λ (x : Standing). noted_as {A = A} (arrived_said r) (own.Arrive s t q) x.journal) d_rm) in
+    let made = arrival_moves {A = A} m0.part.terms m0.journal rm.journal m'.journal rm c.in-Ok.kept s t q r c.arrive.ensures.entered c.in-Ok.ensures.reserved c.in-Ok.ensures.journal (c.arrive.ensures.journal ∙ ap (λ (x : Standing). noted_as {A = A} (step_answer_of_arrive r) (own.Arrive s t q) x.journal) d_rm) in
     let where_is : new.journals ≡ set (journals_of ms0) e m'.journal = journals_set ms e m' ∙ ap (λ l. set l e m'.journal) (journals_set ms0 e rm) ∙ set_twice (journals_of ms0) e rm.journal m'.journal in
-    let one = moves ms0 i.latest i.inflight e m0 m'.journal (own.Arrive s t q) new (arrive_says {A = A} (told_arrived r)) lt0 at0 where_is made in
-    let two = subst (λ x. CellMoves {A = A} (served_of ms0 i.latest i.inflight) e (own.Arrive s t q) new (arrive_says {A = A} x)) (sym c.arrived.ensures) one in
-    subst (λ (v : Served). CellMoves {A = A} v e (own.Arrive s t q) new (arrive_says {A = A} c.arrived.result)) c.self.view_is two
+    let one = moves ms0 i.latest i.inflight e m0 m'.journal (own.Arrive s t q) new (answer_of_arrive {A = A} (told_arrived r)) lt0 at0 where_is made in
+    let two = subst (λ x. CellMoves {A = A} (served_of ms0 i.latest i.inflight) e (own.Arrive s t q) new (answer_of_arrive {A = A} x)) (sym c.arrived.ensures) one in
+    subst (λ (v : Served). CellMoves {A = A} v e (own.Arrive s t q) new (answer_of_arrive {A = A} c.arrived.result)) c.self.view_is two
 
 pub returns-clause-journals : goal.returns-clause-journals
 returns-clause-journals g c =
@@ -674,12 +674,12 @@ returns-clause-journals g c =
     let rm = c.reserve.new.self in
     let d_rm : d ≡ rm = d_is ∙ at ∙ get_or-set_same ms0 e rm m lt0 in
     let new = served_of (set way e m') i.latest i.inflight in
-    let made = arrival_moves {A = A} m0.part.terms m0.journal rm.journal m'.journal rm c.in-Ok.kept s t q r c.arrive-said.ensures.entered c.in-Ok.ensures.reserved c.in-Ok.ensures.journal (c.arrive-said.ensures.journal ∙ ap (λ (x : Standing). noted_as {A = A} (arrived_said r) (own.Arrive s t q) x.journal) d_rm) in
+    let made = arrival_moves {A = A} m0.part.terms m0.journal rm.journal m'.journal rm c.in-Ok.kept s t q r c.arrive-said.ensures.entered c.in-Ok.ensures.reserved c.in-Ok.ensures.journal (c.arrive-said.ensures.journal ∙ ap (λ (x : Standing). noted_as {A = A} (step_answer_of_arrive r) (own.Arrive s t q) x.journal) d_rm) in
     let where_is : new.journals ≡ set (journals_of ms0) e m'.journal =
     journals_set way e m' ∙ ap (λ (l : List Standing). set (journals_of l) e m'.journal) way_is ∙ ap (λ l. set l e m'.journal) (journals_way (length m.part.waiting) (pos t) ms ∙ journals_set ms0 e rm) ∙ set_twice (journals_of ms0) e rm.journal m'.journal in
-    let one = moves ms0 i.latest i.inflight e m0 m'.journal (own.Arrive s t q) new (arrive_says {A = A} (told_arrived r)) lt0 at0 where_is made in
-    let two = subst (λ x. CellMoves {A = A} (served_of ms0 i.latest i.inflight) e (own.Arrive s t q) new (arrive_says {A = A} x)) (sym c.arrived-2.ensures) one in
-    subst (λ (v : Served). CellMoves {A = A} v e (own.Arrive s t q) new (arrive_says {A = A} c.arrived-2.result)) c.self.view_is two
+    let one = moves ms0 i.latest i.inflight e m0 m'.journal (own.Arrive s t q) new (answer_of_arrive {A = A} (told_arrived r)) lt0 at0 where_is made in
+    let two = subst (λ x. CellMoves {A = A} (served_of ms0 i.latest i.inflight) e (own.Arrive s t q) new (answer_of_arrive {A = A} x)) (sym c.arrived-2.ensures) one in
+    subst (λ (v : Served). CellMoves {A = A} v e (own.Arrive s t q) new (answer_of_arrive {A = A} c.arrived-2.result)) c.self.view_is two
 
 pub make_way-requires-clause-slots : goal.make_way-requires-clause-slots
 make_way-requires-clause-slots g c =
@@ -733,7 +733,7 @@ returns-in_default-clause-step g c =
     let at0 = c.index_mut-member.ensures.value in
     let rm = c.reserve.new.self in
     let same = c.reserve.ensures.standing in
-    subst (λ (x : ArriveRefusal). Stepped {A = A} c.args.self.now (Arrive e s t q) (served_of (set ms0 e rm) i.latest i.inflight) (arrive_refusal_says x)) (sym c.not_arrived-in_default.ensures.refusal)
+    subst (λ (x : ArriveRefusal). Stepped {A = A} c.args.self.now (Arrive e s t q) (served_of (set ms0 e rm) i.latest i.inflight) (answer_of_arrive_refusal x)) (sym c.not_arrived-in_default.ensures.refusal)
     (subst (λ (v : Served). Stepped {A = A} v (Arrive e s t q) (served_of (set ms0 e rm) i.latest i.inflight) NoMemory) c.self.view_is
     (stepped_no_memory A ms0 i.latest i.inflight e s t q m0 rm lt0 at0 c.in_default.ensures.no_memory.0 same))
 
@@ -754,7 +754,7 @@ returns-in_default-clause-journals g c =
     let rm = c.reserve.new.self in
     let same = c.reserve.ensures.standing in
     let new = served_of (set ms0 e rm) i.latest i.inflight in
-    subst (λ (x : ArriveRefusal). CellMoves {A = A} c.args.self.now e (own.Arrive s t q) new (arrive_refusal_says x)) (sym c.not_arrived-in_default.ensures.refusal)
+    subst (λ (x : ArriveRefusal). CellMoves {A = A} c.args.self.now e (own.Arrive s t q) new (answer_of_arrive_refusal x)) (sym c.not_arrived-in_default.ensures.refusal)
     (subst (λ (v : Served). CellMoves {A = A} v e (own.Arrive s t q) new NoMemory) c.self.view_is
     (moves ms0 i.latest i.inflight e m0 rm.journal (own.Arrive s t q) new NoMemory lt0 at0 (journals_set ms0 e rm) c.in_default.ensures.no_memory.1))
 

@@ -1,9 +1,9 @@
 use Rattle.std.proofs.Common.{◌<◌, ◌≤◌, length, set, sym, ◌∙◌, ap, subst, rules}
 use Rattle.lone_export.specs.declared.step.Step.TheVariants as own
-use Rattle.export_cell.specs.Journal.{retuned_said}
+use Rattle.export_cell.specs.Journal.{step_answer_of_retuned}
 use Rattle.server_table.specs.declared.event.Event.TheVariants.{Retune}
 use Rattle.server_table.specs.declared.event.Answer.TheVariants.{NoExport}
-use Rattle.server_core.specs.Served.{Served, served_of, Stepped, retune_says}
+use Rattle.server_core.specs.Served.{Served, served_of, Stepped, answer_of_retune}
 use Rattle.server_core.proofs.Retuned.{kept_retune, seats_retune, stepped_retune, absent_retune, moves_retune}
 use Rattle.server_core.proofs.Accepting.{rates_short}
 use Rattle.server_core.specs.Journals.{CellMoves}
@@ -34,8 +34,8 @@ returns-clause-step g c =
     let m' = c.retune.new.self in
     let lt : e < length i.members.items = search rules in
     let one = stepped_retune {A = g.row.I-Alloc.Denot} i.members.items i.latest i.inflight e c.args.rates c.index_mut-tuned.result.now m' c.retune.result lt c.index_mut-tuned.ensures.value c.retune.ensures.retunes in
-    let two = subst (λ r. Stepped (served_of i.members.items i.latest i.inflight) (Retune e c.args.rates) (served_of (set i.members.items e m') i.latest i.inflight) (retune_says r)) (sym c.retuned.ensures) one in
-    subst (λ (v : Served). Stepped v (Retune e c.args.rates) (served_of (set i.members.items e m') i.latest i.inflight) (retune_says c.retuned.result)) c.self.view_is two
+    let two = subst (λ r. Stepped (served_of i.members.items i.latest i.inflight) (Retune e c.args.rates) (served_of (set i.members.items e m') i.latest i.inflight) (answer_of_retune r)) (sym c.retuned.ensures) one in
+    subst (λ (v : Served). Stepped v (Retune e c.args.rates) (served_of (set i.members.items e m') i.latest i.inflight) (answer_of_retune c.retuned.result)) c.self.view_is two
 
 pub returns-clause-seats : goal.returns-clause-seats
 returns-clause-seats g c =
@@ -62,5 +62,5 @@ returns-clause-journals g c =
     let lt : e < length i.members.items = search rules in
     let new = served_of (set i.members.items e m') i.latest i.inflight in
     let one = moves_retune {A = g.row.I-Alloc.Denot} i.members.items i.latest i.inflight e c.args.rates c.index_mut-tuned.result.now m' c.retune.result lt c.index_mut-tuned.ensures.value c.retune.ensures.journal in
-    let two = subst (λ r. CellMoves {A = g.row.I-Alloc.Denot} (served_of i.members.items i.latest i.inflight) e (own.Retune c.args.rates) new (retune_says r)) (sym c.retuned.ensures) one in
-    subst (λ (v : Served). CellMoves {A = g.row.I-Alloc.Denot} v e (own.Retune c.args.rates) new (retune_says c.retuned.result)) c.self.view_is two
+    let two = subst (λ r. CellMoves {A = g.row.I-Alloc.Denot} (served_of i.members.items i.latest i.inflight) e (own.Retune c.args.rates) new (answer_of_retune r)) (sym c.retuned.ensures) one in
+    subst (λ (v : Served). CellMoves {A = g.row.I-Alloc.Denot} v e (own.Retune c.args.rates) new (answer_of_retune c.retuned.result)) c.self.view_is two

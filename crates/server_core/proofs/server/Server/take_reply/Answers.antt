@@ -1,9 +1,9 @@
 use Rattle.std.proofs.Common.{◌<◌, ◌≤◌, length, set, sym, ◌∙◌, ap, subst, rules}
 use Rattle.lone_export.specs.declared.step.Step.TheVariants as own
-use Rattle.lone_export.specs.Lone.{take_said}
+use Rattle.lone_export.specs.Lone.{step_answer_of_take}
 use Rattle.server_table.specs.declared.event.Event.TheVariants.{Take}
 use Rattle.server_table.specs.declared.event.Answer.TheVariants.{NoExport}
-use Rattle.server_core.specs.Served.{Served, served_of, Stepped, take_says}
+use Rattle.server_core.specs.Served.{Served, served_of, Stepped, answer_of_take}
 use Rattle.server_core.proofs.Served.{kept_own, seats_own, stepped_take, absent_take}
 use Rattle.server_core.specs.Journals.{CellMoves}
 use Rattle.server_core.proofs.Journals.{absent, moves_take}
@@ -23,7 +23,7 @@ invariant_of-self g c =
     let i = c.self.inside in
     let e = c.args.session.export in
     let lt : e < length i.members.items = search rules in
-    kept_own i.members.items (g.E.Eligibility.contents i.eligible) (g.E.Eligibility.asked i.eligible) i.latest i.inflight i.served e c.index_mut-member.result.now c.take.new.self (own.Take c.args.session.number) (take_said c.take.result) c.self.invariant lt c.index_mut-member.ensures.value c.take.ensures.went
+    kept_own i.members.items (g.E.Eligibility.contents i.eligible) (g.E.Eligibility.asked i.eligible) i.latest i.inflight i.served e c.index_mut-member.result.now c.take.new.self (own.Take c.args.session.number) (step_answer_of_take c.take.result) c.self.invariant lt c.index_mut-member.ensures.value c.take.ensures.went
 
 pub returns-clause-step : goal.returns-clause-step
 returns-clause-step g c =
@@ -33,12 +33,12 @@ returns-clause-step g c =
     let m' = c.take.new.self in
     let lt : e < length i.members.items = search rules in
     let one = stepped_take i.members.items i.latest i.inflight e s c.index_mut-member.result.now m' c.take.result lt c.index_mut-member.ensures.value c.take.ensures.went in
-    let two = subst (λ r. Stepped (served_of i.members.items i.latest i.inflight) (Take e s) (served_of (set i.members.items e m') i.latest i.inflight) (take_says r)) (sym c.here.ensures) one in
-    subst (λ (v : Served). Stepped v (Take e s) (served_of (set i.members.items e m') i.latest i.inflight) (take_says c.here.result)) c.self.view_is two
+    let two = subst (λ r. Stepped (served_of i.members.items i.latest i.inflight) (Take e s) (served_of (set i.members.items e m') i.latest i.inflight) (answer_of_take r)) (sym c.here.ensures) one in
+    subst (λ (v : Served). Stepped v (Take e s) (served_of (set i.members.items e m') i.latest i.inflight) (answer_of_take c.here.result)) c.self.view_is two
 
 pub returns-clause-seats : goal.returns-clause-seats
 returns-clause-seats g c =
-    seats_own c.self.inside.members.items c.args.session.export c.index_mut-member.result.now c.take.new.self (own.Take c.args.session.number) (take_said c.take.result) c.index_mut-member.ensures.value c.take.ensures.went
+    seats_own c.self.inside.members.items c.args.session.export c.index_mut-member.result.now c.take.new.self (own.Take c.args.session.number) (step_answer_of_take c.take.result) c.index_mut-member.ensures.value c.take.ensures.went
     ∙ ap (λ (v : Served). v.seats) c.self.view_is
 
 pub returns-clause-counted : goal.returns-clause-counted
@@ -63,5 +63,5 @@ returns-clause-journals g c =
     let lt : e < length i.members.items = search rules in
     let new = served_of (set i.members.items e m') i.latest i.inflight in
     let one = moves_take {A = g.row.I-Alloc.Denot} i.members.items i.latest i.inflight e s c.index_mut-member.result.now m' c.take.result lt c.index_mut-member.ensures.value c.take.ensures.journal in
-    let two = subst (λ r. CellMoves {A = g.row.I-Alloc.Denot} (served_of i.members.items i.latest i.inflight) e (own.Take s) new (take_says r)) (sym c.here.ensures) one in
-    subst (λ (v : Served). CellMoves {A = g.row.I-Alloc.Denot} v e (own.Take s) new (take_says c.here.result)) c.self.view_is two
+    let two = subst (λ r. CellMoves {A = g.row.I-Alloc.Denot} (served_of i.members.items i.latest i.inflight) e (own.Take s) new (answer_of_take r)) (sym c.here.ensures) one in
+    subst (λ (v : Served). CellMoves {A = g.row.I-Alloc.Denot} v e (own.Take s) new (answer_of_take c.here.result)) c.self.view_is two
