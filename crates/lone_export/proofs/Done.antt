@@ -8,10 +8,10 @@ use Rattle.std.specs.FinMap as fin
 use Rattle.nbd_base.specs.Words.{when_some, change_at}
 use Rattle.nbd_wire.specs.Grammar.{RequestMessage, ReplyMessage, IsRequest}
 use Rattle.nbd_commands.specs.Terms.{Terms}
-use Rattle.nbd_commands.specs.Verdict.{verdict_of, verdict_at}
+use Rattle.nbd_commands.specs.Verdict.{verdict_of, verdict_at, refusal_at}
 use Rattle.nbd_commands.specs.Verdict.{is_write, is_trim, is_write_zeroes}
 use Rattle.nbd_commands.specs.Meaning.{image_after, data_of, may_want_memory}
-use Rattle.nbd_commands.proofs.VerdictLemmas.{served_by_any}
+use Rattle.nbd_commands.proofs.VerdictLemmas.{served_by_any, not_refused}
 use Rattle.reply_box.specs.Sessions.{posted, post_at}
 use Rattle.reply_box.specs.Box.{Box, after_put, IsOwed}
 use Rattle.export_queue.specs.Queue.{Queue, after_finish, item_held, item_if, slot_in}
@@ -33,7 +33,10 @@ use Rattle.lone_export.proofs.Asked.{posted_here}
 -- ---- a request that isn't refused keeps the length of the image
 
 inside : (size : ℕ) (m : RequestMessage) → verdict_at size false m ≡ 0 → (is_write m || is_trim m || is_write_zeroes m) ≡ true → m.head.offset + m.head.length ≤ size
-inside size m served changes = grind arith
+inside size m served changes = from_none (not_refused size false m served)
+  where
+    from_none : refusal_at size false m ≡ None → m.head.offset + m.head.length ≤ size
+    from_none none = grind arith
 
 pub length-after : (image : List ℕ) (m : RequestMessage) → verdict_at (length image) false m ≡ 0 → IsRequest m → length (image_after image m) ≡ length image
 length-after image m served is =

@@ -1,5 +1,6 @@
 -- Which requests an export refuses (NBD protocol, "Command types", "Command flags" and "Error values").
 use Rattle.std.specs.Prelude.{ℕ, ◌+◌, Bool, not, ◌&&◌, ◌||◌, ◌==◌, nat_lt, if◌then◌else◌, Option, Some, None}
+use Rattle.nbd_base.specs.Words.{when_some}
 use Rattle.nbd_wire.specs.Grammar.{RequestMessage}
 use Rattle.nbd_commands.specs.Terms.{Terms}
 use Rattle.nbd_commands.specs.declared.judging.RequestRefusal.{RequestRefusal}
@@ -52,21 +53,7 @@ has_invalid_range size m = (is_read m || is_trim m || is_cache m) && is_past_end
 abbrev pub has_no_space : ℕ → RequestMessage → Bool
 has_no_space size m = (is_write m || is_write_zeroes m) && is_past_end size m
 
--- the error of a request, 0 for none: the first case that fits
-abbrev pub verdict_at : ℕ → Bool → RequestMessage → ℕ
-verdict_at size read_only m =
-    if is_unknown_type m then 22
-    else (if has_unknown_flag m then 22
-    else (if is_change_of_read_only read_only m then 1
-    else (if is_too_long_read m then 22
-    else (if has_invalid_range size m then 22
-    else (if has_no_space size m then 28
-    else 0)))))
-
-abbrev pub verdict_of : Terms → RequestMessage → ℕ
-verdict_of terms m = verdict_at terms.size terms.read_only m
-
--- the same cases by their names, which tell apart also those that have one error
+-- why a request is refused: the first case that fits
 abbrev pub refusal_at : ℕ → Bool → RequestMessage → Option RequestRefusal
 refusal_at size read_only m =
     if is_unknown_type m then Some UnknownType
@@ -84,3 +71,10 @@ error_of ReadOnly = 1
 error_of TooLong = 22
 error_of InvalidRange = 22
 error_of NoSpace = 28
+
+-- the error of a request, 0 for none
+abbrev pub verdict_at : ℕ → Bool → RequestMessage → ℕ
+verdict_at size read_only m = when_some (refusal_at size read_only m) error_of 0
+
+abbrev pub verdict_of : Terms → RequestMessage → ℕ
+verdict_of terms m = verdict_at terms.size terms.read_only m
