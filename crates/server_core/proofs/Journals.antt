@@ -8,11 +8,8 @@ use Rattle.std.proofs.lemmas.Option.{same_Some}
 use Rattle.nbd_wire.specs.Grammar.{RequestMessage}
 use Rattle.nbd_commands.specs.Terms.{Terms}
 use Rattle.tag_clock.specs.declared.Phase.{Phase}
-use Rattle.tag_clock.specs.declared.Phase.TheVariants.{Weight}
-use Rattle.reply_box.specs.declared.fault.NotOpen.{NotOpen}
-use Rattle.reply_box.specs.declared.seat.Taken.{Taken}
 use Rattle.lone_export.specs.Alone.{Job}
-use Rattle.lone_export.specs.Lone.{step_answer_of_attach, step_answer_of_leave, step_answer_of_gone, step_answer_of_take, step_answer_of_arrive, step_answer_of_refusal}
+use Rattle.lone_export.specs.Lone.{step_answer_of_attach, step_answer_of_arrive, step_answer_of_refusal}
 use Rattle.lone_export.specs.declared.refusal.NotAttached.{NotAttached}
 use Rattle.lone_export.specs.declared.refusal.NotAttached.TheVariants.{Refused, NoMemory}
 use Rattle.lone_export.specs.declared.refusal.AttachRefusal.TheVariants as attaching
@@ -34,11 +31,11 @@ use Rattle.server_table.specs.Table.{Side, job_of, part, waits_in, is_out_in}
 use Rattle.server_table.specs.Parts.{Entry, Part, row_of, rows_from, table_of, alone_of, job_of_entry}
 use Rattle.server_table.proofs.Arrive.{waiting_rows}
 use Rattle.server_table.proofs.Rows.{side_at, filter_only, filter_entries, filter_all, filter_no}
-use Rattle.server_core.specs.Here.{here, attached, arrived}
+use Rattle.server_core.specs.Here.{attached, arrived}
 use Rattle.server_core.specs.Members.{Standing, IsReservedAt}
-use Rattle.server_core.specs.Served.{Served, parts, journals_of, served_of, answer_of_attach, answer_of_leave, answer_of_gone, answer_of_take, answer_of_arrive}
+use Rattle.server_core.specs.Served.{Served, parts, journals_of, served_of, answer_of_attach, answer_of_arrive}
 use Rattle.server_core.specs.Journals.{CellMoves, IsCellOf}
-use Rattle.server_core.proofs.Served.{within_parts, part_there, leave_told, gone_told, take_told}
+use Rattle.server_core.proofs.Served.{within_parts, part_there}
 use Rattle.server_core.proofs.Tagged.{exports_there}
 
 -- ---- one place of a list
@@ -128,15 +125,6 @@ module _ {A : Type 0} where
       subst (CellMoves (served_of ms now inflight) e step (served_of (set ms e m') now' inflight)) is
       (moves ms now inflight e m m'.journal step (served_of (set ms e m') now' inflight) (as_answer e phase a) lt at (journals_set ms e m')
       (subst (λ (o : Option (StepAnswer A)). JournalMove m.part.terms step o m.journal m'.journal) (sym (alone_again e phase a)) move))
-
-  pub moves_leave : (ms : List Standing) (now inflight e s : ℕ) (m m' : Standing) (r : Result (Unit {0}) NotOpen) → e < length ms → m ≡ get_or ms e m → JournalMove {A = A} m.part.terms (own.Leave s) (Some (step_answer_of_leave r)) m.journal m'.journal → CellMoves {A = A} (served_of ms now inflight) e (own.Leave s) (served_of (set ms e m') now inflight) (answer_of_leave (here r))
-  moves_leave ms now inflight e s m m' r lt at move = moves_own ms now now inflight e Weight m m' (own.Leave s) (step_answer_of_leave r) (answer_of_leave (here r)) (leave_told e r) lt at move
-
-  pub moves_gone : (ms : List Standing) (now inflight e s : ℕ) (m m' : Standing) (r : Result (Unit {0}) NotOpen) → e < length ms → m ≡ get_or ms e m → JournalMove {A = A} m.part.terms (own.Gone s) (Some (step_answer_of_gone r)) m.journal m'.journal → CellMoves {A = A} (served_of ms now inflight) e (own.Gone s) (served_of (set ms e m') now inflight) (answer_of_gone (here r))
-  moves_gone ms now inflight e s m m' r lt at move = moves_own ms now now inflight e Weight m m' (own.Gone s) (step_answer_of_gone r) (answer_of_gone (here r)) (gone_told e r) lt at move
-
-  pub moves_take : (ms : List Standing) (now inflight e s : ℕ) (m m' : Standing) (r : Result (Taken A) NotOpen) → e < length ms → m ≡ get_or ms e m → JournalMove {A = A} m.part.terms (own.Take s) (Some (step_answer_of_take r)) m.journal m'.journal → CellMoves {A = A} (served_of ms now inflight) e (own.Take s) (served_of (set ms e m') now inflight) (answer_of_take (here r))
-  moves_take ms now inflight e s m m' r lt at move = moves_own ms now now inflight e Weight m m' (own.Take s) (step_answer_of_take r) (answer_of_take (here r)) (take_told e r) lt at move
 
   -- ---- an attach
   attach_alone : (e : ℕ) (r : Result ℕ NotAttached) → as_alone (answer_of_attach {A = A} (attached e r)) ≡ step_answer_of_attach r

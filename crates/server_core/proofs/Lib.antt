@@ -21,6 +21,7 @@ pub mod Counted
 pub mod Tagged
 pub mod NextDue
 pub mod Journals
+pub mod Made
 pub mod Cells
 pub mod Retuned
 pub mod Sound

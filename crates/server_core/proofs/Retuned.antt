@@ -5,8 +5,7 @@ use Rattle.tag_clock.specs.declared.Tags.{Tags}
 use Rattle.tag_clock.specs.Intervals.{Intervals, IsInterval}
 use Rattle.tag_clock.specs.Clocks.{Share, share_retuned, last_r_for}
 use Rattle.lone_export.specs.Alone.{Alone, Moved, stays, moves}
-use Rattle.lone_export.specs.Lone.{Whole, Does, DoesOr, MayRetune, step_answer_of_retune}
-use Rattle.lone_export.specs.declared.refusal.RetuneRefusal.{RetuneRefusal}
+use Rattle.lone_export.specs.Lone.{Whole, Does, DoesOr, MayRetune}
 use Rattle.lone_export.specs.declared.refusal.RetuneRefusal.TheVariants as tuned
 use Rattle.lone_export.specs.declared.step.Step.{Step}
 use Rattle.lone_export.specs.declared.step.Step.TheVariants as own
@@ -19,22 +18,20 @@ use Rattle.export_cell.specs.declared.refusal.NotRetuned.TheVariants as retuning
 use Rattle.server_table.specs.declared.event.Event.TheVariants.{Retune}
 use Rattle.server_table.specs.declared.event.Answer.{Answer}
 use Rattle.server_table.specs.declared.event.Answer.TheVariants as answer
-use Rattle.server_table.specs.Table.{Table}
 use Rattle.server_table.specs.Steps.{outcome, step}
 use Rattle.server_table.specs.Shares.{as_alone, mark_of}
-use Rattle.server_table.specs.Order.{head_tags}
 use Rattle.server_table.specs.Parts.{Entry, Part, table_of, setup_of, part_retuned}
-use Rattle.server_table.proofs.Retunes.{step_retune, no_retune, no_room_to_retune}
+use Rattle.server_table.proofs.Retunes.{step_retune, no_room_to_retune}
 use Rattle.server_core.specs.Here.{retuned}
 use Rattle.server_core.specs.Kept.{AllEntries, BelowLast, IsOptionShort, IsOptionWithin, LastKind, AreShort, IsPart, IsServer, total}
-use Rattle.server_core.specs.Members.{Kept, Standing, part_of, standing_of, IsMember, with_log, logged_as, retuned_standing, Retunes}
+use Rattle.server_core.specs.Members.{Kept, Standing, part_of, standing_of, IsMember, logged_as, Retunes}
 use Rattle.server_core.specs.Served.{parts, served_of, IsServed, Stepped, answer_of_retune}
 use Rattle.server_core.specs.Journals.{CellMoves}
 use Rattle.server_core.proofs.Entries.{part_at}
 use Rattle.server_core.proofs.Picking.{entries_length}
 use Rattle.server_core.proofs.Members.{relogged}
 use Rattle.server_core.proofs.Changed.{kept_change, same_slots}
-use Rattle.server_core.proofs.Served.{part_there, within_parts, parts_set, parts_back, same_setup, same_seats, members_set, member_at, kept_logged, beyond}
+use Rattle.server_core.proofs.Served.{part_there, within_parts, parts_set, parts_back, same_setup, same_seats, members_set, member_at, kept_logged}
 use Rattle.server_core.proofs.Journals.{moves as journal_moves, journals_set}
 
 -- as many wait as there are tags
@@ -197,8 +194,8 @@ no_length : (n : ℕ) → (n == 0) ≡ true → n ≡ 0
 no_length zero h = refl
 no_length (suc n) h = absurd (grind (arith, h))
 
-pub kept_retune : (ms : List Standing) (slots : List (Option Tags)) (asked now inflight served e : ℕ) (rates : Intervals) (m m' : Standing) (r : Result (Unit {0}) NotRetuned) → IsServed ms slots asked now inflight served → e < length ms → m ≡ get_or ms e m → Retunes m m' rates r → AreShort m'.part.rates → IsServed (set ms e m') slots asked now inflight served
-kept_retune ms slots asked now inflight served e rates m m' (Ok done) kept lt at made short =
+pub kept_retune : {ms : List Standing} {slots : List (Option Tags)} {asked now inflight served : ℕ} {m : Standing} (e : ℕ) (rates : Intervals) (m' : Standing) (r : Result (Unit {0}) NotRetuned) → IsServed ms slots asked now inflight served → e < length ms → m ≡ get_or ms e m → Retunes m m' rates r → AreShort m'.part.rates → IsServed (set ms e m') slots asked now inflight served
+kept_retune {ms} {slots} {asked} {now} {inflight} {served} {m} e rates m' (Ok done) kept lt at made short =
     let q : m'.part ≡ part_retuned rates m.part = ap (λ (x : Standing). x.part) made.2 in
     let few : m'.inflight ≡ m.inflight = ap (λ (x : Standing). x.inflight) made.2 in
     let there = part_there ms e m lt at in
@@ -209,9 +206,9 @@ kept_retune ms slots asked now inflight served e rates m m' (Ok done) kept lt at
           (same_slots (parts ms) slots e m.part kept.server.firsts there) kept.server.not_later refl kept.server.within);
       room = members_set (λ (x : Standing). x.inflight ≡ inflight) ms e m' kept.room (few ∙ member_at (λ (x : Standing). x.inflight ≡ inflight) ms e m kept.room lt at);
     }
-kept_retune ms slots asked now inflight served e rates m m' (Err (retuning.Refused tuned.Worn)) kept lt at made short = kept_logged ms slots asked now inflight served e m m' kept lt at made.1
-kept_retune ms slots asked now inflight served e rates m m' (Err (retuning.Refused tuned.Waiting)) kept lt at made short = kept_logged ms slots asked now inflight served e m m' kept lt at made.2
-kept_retune ms slots asked now inflight served e rates m m' (Err retuning.NoMemory) kept lt at made short = kept_logged ms slots asked now inflight served e m m' kept lt at made.2
+kept_retune e rates m' (Err (retuning.Refused tuned.Worn)) kept lt at made short = kept_logged e kept lt at made.1
+kept_retune e rates m' (Err (retuning.Refused tuned.Waiting)) kept lt at made short = kept_logged e kept lt at made.2
+kept_retune e rates m' (Err retuning.NoMemory) kept lt at made short = kept_logged e kept lt at made.2
 
 pub seats_retune : (ms : List Standing) (e : ℕ) (rates : Intervals) (m m' : Standing) (r : Result (Unit {0}) NotRetuned) → m ≡ get_or ms e m → Retunes m m' rates r → map (λ (x : Standing). x.seats) (set ms e m') ≡ map (λ (x : Standing). x.seats) ms
 seats_retune ms e rates m m' (Ok done) at made = same_seats ms e m m' at (ap (λ (x : Standing). x.seats) made.2)
@@ -249,9 +246,6 @@ module _ {A : Type 0} where
   stepped_retune ms now inflight e rates m m' (Err retuning.NoMemory) lt at made =
       refused_step ms now inflight e rates m m' answer.NoMemory at made.2
       (no_room_to_retune {A = A} (parts ms) now inflight e rates m.part (within_parts ms e lt) (part_there ms e m lt at) made.0 made.1)
-
-  pub absent_retune : (ms : List Standing) (now inflight e : ℕ) (rates : Intervals) → length ms ≤ e → Stepped {A = A} (served_of ms now inflight) (Retune e rates) (served_of ms now inflight) answer.NoExport
-  absent_retune ms now inflight e rates le = record { stepped = no_retune (parts ms) now inflight e rates true (beyond ms e le); setup = refl }
 
   retune_alone : (r : Result (Unit {0}) NotRetuned) → as_alone (answer_of_retune {A = A} (retuned r)) ≡ step_answer_of_retuned r
   retune_alone (Ok done) = refl

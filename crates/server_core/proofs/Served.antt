@@ -19,16 +19,15 @@ use Rattle.lone_export.specs.declared.step.StepAnswer.TheVariants as alone
 use Rattle.lone_export.specs.Calls.{is_counted, IsOneStep, brought}
 use Rattle.lone_export.proofs.Steps.{steps}
 use Rattle.server_table.specs.declared.event.Event.{Event}
-use Rattle.server_table.specs.declared.event.Event.TheVariants.{Attach, Take, Leave, Gone}
-use Rattle.server_table.specs.declared.event.Answer.TheVariants.{NoExport}
+use Rattle.server_table.specs.declared.event.Event.TheVariants.{Attach}
 use Rattle.server_table.specs.declared.event.Answer.TheVariants as answer
 use Rattle.server_table.specs.Parts.{Part, table_of, setup_of, alone_of, with_alone}
 use Rattle.server_table.specs.Shares.{mark_of}
 use Rattle.server_table.specs.Steps.{step}
 use Rattle.server_table.specs.Answers.{as_answer}
 use Rattle.server_table.specs.Kept.{as_moved}
-use Rattle.server_table.proofs.Sides.{step_attach, step_take, step_leave, step_gone}
-use Rattle.server_table.proofs.Refused.{no_attach, no_take, no_leave, no_gone, no_room_to_attach}
+use Rattle.server_table.proofs.Sides.{step_attach}
+use Rattle.server_table.proofs.Refused.{no_room_to_attach}
 use Rattle.server_core.specs.Here.{here, attached}
 use Rattle.server_core.specs.Kept.{IsServer}
 use Rattle.server_core.specs.Members.{Standing, own as own_of, logged_as, Went, WentOr, WantsMemory}
@@ -76,8 +75,8 @@ member_at P (x ∷ xs) zero m all lt at = subst P (sym at) all.0
 member_at P (x ∷ xs) (suc e) m all lt at = member_at P xs e m all.1 (omega arith) at
 
 -- of one export only the journal changed
-pub kept_logged : (ms : List Standing) (slots : List (Option Tags)) (asked now inflight served e : ℕ) (m m' : Standing) → IsServed ms slots asked now inflight served → e < length ms → m ≡ get_or ms e m → m' ≡ logged_as m' m → IsServed (set ms e m') slots asked now inflight served
-kept_logged ms slots asked now inflight served e m m' kept lt at is = record {
+pub kept_logged : {ms : List Standing} {slots : List (Option Tags)} {asked now inflight served : ℕ} {m m' : Standing} (e : ℕ) → IsServed ms slots asked now inflight served → e < length ms → m ≡ get_or ms e m → m' ≡ logged_as m' m → IsServed (set ms e m') slots asked now inflight served
+kept_logged {ms} {slots} {asked} {now} {inflight} {served} {m} {m'} e kept lt at is = record {
   server = subst (λ (l : List Part). IsServer l slots asked now inflight served) (sym (parts_back ms e m m' at (ap (λ (x : Standing). x.part) is))) kept.server;
   room = members_set (λ (x : Standing). x.inflight ≡ inflight) ms e m' kept.room (ap (λ (x : Standing). x.inflight) is ∙ member_at (λ (x : Standing). x.inflight ≡ inflight) ms e m kept.room lt at);
 }
@@ -111,8 +110,8 @@ module _ {A : Type 0} where
         setup = ap (λ l. record { exports = l; inflight = inflight }) (same_setup ms e m m' at (ap (λ (z : Part). z.terms) q));
       }
 
-  pub kept_own : (ms : List Standing) (slots : List (Option Tags)) (asked now inflight served e : ℕ) (m m' : Standing) (one : Step A) (said : StepAnswer A) → IsServed ms slots asked now inflight served → e < length ms → m ≡ get_or ms e m → Went m m' one said → IsServed (set ms e m') slots asked now inflight served
-  kept_own ms slots asked now inflight served e m m' one said kept lt at went =
+  pub kept_own : {ms : List Standing} {slots : List (Option Tags)} {asked now inflight served : ℕ} {m m' : Standing} {one : Step A} {said : StepAnswer A} (e : ℕ) → IsServed ms slots asked now inflight served → e < length ms → m ≡ get_or ms e m → Went m m' one said → IsServed (set ms e m') slots asked now inflight served
+  kept_own {ms} {slots} {asked} {now} {inflight} {served} {m} {m'} {one} {said} e kept lt at went =
       let q : m'.part ≡ with_alone (own_of m one).state m.part = ap (λ (x : Standing). x.part) went.standing in
       let r : m'.inflight ≡ m.inflight = ap (λ (x : Standing). x.inflight) went.standing in
       record {
@@ -139,34 +138,6 @@ module _ {A : Type 0} where
   take_told e (Ok taking.End) = refl
   take_told e (Err x) = refl
 
-  pub stepped_leave : (ms : List Standing) (now inflight e s : ℕ) (m m' : Standing) (r : Result (Unit {0}) NotOpen) → e < length ms → m ≡ get_or ms e m → Went {A = A} m m' (own.Leave s) (step_answer_of_leave r) → Stepped (served_of ms now inflight) (Leave e s) (served_of (set ms e m') now inflight) (answer_of_leave {A = A} (here r))
-  stepped_leave ms now inflight e s m m' r lt at went =
-      subst (Stepped (served_of ms now inflight) (Leave e s) (served_of (set ms e m') now inflight)) (leave_told e r)
-      (stepped_own ms now inflight e m m' (Leave e s) (own.Leave s) (step_answer_of_leave r) at went (step_leave (parts ms) now inflight e s (mark_of (as_answer {A = A} e Weight (step_answer_of_leave r))) m.part Weight (within_parts ms e lt) (part_there ms e m lt at)))
-
-  pub stepped_gone : (ms : List Standing) (now inflight e s : ℕ) (m m' : Standing) (r : Result (Unit {0}) NotOpen) → e < length ms → m ≡ get_or ms e m → Went {A = A} m m' (own.Gone s) (step_answer_of_gone r) → Stepped (served_of ms now inflight) (Gone e s) (served_of (set ms e m') now inflight) (answer_of_gone {A = A} (here r))
-  stepped_gone ms now inflight e s m m' r lt at went =
-      subst (Stepped (served_of ms now inflight) (Gone e s) (served_of (set ms e m') now inflight)) (gone_told e r)
-      (stepped_own ms now inflight e m m' (Gone e s) (own.Gone s) (step_answer_of_gone r) at went (step_gone (parts ms) now inflight e s (mark_of (as_answer {A = A} e Weight (step_answer_of_gone r))) m.part Weight (within_parts ms e lt) (part_there ms e m lt at)))
-
-  pub stepped_take : (ms : List Standing) (now inflight e s : ℕ) (m m' : Standing) (r : Result (Taken A) NotOpen) → e < length ms → m ≡ get_or ms e m → Went {A = A} m m' (own.Take s) (step_answer_of_take r) → Stepped (served_of ms now inflight) (Take e s) (served_of (set ms e m') now inflight) (answer_of_take {A = A} (here r))
-  stepped_take ms now inflight e s m m' r lt at went =
-      subst (Stepped (served_of ms now inflight) (Take e s) (served_of (set ms e m') now inflight)) (take_told e r)
-      (stepped_own ms now inflight e m m' (Take e s) (own.Take s) (step_answer_of_take r) at went (step_take (parts ms) now inflight e s (mark_of (as_answer {A = A} e Weight (step_answer_of_take r))) m.part Weight (within_parts ms e lt) (part_there ms e m lt at)))
-
-  -- ---- there is no such export
-  pub absent_leave : (ms : List Standing) (now inflight e s : ℕ) → length ms ≤ e → Stepped {A = A} (served_of ms now inflight) (Leave e s) (served_of ms now inflight) NoExport
-  absent_leave ms now inflight e s le = record { stepped = no_leave (parts ms) now inflight e s true (beyond ms e le); setup = refl }
-
-  pub absent_gone : (ms : List Standing) (now inflight e s : ℕ) → length ms ≤ e → Stepped {A = A} (served_of ms now inflight) (Gone e s) (served_of ms now inflight) NoExport
-  absent_gone ms now inflight e s le = record { stepped = no_gone (parts ms) now inflight e s true (beyond ms e le); setup = refl }
-
-  pub absent_take : (ms : List Standing) (now inflight e s : ℕ) → length ms ≤ e → Stepped {A = A} (served_of ms now inflight) (Take e s) (served_of ms now inflight) NoExport
-  absent_take ms now inflight e s le = record { stepped = no_take (parts ms) now inflight e s true (beyond ms e le); setup = refl }
-
-  pub absent_attach : (ms : List Standing) (now inflight e : ℕ) → length ms ≤ e → Stepped {A = A} (served_of ms now inflight) (Attach e) (served_of ms now inflight) NoExport
-  absent_attach ms now inflight e le = record { stepped = no_attach (parts ms) now inflight e true (beyond ms e le); setup = refl }
-
 -- ---- attach
 module _ {A : Type 0} where
   pub stepped_attach : (ms : List Standing) (now inflight e : ℕ) (m m' : Standing) (r : Result ℕ NotAttached) → e < length ms → m ≡ get_or ms e m → WentOr {A = A} m m' own.Attach (step_answer_of_attach r) → WantsMemory m r → Stepped (served_of ms now inflight) (Attach e) (served_of (set ms e m') now inflight) (answer_of_attach {A = A} (attached e r))
@@ -181,9 +152,9 @@ module _ {A : Type 0} where
         setup = ap (λ (l : List Part). setup_of l inflight) back;
       }
 
-  pub kept_or : (ms : List Standing) (slots : List (Option Tags)) (asked now inflight served e : ℕ) (m m' : Standing) (one : Step A) (said : Option (StepAnswer A)) → IsServed ms slots asked now inflight served → e < length ms → m ≡ get_or ms e m → WentOr m m' one said → IsServed (set ms e m') slots asked now inflight served
-  kept_or ms slots asked now inflight served e m m' one None kept lt at same = kept_logged ms slots asked now inflight served e m m' kept lt at same
-  kept_or ms slots asked now inflight served e m m' one (Some said) kept lt at went = kept_own ms slots asked now inflight served e m m' one said kept lt at went
+  pub kept_or : {ms : List Standing} {slots : List (Option Tags)} {asked now inflight served : ℕ} {m : Standing} (e : ℕ) (m' : Standing) (one : Step A) (said : Option (StepAnswer A)) → IsServed ms slots asked now inflight served → e < length ms → m ≡ get_or ms e m → WentOr m m' one said → IsServed (set ms e m') slots asked now inflight served
+  kept_or e m' one None kept lt at same = kept_logged e kept lt at same
+  kept_or e m' one (Some said) kept lt at went = kept_own e kept lt at went
 
   pub seats_or : (ms : List Standing) (e : ℕ) (m m' : Standing) (one : Step A) (said : Option (StepAnswer A)) → m ≡ get_or ms e m → WentOr m m' one said → map (λ (x : Standing). x.seats) (set ms e m') ≡ map (λ (x : Standing). x.seats) ms
   seats_or ms e m m' one None at same = same_seats ms e m m' at (ap (λ (x : Standing). x.seats) same)

@@ -7,6 +7,7 @@ pub mod Served
 pub mod Journals
 pub mod Seats
 pub mod Counted
+pub mod Made
 pub mod Way
 pub mod Run
 pub mod NextDue

@@ -1,9 +1,8 @@
 //! A server by its events.
 ghost use Rattle.std.specs.Prelude.{◌≡◌};
 ghost use Rattle.server_table.specs.declared.event.Event.TheVariants as event;
-ghost use Rattle.server_core.specs.Journals.{EventMoves};
-ghost use Rattle.server_core.specs.Seats.{EventSeats};
-ghost use Rattle.server_core.specs.Served.{Stepped, answer_of_attach, answer_of_retune, answer_of_arrive, answer_of_dispatch, answer_of_take, answer_of_leave, answer_of_gone, answer_of_refusal};
+ghost use Rattle.server_core.specs.Made.{Makes};
+ghost use Rattle.server_core.specs.Served.{answer_of_attach, answer_of_retune, answer_of_arrive, answer_of_dispatch, answer_of_take, answer_of_leave, answer_of_gone, answer_of_refusal};
 
 use crate::refusal::{ArriveRefusal, NotArrived, NotAttached, NotRetuned, SessionRefusal};
 use crate::server::Server;
@@ -110,21 +109,16 @@ fn retune_answer<A: Allocator>(said: Result<(), NotRetuned>) -> Answer<A>
 impl<I: Image, E: Eligibility<Alloc = I::Alloc>> Server<I, E> {
     /// One event, and its answer. A request to be performed is named by its number.
     pub fn event(&mut self, what: Event<I::Alloc>) -> Answer<I::Alloc>
-        ensures step { Stepped {A = I.Alloc} self.old what self.new result }
-        ensures journals { EventMoves {A = I.Alloc} self.old what self.new result }
-        ensures seats { EventSeats {A = I.Alloc} self.old what self.new result }
+        ensures { Makes {A = I.Alloc} self.old what self.new result }
     {
         match what {
             Event::Attach { export } => attach_answer(self.attach(export)),
             Event::Arrive {
                 export,
-                session,
+                session: number,
                 moment,
                 request,
-            } => {
-                let number = session;
-                arrive_answer(self.arrive(SessionId { export, number }, moment, request))
-            }
+            } => arrive_answer(self.arrive(SessionId { export, number }, moment, request)),
             Event::Dispatch { moment } => dispatch_answer(self.dispatch(moment)),
             Event::Perform { export, number } => self.perform_number(export, number),
             Event::Take { export, session } => {
@@ -145,12 +139,7 @@ impl<I: Image, E: Eligibility<Alloc = I::Alloc>> Server<I, E> {
 
     /// The request that is in service under this number is done.
     fn perform_number(&mut self, export: u32, number: u64) -> Answer<I::Alloc>
-        ensures step { Stepped {A = I.Alloc} self.old (event.Perform export number) self.new
-            result }
-        ensures journals { EventMoves {A = I.Alloc} self.old (event.Perform export number) self.new
-            result }
-        ensures seats { EventSeats {A = I.Alloc} self.old (event.Perform export number) self.new
-            result }
+        ensures { Makes {A = I.Alloc} self.old (event.Perform export number) self.new result }
     {
         let Some(ticket) = self.find(export, number) else {
             return Answer::NotOut;

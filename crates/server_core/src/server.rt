@@ -1,16 +1,15 @@
 //! The server.
 mod due;
 
-ghost use Rattle.std.specs.Prelude.{◌≡◌, ◌↔◌, ◌+◌, ◌≤◌, ◌<◌, ◌^◌, not, filter, map, length, find, is_some, IsTrue, slice_set, IfOk, IfErr, IfSome, IfNone, OnSome};
+ghost use Rattle.std.specs.Prelude.{◌≡◌, ◌↔◌, ◌≤◌, ◌<◌, ◌^◌, not, filter, map, length, find, is_some, IsTrue, slice_set, IfOk, IfErr, IfSome, IfNone};
 ghost use Rattle.eligibility.specs.Choice.{IsActive, IsSlotInRange};
-ghost use Rattle.nbd_base.specs.Words.{change_at};
 ghost use Rattle.server_table.specs.Steps.{is_out_row};
 ghost use Rattle.server_table.specs.declared.event.Answer.TheVariants as answer;
 ghost use Rattle.nbd_commands.specs.Terms.{terms_of};
 ghost use Rattle.nbd_commands.specs.Exports.{IsWithin};
 ghost use Rattle.std.specs.List.{All, sum_by};
 ghost use Rattle.server_core.specs.Kept.{AreShort};
-ghost use Rattle.server_core.specs.Members.{IsSeated, opening_standing, seats_without};
+ghost use Rattle.server_core.specs.Members.{IsSeated, opening_standing};
 ghost use Rattle.server_core.specs.Served.{AllMembers};
 ghost use Rattle.server_core.specs.Journals.{ComesOfJournal};
 ghost use Rattle.server_core.specs.Here.{here as told_here, attached as told_attached, retuned as told_retuned, arrived as told_arrived, refusal_here};
@@ -158,13 +157,6 @@ fn arrive_refusal(refusal: ArriveRefusalAlone) -> ArriveRefusal
     }
 }
 
-fn not_arrived<A: Allocator>(refusal: ArriveRefusal, request: Request<A>) -> NotArrived<A>
-    ensures refusal { result.refusal ≡ refusal }
-    ensures request { result.request ≡ request }
-{
-    NotArrived { refusal, request }
-}
-
 /// What an arrival was answered, as the server answers it.
 fn arrived<A: Allocator>(
     said: Result<Arrived, NotArrivedAlone<A>>,
@@ -181,9 +173,10 @@ fn arrived<A: Allocator>(
 }
 
 impl<I: Image, E: Eligibility<Alloc = I::Alloc>> Server<I, E> {
-    ghost use Rattle.server_core.specs.Served.{Holds, Stepped, answer_of_attach, answer_of_retune, answer_of_leave, answer_of_gone, answer_of_take, answer_of_arrive, answer_of_dispatch, answer_of_perform, seats_chosen, opening_served, setup_for, waiting_tags};
-    ghost use Rattle.server_core.specs.Counted.{counted_steps, rise, IsSound};
-    ghost use Rattle.server_core.specs.Journals.{EventMoves, IsCellOf};
+    ghost use Rattle.server_core.specs.Served.{Holds, answer_of_attach, answer_of_retune, answer_of_leave, answer_of_gone, answer_of_take, answer_of_arrive, answer_of_dispatch, seats_chosen, opening_served, setup_for, waiting_tags};
+    ghost use Rattle.server_core.specs.Counted.{IsSound};
+    ghost use Rattle.server_core.specs.Journals.{IsCellOf};
+    ghost use Rattle.server_core.specs.Made.{Makes};
 
     /// A server of the exports of a configuration, each in its opening state.
     pub fn new(alloc: I::Alloc, config: &Config<I::Alloc>) -> Result<Self, NoMemory>
@@ -274,13 +267,8 @@ impl<I: Image, E: Eligibility<Alloc = I::Alloc>> Server<I, E> {
 
     /// Nothing more arrives on a session that is open. It takes no memory.
     pub fn leave(&mut self, session: SessionId) -> Result<(), SessionRefusal>
-        ensures step { Stepped {A = I.Alloc} self.old (event.Leave session.export session.number)
-            self.new (answer_of_leave result) }
-        ensures journals { EventMoves {A = I.Alloc} self.old
-            (event.Leave session.export session.number) self.new (answer_of_leave result) }
-        ensures counted { counted_steps self.new
-            ≡ counted_steps self.old + rise {A = I.Alloc} (answer_of_leave result) }
-        ensures seats { self.new.seats ≡ self.old.seats }
+        ensures { Makes {A = I.Alloc} self.old (event.Leave session.export session.number) self.new
+            (answer_of_leave result) }
     {
         if session.export as usize >= self.members.len() {
             return Err(SessionRefusal::NoExport);
@@ -291,13 +279,8 @@ impl<I: Image, E: Eligibility<Alloc = I::Alloc>> Server<I, E> {
 
     /// A session that isn't gone is dropped with its replies; its requests are still served. It takes no memory.
     pub fn gone(&mut self, session: SessionId) -> Result<(), SessionRefusal>
-        ensures step { Stepped {A = I.Alloc} self.old (event.Gone session.export session.number)
-            self.new (answer_of_gone result) }
-        ensures journals { EventMoves {A = I.Alloc} self.old
-            (event.Gone session.export session.number) self.new (answer_of_gone result) }
-        ensures counted { counted_steps self.new
-            ≡ counted_steps self.old + rise {A = I.Alloc} (answer_of_gone result) }
-        ensures seats { self.new.seats ≡ self.old.seats }
+        ensures { Makes {A = I.Alloc} self.old (event.Gone session.export session.number) self.new
+            (answer_of_gone result) }
     {
         if session.export as usize >= self.members.len() {
             return Err(SessionRefusal::NoExport);
@@ -308,13 +291,8 @@ impl<I: Image, E: Eligibility<Alloc = I::Alloc>> Server<I, E> {
 
     /// The oldest reply of a session that isn't gone is taken. It takes no memory.
     pub fn take_reply(&mut self, session: SessionId) -> Result<Taken<I::Alloc>, SessionRefusal>
-        ensures step { Stepped {A = I.Alloc} self.old (event.Take session.export session.number)
-            self.new (answer_of_take result) }
-        ensures journals { EventMoves {A = I.Alloc} self.old
-            (event.Take session.export session.number) self.new (answer_of_take result) }
-        ensures counted { counted_steps self.new
-            ≡ counted_steps self.old + rise {A = I.Alloc} (answer_of_take result) }
-        ensures seats { self.new.seats ≡ self.old.seats }
+        ensures { Makes {A = I.Alloc} self.old (event.Take session.export session.number) self.new
+            (answer_of_take result) }
     {
         if session.export as usize >= self.members.len() {
             return Err(SessionRefusal::NoExport);
@@ -326,13 +304,8 @@ impl<I: Image, E: Eligibility<Alloc = I::Alloc>> Server<I, E> {
     /// Opens a session of an export. The oldest steps of its log go into its base, as many as have to; without memory some
     /// of these.
     pub fn attach(&mut self, export: u32) -> Result<SessionId, NotAttached>
-        ensures step { Stepped {A = I.Alloc} self.old (event.Attach export) self.new
+        ensures makes { Makes {A = I.Alloc} self.old (event.Attach export) self.new
             (answer_of_attach result) }
-        ensures journals { EventMoves {A = I.Alloc} self.old (event.Attach export) self.new
-            (answer_of_attach result) }
-        ensures counted { counted_steps self.new
-            ≡ counted_steps self.old + rise {A = I.Alloc} (answer_of_attach result) }
-        ensures seats { self.new.seats ≡ self.old.seats }
         ensures export { IfOk result (λ session. session.export ≡ export) }
     {
         if export as usize >= self.members.len() {
@@ -346,13 +319,8 @@ impl<I: Image, E: Eligibility<Alloc = I::Alloc>> Server<I, E> {
     /// does the last R tag where the new rates have a reservation. The oldest steps of its log go into its base, as many as
     /// have to; without memory some of these.
     pub fn retune(&mut self, export: u32, rates: Rates) -> Result<(), NotRetuned>
-        ensures step { Stepped {A = I.Alloc} self.old (event.Retune export rates) self.new
+        ensures { Makes {A = I.Alloc} self.old (event.Retune export rates) self.new
             (answer_of_retune result) }
-        ensures journals { EventMoves {A = I.Alloc} self.old (event.Retune export rates) self.new
-            (answer_of_retune result) }
-        ensures counted { counted_steps self.new
-            ≡ counted_steps self.old + rise {A = I.Alloc} (answer_of_retune result) }
-        ensures seats { self.new.seats ≡ self.old.seats }
     {
         if export as usize >= self.members.len() {
             return Err(NotRetuned::NoExport);
@@ -385,15 +353,9 @@ impl<I: Image, E: Eligibility<Alloc = I::Alloc>> Server<I, E> {
     /// it; None where the ticket's slot doesn't hold its number any more.
     pub fn perform(&mut self, ticket: Ticket) -> Option<bool>
         ensures some { IfSome result (λ memory. Holds self.old ticket
-            × Stepped {A = I.Alloc} self.old (event.Perform ticket.export ticket.number) self.new
+            × Makes {A = I.Alloc} self.old (event.Perform ticket.export ticket.number) self.new
             (answer.Performed memory)) }
         ensures none { IfNone result ((Holds self.old ticket → ⊥) × (self.new ≡ self.old)) }
-        ensures journals { EventMoves {A = I.Alloc} self.old
-            (event.Perform ticket.export ticket.number) self.new (answer_of_perform result) }
-        ensures counted { counted_steps self.new
-            ≡ counted_steps self.old + rise {A = I.Alloc} (answer_of_perform result) }
-        ensures seats { OnSome result (self.new.seats
-            ≡ change_at (seats_without ticket.number) ticket.export self.old.seats) }
     {
         if ticket.export as usize >= self.members.len() {
             return None;
@@ -417,29 +379,24 @@ impl<I: Image, E: Eligibility<Alloc = I::Alloc>> Server<I, E> {
         moment: Moment,
         request: Request<I::Alloc>,
     ) -> Result<Arrived, NotArrived<I::Alloc>>
-        ensures step { Stepped {A = I.Alloc} self.old (event.Arrive session.export session.number
+        ensures makes { Makes {A = I.Alloc} self.old (event.Arrive session.export session.number
             moment request) self.new (answer_of_arrive result) }
-        ensures journals { EventMoves {A = I.Alloc} self.old (event.Arrive session.export
-            session.number moment request) self.new (answer_of_arrive result) }
-        ensures counted { counted_steps self.new
-            ≡ counted_steps self.old + rise {A = I.Alloc} (answer_of_arrive result) }
-        ensures seats { self.new.seats ≡ self.old.seats }
         ensures back { IfErr result (λ e. e.request ≡ request) }
     {
         if session.export as usize >= self.members.len() {
-            return Err(not_arrived(ArriveRefusal::NoExport, request));
+            let refusal = ArriveRefusal::NoExport;
+            return Err(NotArrived { refusal, request });
         }
         let member = &mut self.members[session.export as usize];
         let Ok(kept) = member.reserve(session.number, &request) else {
-            return Err(not_arrived(ArriveRefusal::NoMemory, request));
+            let refusal = ArriveRefusal::NoMemory;
+            return Err(NotArrived { refusal, request });
         };
-        let member = &self.members[session.export as usize];
-        let waiting = member.waiting();
-        let was = member.first();
         if !member.admits(session.number, &request) {
-            let member = &mut self.members[session.export as usize];
             return arrived(member.arrive(session.number, moment, request, kept));
         }
+        let waiting = member.waiting();
+        let was = member.first();
         // Asked for what its contract tells: a moment is below 2^62.
         let _ = moment.nanoseconds();
         make_way(&mut self.members, &mut self.eligible, waiting, moment);
@@ -453,12 +410,8 @@ impl<I: Image, E: Eligibility<Alloc = I::Alloc>> Server<I, E> {
     /// Chooses the request that is served next: none where as many are in service as may be, or nothing is due (mClock,
     /// request scheduling). It takes no memory.
     pub fn dispatch(&mut self, moment: Moment) -> Option<Chosen>
-        ensures step { Stepped {A = I.Alloc} self.old (event.Dispatch moment) self.new
+        ensures makes { Makes {A = I.Alloc} self.old (event.Dispatch moment) self.new
             (answer_of_dispatch result) }
-        ensures journals { EventMoves {A = I.Alloc} self.old (event.Dispatch moment) self.new
-            (answer_of_dispatch result) }
-        ensures counted { counted_steps self.new
-            ≡ counted_steps self.old + rise {A = I.Alloc} (answer_of_dispatch result) }
         ensures ticket { IfSome result (λ chosen. Holds self.new chosen.ticket) }
         ensures seats { self.new.seats ≡ seats_chosen result self.old.seats }
     {

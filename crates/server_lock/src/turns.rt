@@ -1,14 +1,12 @@
 //! The server with its book, the passes, and the turns: all that may change either stands in this module.
-ghost use Rattle.std.specs.Prelude.{◌≡◌, ◌+◌, ◌≤◌, ◌<◌, IfOk, IfErr, IfSome, IfNone, OnSome, List, [], vec_len};
+ghost use Rattle.std.specs.Prelude.{◌≡◌, ◌+◌, ◌≤◌, ◌<◌, IfOk, IfErr, IfSome, IfNone, List, [], vec_len};
 ghost use Rattle.std.specs.List.{All, sum_by};
 ghost use Rattle.std.specs.Vec.{vec_capacity};
-ghost use Rattle.nbd_base.specs.Words.{change_at};
 ghost use Rattle.server_table.specs.declared.event.Event.TheVariants as event;
 ghost use Rattle.server_table.specs.declared.event.Answer.TheVariants as answer;
 ghost use Rattle.server_core.specs.Counted.{counted_steps, IsSound};
-ghost use Rattle.server_core.specs.Members.{seats_without};
-ghost use Rattle.server_core.specs.Journals.{EventMoves};
-ghost use Rattle.server_core.specs.Served.{Holds, Stepped, seats_chosen, answer_of_attach, answer_of_arrive, answer_of_dispatch, answer_of_perform, answer_of_take, answer_of_leave, answer_of_gone, answer_of_retune};
+ghost use Rattle.server_core.specs.Made.{Makes};
+ghost use Rattle.server_core.specs.Served.{Holds, seats_chosen, answer_of_attach, answer_of_arrive, answer_of_dispatch, answer_of_perform, answer_of_take, answer_of_leave, answer_of_gone, answer_of_retune};
 ghost use Rattle.server_lock.specs.Traces.{rise_of_trace};
 ghost use Rattle.server_lock.specs.Tally.{answered};
 ghost use Rattle.server_lock.specs.Scores.{noted, scored, opened, unused, holding, without, chosen_by};
@@ -310,11 +308,8 @@ pub fn turn_attach<L: Ledger, I: Image, E: Eligibility<Alloc = I::Alloc>>(
     pass: &mut Pass<L>,
     export: u32,
 ) -> Result<SessionId, NotAttached>
-    ensures step { Stepped {A = I.Alloc} booked.old (event.Attach export) booked.new
+    ensures makes { Makes {A = I.Alloc} booked.old (event.Attach export) booked.new
         (answer_of_attach result) }
-    ensures journals { EventMoves {A = I.Alloc} booked.old (event.Attach export) booked.new
-        (answer_of_attach result) }
-    ensures seats { booked.new.seats ≡ booked.old.seats }
     ensures export { IfOk result (λ session. session.export ≡ export) }
     ensures pass { pass.new
         ≡ noted {A = I.Alloc} pass.old (event.Attach export) (answer_of_attach result) }
@@ -333,11 +328,8 @@ pub fn turn_arrive<L: Ledger, I: Image, E: Eligibility<Alloc = I::Alloc>>(
     moment: Moment,
     request: Request<I::Alloc>,
 ) -> Result<Arrived, NotArrived<I::Alloc>>
-    ensures step { Stepped {A = I.Alloc} booked.old (event.Arrive session.export session.number
+    ensures makes { Makes {A = I.Alloc} booked.old (event.Arrive session.export session.number
         moment request) booked.new (answer_of_arrive result) }
-    ensures journals { EventMoves {A = I.Alloc} booked.old (event.Arrive session.export
-        session.number moment request) booked.new (answer_of_arrive result) }
-    ensures seats { booked.new.seats ≡ booked.old.seats }
     ensures back { IfErr result (λ e. e.request ≡ request) }
     ensures pass { pass.new ≡ noted {A = I.Alloc} pass.old
         (event.Arrive session.export session.number moment request) (answer_of_arrive result) }
@@ -380,9 +372,7 @@ pub fn turn_dispatch<L: Ledger, I: Image, E: Eligibility<Alloc = I::Alloc>>(
     pass: &mut Pass<L>,
     moment: Moment,
 ) -> Option<Chosen>
-    ensures step { Stepped {A = I.Alloc} booked.old (event.Dispatch moment) booked.new
-        (answer_of_dispatch result) }
-    ensures journals { EventMoves {A = I.Alloc} booked.old (event.Dispatch moment) booked.new
+    ensures makes { Makes {A = I.Alloc} booked.old (event.Dispatch moment) booked.new
         (answer_of_dispatch result) }
     ensures ticket { IfSome result (λ chosen. Holds booked.new chosen.ticket) }
     ensures seats { booked.new.seats ≡ seats_chosen result booked.old.seats }
@@ -412,13 +402,9 @@ pub fn turn_perform<L: Ledger, I: Image, E: Eligibility<Alloc = I::Alloc>>(
     ticket: Ticket,
 ) -> Option<bool>
     ensures some { IfSome result (λ memory. Holds booked.old ticket
-        × Stepped {A = I.Alloc} booked.old (event.Perform ticket.export ticket.number) booked.new
+        × Makes {A = I.Alloc} booked.old (event.Perform ticket.export ticket.number) booked.new
         (answer.Performed memory)) }
     ensures none { IfNone result ((Holds booked.old ticket → ⊥) × (booked.new ≡ booked.old)) }
-    ensures journals { EventMoves {A = I.Alloc} booked.old
-        (event.Perform ticket.export ticket.number) booked.new (answer_of_perform result) }
-    ensures seats { OnSome result (booked.new.seats
-        ≡ change_at (seats_without ticket.number) ticket.export booked.old.seats) }
     ensures pass { pass.new ≡ without (noted {A = I.Alloc} pass.old
         (event.Perform ticket.export ticket.number) (answer_of_perform result)) ticket }
 {
@@ -442,11 +428,8 @@ pub fn turn_take<L: Ledger, I: Image, E: Eligibility<Alloc = I::Alloc>>(
     pass: &mut Pass<L>,
     session: SessionId,
 ) -> Result<Taken<I::Alloc>, SessionRefusal>
-    ensures step { Stepped {A = I.Alloc} booked.old (event.Take session.export session.number)
+    ensures makes { Makes {A = I.Alloc} booked.old (event.Take session.export session.number)
         booked.new (answer_of_take result) }
-    ensures journals { EventMoves {A = I.Alloc} booked.old
-        (event.Take session.export session.number) booked.new (answer_of_take result) }
-    ensures seats { booked.new.seats ≡ booked.old.seats }
     ensures pass { pass.new ≡ noted {A = I.Alloc} pass.old
         (event.Take session.export session.number) (answer_of_take result) }
 {
@@ -467,11 +450,8 @@ pub fn turn_leave<L: Ledger, I: Image, E: Eligibility<Alloc = I::Alloc>>(
     pass: &mut Pass<L>,
     session: SessionId,
 ) -> Result<(), SessionRefusal>
-    ensures step { Stepped {A = I.Alloc} booked.old (event.Leave session.export session.number)
+    ensures makes { Makes {A = I.Alloc} booked.old (event.Leave session.export session.number)
         booked.new (answer_of_leave result) }
-    ensures journals { EventMoves {A = I.Alloc} booked.old
-        (event.Leave session.export session.number) booked.new (answer_of_leave result) }
-    ensures seats { booked.new.seats ≡ booked.old.seats }
     ensures pass { pass.new ≡ noted {A = I.Alloc} pass.old
         (event.Leave session.export session.number) (answer_of_leave result) }
 {
@@ -492,11 +472,8 @@ pub fn turn_gone<L: Ledger, I: Image, E: Eligibility<Alloc = I::Alloc>>(
     pass: &mut Pass<L>,
     session: SessionId,
 ) -> Result<(), SessionRefusal>
-    ensures step { Stepped {A = I.Alloc} booked.old (event.Gone session.export session.number)
+    ensures makes { Makes {A = I.Alloc} booked.old (event.Gone session.export session.number)
         booked.new (answer_of_gone result) }
-    ensures journals { EventMoves {A = I.Alloc} booked.old
-        (event.Gone session.export session.number) booked.new (answer_of_gone result) }
-    ensures seats { booked.new.seats ≡ booked.old.seats }
     ensures pass { pass.new ≡ noted {A = I.Alloc} pass.old
         (event.Gone session.export session.number) (answer_of_gone result) }
 {
@@ -518,11 +495,8 @@ pub fn turn_retune<L: Ledger, I: Image, E: Eligibility<Alloc = I::Alloc>>(
     export: u32,
     rates: Rates,
 ) -> Result<(), NotRetuned>
-    ensures step { Stepped {A = I.Alloc} booked.old (event.Retune export rates) booked.new
+    ensures makes { Makes {A = I.Alloc} booked.old (event.Retune export rates) booked.new
         (answer_of_retune result) }
-    ensures journals { EventMoves {A = I.Alloc} booked.old (event.Retune export rates) booked.new
-        (answer_of_retune result) }
-    ensures seats { booked.new.seats ≡ booked.old.seats }
     ensures pass { pass.new
         ≡ noted {A = I.Alloc} pass.old (event.Retune export rates) (answer_of_retune result) }
 {

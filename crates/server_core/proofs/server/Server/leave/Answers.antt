@@ -1,67 +1,24 @@
-use Rattle.std.proofs.Common.{◌<◌, ◌≤◌, length, set, sym, ◌∙◌, ap, subst, rules}
-use Rattle.lone_export.specs.declared.step.Step.TheVariants as own
-use Rattle.lone_export.specs.Lone.{step_answer_of_leave}
-use Rattle.server_table.specs.declared.event.Event.TheVariants.{Leave}
-use Rattle.server_table.specs.declared.event.Answer.TheVariants.{NoExport}
-use Rattle.server_core.specs.Served.{Served, served_of, Stepped, answer_of_leave}
-use Rattle.server_core.proofs.Served.{kept_own, seats_own, stepped_leave, absent_leave}
-use Rattle.server_core.specs.Journals.{CellMoves}
-use Rattle.server_core.proofs.Journals.{absent, moves_leave}
-use Rattle.server_core.proofs.Counted.{counted}
+use Rattle.std.proofs.Common.{◌<◌, ◌≤◌, length, sym, ◌∙◌, ap, rules}
+use Rattle.server_core.specs.Served.{answer_of_leave}
+use Rattle.server_core.proofs.Served.{kept_own, leave_told}
+use Rattle.server_core.proofs.Made.{leaves, makes_absent, makes_own}
 use Rattle.server_core.proofs.server.Server.leave.Goals as goal
 
-pub returns-then-session-len-clause-step : goal.returns-then-session-len-clause-step
-returns-then-session-len-clause-step g c =
+pub returns-then-session-len : goal.returns-then-session-len
+returns-then-session-len g c =
     let i = c.self.inside in
-    let e = c.args.session.export in
-    let s = c.args.session.number in
-    let le : length i.members.items ≤ e = search rules in
-    subst (λ (v : Served). Stepped v (Leave e s) v NoExport) c.self.view_is (absent_leave i.members.items i.latest i.inflight e s le)
+    let le : length i.members.items ≤ c.args.session.export = search rules in
+    makes_absent i.members.items i.latest i.inflight (leaves c.args.session.export c.args.session.number).of c.self.view_is le
 
 pub invariant_of-self : goal.invariant_of-self
 invariant_of-self g c =
+    let lt : c.args.session.export < length c.self.inside.members.items = search rules in
+    kept_own c.args.session.export c.self.invariant lt c.index_mut-member.ensures.value c.leave.ensures.went
+
+pub returns : goal.returns
+returns g c =
     let i = c.self.inside in
     let e = c.args.session.export in
     let lt : e < length i.members.items = search rules in
-    kept_own i.members.items (g.E.Eligibility.contents i.eligible) (g.E.Eligibility.asked i.eligible) i.latest i.inflight i.served e c.index_mut-member.result.now c.leave.new.self (own.Leave c.args.session.number) (step_answer_of_leave c.leave.result) c.self.invariant lt c.index_mut-member.ensures.value c.leave.ensures.went
-
-pub returns-clause-step : goal.returns-clause-step
-returns-clause-step g c =
-    let i = c.self.inside in
-    let e = c.args.session.export in
-    let s = c.args.session.number in
-    let m' = c.leave.new.self in
-    let lt : e < length i.members.items = search rules in
-    let one = stepped_leave i.members.items i.latest i.inflight e s c.index_mut-member.result.now m' c.leave.result lt c.index_mut-member.ensures.value c.leave.ensures.went in
-    let two = subst (λ r. Stepped (served_of i.members.items i.latest i.inflight) (Leave e s) (served_of (set i.members.items e m') i.latest i.inflight) (answer_of_leave r)) (sym c.here.ensures) one in
-    subst (λ (v : Served). Stepped v (Leave e s) (served_of (set i.members.items e m') i.latest i.inflight) (answer_of_leave c.here.result)) c.self.view_is two
-
-pub returns-clause-seats : goal.returns-clause-seats
-returns-clause-seats g c =
-    seats_own c.self.inside.members.items c.args.session.export c.index_mut-member.result.now c.leave.new.self (own.Leave c.args.session.number) (step_answer_of_leave c.leave.result) c.index_mut-member.ensures.value c.leave.ensures.went
-    ∙ ap (λ (v : Served). v.seats) c.self.view_is
-
-pub returns-clause-counted : goal.returns-clause-counted
-returns-clause-counted g c =
-    let i = c.self.inside in
-    counted {A = g.row.I-Alloc.Denot} i.members.items i.latest i.inflight c.args.self.now _ _ _ c.self.view_is (returns-clause-step g c)
-
-pub returns-then-session-len-clause-journals : goal.returns-then-session-len-clause-journals
-returns-then-session-len-clause-journals g c =
-    let i = c.self.inside in
-    let e = c.args.session.export in
-    let s = c.args.session.number in
-    let le : length i.members.items ≤ e = search rules in
-    subst (λ (v : Served). CellMoves {A = g.row.I-Alloc.Denot} v e (own.Leave s) v NoExport) c.self.view_is (absent i.members.items i.latest i.inflight e (own.Leave s) NoExport le)
-
-pub returns-clause-journals : goal.returns-clause-journals
-returns-clause-journals g c =
-    let i = c.self.inside in
-    let e = c.args.session.export in
-    let s = c.args.session.number in
-    let m' = c.leave.new.self in
-    let lt : e < length i.members.items = search rules in
-    let new = served_of (set i.members.items e m') i.latest i.inflight in
-    let one = moves_leave {A = g.row.I-Alloc.Denot} i.members.items i.latest i.inflight e s c.index_mut-member.result.now m' c.leave.result lt c.index_mut-member.ensures.value c.leave.ensures.journal in
-    let two = subst (λ r. CellMoves {A = g.row.I-Alloc.Denot} (served_of i.members.items i.latest i.inflight) e (own.Leave s) new (answer_of_leave r)) (sym c.here.ensures) one in
-    subst (λ (v : Served). CellMoves {A = g.row.I-Alloc.Denot} v e (own.Leave s) new (answer_of_leave c.here.result)) c.self.view_is two
+    makes_own i.members.items i.latest i.inflight (leaves e c.args.session.number) c.self.view_is lt c.index_mut-member.ensures.value c.leave.ensures.went c.leave.ensures.journal
+    (leave_told e c.leave.result ∙ ap answer_of_leave (sym c.here.ensures))

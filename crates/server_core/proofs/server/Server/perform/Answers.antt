@@ -1,19 +1,13 @@
 use Rattle.std.proofs.Common.{◌≡◌, ◌<◌, ◌≤◌, ◌-◌, ◌+◌, [], length, set, Some, List, refl, sym, ◌∙◌, ap, subst, arith, rules}
-use Rattle.nbd_base.specs.Words.{change_at}
-use Rattle.tag_clock.specs.declared.Phase.TheVariants.{Weight}
-use Rattle.lone_export.specs.declared.step.Step.TheVariants as own
-use Rattle.lone_export.specs.declared.step.StepAnswer.TheVariants as alone
 use Rattle.server_table.specs.declared.event.Event.TheVariants.{Perform}
 use Rattle.server_table.specs.declared.event.Answer.TheVariants.{Performed}
-use Rattle.server_core.specs.Members.{Seat, Standing, slot_in, seats_without}
+use Rattle.server_core.specs.Made.{Makes}
+use Rattle.server_core.specs.Members.{Seat, Standing, slot_in}
 use Rattle.server_core.specs.Tickets.{Place}
-use Rattle.server_core.specs.Served.{Served, served_of, Holds, Stepped, IsServed}
+use Rattle.server_core.specs.Served.{Served, served_of, Holds, IsServed}
+use Rattle.server_core.proofs.Made.{makes_performed}
 use Rattle.server_core.proofs.Served.{set_back}
-use Rattle.server_core.proofs.Performed.{all_seats, seats_there, seats_beyond, some_is_served, kept_performs, stepped_performs, seats_performs}
-use Rattle.server_core.specs.Counted.{counted_steps}
-use Rattle.server_core.specs.Journals.{CellMoves}
-use Rattle.server_core.proofs.Journals.{not_out, moves_own}
-use Rattle.server_core.proofs.Counted.{counted}
+use Rattle.server_core.proofs.Performed.{seats_there, seats_beyond, some_is_served, kept_performs}
 use Rattle.server_core.proofs.server.Server.perform.Goals as goal
 
 pub returns-then-ticket-len-clause-none : goal.returns-then-ticket-len-clause-none
@@ -61,53 +55,15 @@ invariant_of-self-2 g c =
 pub returns-clause-some : goal.returns-clause-some
 returns-clause-some g c =
     let i = c.self.inside in
-    let t = c.ticket.inside in
-    let old = served_of i.members.items i.latest i.inflight in
-    let new = served_of (set i.members.items t.export c.perform.new.self) i.latest i.inflight in
-    let lt : t.export < length i.members.items = search rules in
-    let held : Holds old (record { export = t.export; number = t.number; slot = t.slot }) =
-    subst (λ (l : List Seat). slot_in l t.number ≡ Some t.slot) (sym (seats_there i.members.items t.export c.index_mut-member.result.now lt c.index_mut-member.ensures.value)) c.in-Some.ensures.some.0 in
-    let one = stepped_performs g.row.I-Alloc.Denot i.members.items i.latest i.inflight t.export t.number c.index_mut-member.result.now c.perform.new.self c.in-Some.memory lt c.index_mut-member.ensures.value c.in-Some.ensures.some.1 in (
-      subst (λ (v : Served). Holds v c.args.ticket) c.self.view_is (subst (λ (p : Place). Holds old p) c.ticket.view_is held),
-      subst (λ (v : Served). Stepped {A = g.row.I-Alloc.Denot} v (Perform c.args.ticket.export c.args.ticket.number) new (Performed c.in-Some.memory)) c.self.view_is
-          (subst (λ (p : Place). Stepped {A = g.row.I-Alloc.Denot} old (Perform p.export p.number) new (Performed c.in-Some.memory)) c.ticket.view_is one),
-    )
-
-pub returns-clause-seats : goal.returns-clause-seats
-returns-clause-seats g c =
-    let i = c.self.inside in
-    let t = c.ticket.inside in
-    seats_performs g.row.I-Alloc.Denot i.members.items t.export t.number c.index_mut-member.result.now c.perform.new.self c.in-Some.memory c.index_mut-member.ensures.value c.in-Some.ensures.some.1
-    ∙ ap (λ (p : Place). change_at (seats_without p.number) p.export (all_seats i.members.items)) c.ticket.view_is
-    ∙ ap (λ (v : Served). change_at (seats_without c.args.ticket.number) c.args.ticket.export v.seats) c.self.view_is
-
-pub returns-clause-counted : goal.returns-clause-counted
-returns-clause-counted g c =
-    let i = c.self.inside in
-    counted {A = g.row.I-Alloc.Denot} i.members.items i.latest i.inflight c.args.self.now _ _ _ c.self.view_is ((returns-clause-some g c).1)
-
-pub returns-in_default-clause-counted : goal.returns-in_default-clause-counted
-returns-in_default-clause-counted g c =
-    let same = ap counted_steps (returns-in_default-clause-none g c).1 in
-    same ∙ sym (omega arith)
-
-pub returns-then-ticket-len-clause-journals : goal.returns-then-ticket-len-clause-journals
-returns-then-ticket-len-clause-journals g c = not_out {A = g.row.I-Alloc.Denot} c.args.self.now c.args.self.now c.args.ticket.export c.args.ticket.number refl
-
-pub returns-in_default-clause-journals : goal.returns-in_default-clause-journals
-returns-in_default-clause-journals g c =
-    let i = c.self.inside in
-    let t = c.ticket.inside in
-    not_out {A = g.row.I-Alloc.Denot} c.args.self.now (served_of (set i.members.items t.export c.perform.new.self) i.latest i.inflight) c.args.ticket.export c.args.ticket.number (returns-in_default-clause-none g c).1
-
-pub returns-clause-journals : goal.returns-clause-journals
-returns-clause-journals g c =
-    let i = c.self.inside in
     let A = g.row.I-Alloc.Denot in
     let t = c.ticket.inside in
     let old = served_of i.members.items i.latest i.inflight in
     let new = served_of (set i.members.items t.export c.perform.new.self) i.latest i.inflight in
     let lt : t.export < length i.members.items = search rules in
-    let one = moves_own {A = A} i.members.items i.latest i.latest i.inflight t.export Weight c.index_mut-member.result.now c.perform.new.self (own.Perform t.number c.in-Some.memory) (alone.Performed c.in-Some.memory) (Performed c.in-Some.memory) refl lt c.index_mut-member.ensures.value c.in-Some.ensures.journal in
-    subst (λ (v : Served). CellMoves {A = A} v c.args.ticket.export (own.Perform c.args.ticket.number c.in-Some.memory) new (Performed c.in-Some.memory)) c.self.view_is
-    (subst (λ (p : Place). CellMoves {A = A} old p.export (own.Perform p.number c.in-Some.memory) new (Performed c.in-Some.memory)) c.ticket.view_is one)
+    let at = c.index_mut-member.ensures.value in
+    let held : Holds old (record { export = t.export; number = t.number; slot = t.slot }) =
+    subst (λ (l : List Seat). slot_in l t.number ≡ Some t.slot) (sym (seats_there i.members.items t.export c.index_mut-member.result.now lt at)) c.in-Some.ensures.some.0 in (
+      subst (λ (v : Served). Holds v c.args.ticket) c.self.view_is (subst (λ (p : Place). Holds old p) c.ticket.view_is held),
+      subst (λ (p : Place). Makes {A = A} c.args.self.now (Perform p.export p.number) new (Performed c.in-Some.memory)) c.ticket.view_is
+          (makes_performed {A = A} i.members.items i.latest i.inflight t.export c.self.view_is lt at c.in-Some.ensures.some.1 c.in-Some.ensures.journal),
+    )
