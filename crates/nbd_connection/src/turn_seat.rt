@@ -25,7 +25,7 @@ pub struct TurnSeat<'a> {
     had_input: AtomicBool,
     // Whether that was a long WRITE.
     writes_long: AtomicBool,
-    // Whether its client keeps up with long replies.
+    // Whether its client keeps up with its replies.
     keeps_up: AtomicBool,
     // For how many holds it counts as one that mostly has several requests.
     backlog: AtomicU32,
@@ -67,7 +67,7 @@ impl<'a> TurnSeat<'a> {
         let size = size_of(head);
         let long = size == RequestSize::LongWrite;
         let behind = long && self.had_input.load(Ordering::SeqCst);
-        let keeps_up = size != RequestSize::LongRead || self.keeps_up.load(Ordering::SeqCst);
+        let keeps_up = self.keeps_up.load(Ordering::SeqCst);
         let more = has_more(!ready.is_empty(), under_way, behind, keeps_up);
         let before = self.backlog.load(Ordering::SeqCst);
         let backlog = backlog_after(before, more);

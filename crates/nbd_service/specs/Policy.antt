@@ -113,9 +113,9 @@ cost_by kind length = if (kind == 0) || (kind == 1) then units_of length else 1
 abbrev pub backlog_by : ℕ → Bool → ℕ
 backlog_by before more = if more then 16 else before - 1
 
--- ready behind it, under way, or behind the long WRITE before this one, where the client keeps up
+-- ready behind it, behind the long WRITE before this one, or under way, where the client keeps up
 abbrev pub has_more_by : Bool → ℕ → Bool → Bool → Bool
-has_more_by ready under_way behind keeps_up = keeps_up && (ready || nat_lt 0 under_way || behind)
+has_more_by ready under_way behind keeps_up = ready || behind || (nat_lt 0 under_way && keeps_up)
 
 -- what the writes took beyond a nanosecond a byte isn't more than what lay between them
 abbrev pub keeps_up_by : ℕ → ℕ → ℕ → Bool

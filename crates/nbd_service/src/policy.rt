@@ -296,13 +296,12 @@ pub fn asks_for_turn(units: u32, passed: u64) -> bool
     units >= UNITS_A_TURN || passed >= TURN_NS
 }
 
-/// Whether a session has more at hand than its next request: others are ready behind it, so many are under way, or more had come behind
-/// the long WRITE before this one. Where it reads long data, and its client doesn't keep up with the replies, these wait for the client
-/// and not for the server.
+/// Whether a session has more at hand than its next request: others are ready behind it, more had come behind the long WRITE before this
+/// one, or so many are under way, and its client keeps up. Where it doesn't, these wait for the client and not for the server.
 pub fn has_more(ready: bool, under_way: u64, behind: bool, keeps_up: bool) -> bool
     ensures { result ≡ has_more_by ready under_way behind keeps_up }
 {
-    keeps_up && (ready || under_way > 0 || behind)
+    ready || behind || (under_way > 0 && keeps_up)
 }
 
 /// Whether a client keeps up with its replies, to which so many bytes were written in so many nanoseconds, with so many in between while

@@ -156,7 +156,8 @@ fn what_a_request_counts(rt: HostRuntime) {
 fn whose_requests_wait_for_the_server(rt: HostRuntime) {
     assert!(rt; has_more(true, 0, false, true) && has_more(false, 1, false, true));
     assert!(rt; has_more(false, 0, true, true) && !has_more(false, 0, false, true));
-    assert!(rt; !has_more(true, 8, true, false));
+    assert!(rt; has_more(true, 0, false, false) && has_more(false, 0, true, false));
+    assert!(rt; !has_more(false, 8, false, false));
     assert!(rt; keeps_up(1_000, 1_500, 500) && !keeps_up(1_000, 1_501, 500));
     assert!(rt; keeps_up(1_000, 1_000, 0) && WritePace::NOTHING.keeps_up());
     let slow = WritePace::NOTHING.with(8_388_608, 20_000_000, 10);
