@@ -64,17 +64,8 @@ impl<'a> TurnSeat<'a> {
         most: usize,
         under_way: u64,
     ) {
-        let size = size_of(head);
-        let long = size == RequestSize::LongWrite;
-        let behind = long && self.had_input.load(Ordering::SeqCst);
-        let keeps_up = self.keeps_up.load(Ordering::SeqCst);
-        let more = has_more(!ready.is_empty(), under_way, behind, keeps_up);
-        let before = self.backlog.load(Ordering::SeqCst);
-        let backlog = backlog_after(before, more);
-        if backlog != before {
-            self.backlog.store(backlog, Ordering::SeqCst);
-        }
-        set(&self.writes_long, long);
+        let long = size_of(head) == RequestSize::LongWrite;
+        let backlog = self.note_at_hand(long, !ready.is_empty(), under_way);
         if self.turns.is_alone(self.export) {
             self.owed.store(0, Ordering::SeqCst);
             return;
@@ -106,6 +97,20 @@ impl<'a> TurnSeat<'a> {
         self.owed.store(0, Ordering::SeqCst);
         self.asked_at
             .store(clock.now().nanoseconds(), Ordering::SeqCst);
+    }
+
+    /// The next request is a long WRITE or not, others are ready behind it or not, and so many are under way. Tells for how many holds
+    /// the session counts as one that mostly has several.
+    fn note_at_hand(&self, long_write: bool, ready: bool, under_way: u64) -> u32 {
+        let behind = long_write && self.had_input.load(Ordering::SeqCst);
+        let keeps_up = self.keeps_up.load(Ordering::SeqCst);
+        let before = self.backlog.load(Ordering::SeqCst);
+        let backlog = backlog_after(before, has_more(ready, under_way, behind, keeps_up));
+        if backlog != before {
+            self.backlog.store(backlog, Ordering::SeqCst);
+        }
+        set(&self.writes_long, long_write);
+        backlog
     }
 
     /// Behind a hold: a session that mostly has one request at a time has nothing at hand.

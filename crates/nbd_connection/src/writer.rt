@@ -91,33 +91,46 @@ fn write_on<L: Ledger, R: Wait + time::Clock>(
     if let Some(ready) = link.ready.take(rt) {
         return send_ready(rt, service, link, outlet, pass, ready, times);
     }
-    let DrainOutcome {
-        stop,
-        waiting,
-        is_due,
-        performed,
-    } = take_on(rt, service, link, outlet, pass, wakeups);
+    let drained = take_on(rt, service, link, outlet, pass, wakeups);
     let wrote = outlet.unwritten() > 0;
-    let clock = service.clock(rt);
-    let bytes = outlet.taken_bytes();
-    times.begin(clock.now());
-    let written = outlet.write();
-    link.seat.note_pace(times.end(clock.now(), bytes));
-    if !written {
+    if !write_taken(rt, service, link, outlet, times) {
         service.give_up(rt, link.session, pass);
         return Round::Over;
     }
     if wrote {
         link.room.ring();
     }
-    let goes_on = writer_goes_on(is_due, wrote, performed);
-    match stop {
+    end_round(rt, service, link, outlet, pass, times, drained, wrote)
+}
+
+/// What a round came to behind whose hold something was written or nothing. Where no more is there, what was written is sent.
+fn end_round<L: Ledger, R: Wait + time::Clock>(
+    rt: &R,
+    service: &Service<L>,
+    link: &SessionLink<'_>,
+    outlet: &mut Outlet<'_>,
+    pass: &mut Pass<L>,
+    times: &mut WriteTimes,
+    drained: DrainOutcome,
+    wrote: bool,
+) -> Round {
+    let goes_on = writer_goes_on(drained.is_due, wrote, drained.performed);
+    match drained.stop {
         Stop::Full => Round::Going,
         Stop::Empty => {
             if wrote && goes_on {
                 return Round::Going;
             }
-            send(rt, service, link, outlet, pass, goes_on, waiting, times)
+            send(
+                rt,
+                service,
+                link,
+                outlet,
+                pass,
+                times,
+                goes_on,
+                drained.waiting,
+            )
         }
         Stop::End if !link.ready.is_empty(rt) => Round::Going,
         Stop::End | Stop::Refused(_) => {
@@ -126,6 +139,22 @@ fn write_on<L: Ledger, R: Wait + time::Clock>(
             Round::Over
         }
     }
+}
+
+/// Writes the replies that were taken, and notes how long that took. Where it failed the connection is over.
+fn write_taken<L: Ledger, R: Wait + time::Clock>(
+    rt: &R,
+    service: &Service<L>,
+    link: &SessionLink<'_>,
+    outlet: &mut Outlet<'_>,
+    times: &mut WriteTimes,
+) -> bool {
+    let clock = service.clock(rt);
+    let bytes = outlet.taken_bytes();
+    times.begin(clock.now());
+    let written = outlet.write();
+    link.seat.note_pace(times.end(clock.now(), bytes));
+    written
 }
 
 /// Takes the replies that are there. Where none is there it performs a request first, whoever asked for it.
@@ -190,9 +219,9 @@ fn send<L: Ledger, R: Wait + time::Clock>(
     link: &SessionLink<'_>,
     outlet: &mut Outlet<'_>,
     pass: &mut Pass<L>,
+    times: &mut WriteTimes,
     goes_on: bool,
     waiting: Waiting,
-    times: &mut WriteTimes,
 ) -> Round {
     let clock = service.clock(rt);
     times.begin(clock.now());

@@ -126,11 +126,11 @@ abbrev pub aged_by : ℕ → ℕ → ℕ → ℕ
 aged_by bytes before more = min ((if nat_lt 8388608 bytes then before / 2 else before) + more) 18446744073709551615
 
 abbrev pub pace_by : WritePace → ℕ → ℕ → ℕ → WritePace
-pace_by pace bytes writing between = record
-    { bytes = aged_by pace.bytes pace.bytes bytes
-    ; writing = aged_by pace.bytes pace.writing writing
-    ; between = aged_by pace.bytes pace.between between
-    }
+pace_by pace bytes writing between = record {
+  bytes = aged_by pace.bytes pace.bytes bytes;
+  writing = aged_by pace.bytes pace.writing writing;
+  between = aged_by pace.bytes pace.between between;
+}
 
 -- ---- silent clients, and what is under way
 
