@@ -77,7 +77,7 @@ def stop_all(servers):
         it.stop()
 
 
-def throughput(o, figures):
+def throughput(o, figures, part="throughput"):
     """Requests of one kind from 1, 4 and 16 connections to one export, and from connections to an export each."""
     for transport in o.transports:
         for connections, exports in o.connections:
@@ -85,17 +85,18 @@ def throughput(o, figures):
             for server in servers.values():
                 for i in range(exports):
                     fill(server.places[i], server.exports[i])
-            for _ in range(o.rounds):
+            for number in range(o.rounds):
                 for name, work in WORK.items():
                     if o.work and not any(it in name for it in o.work):
                         continue
-                    for kind, server in servers.items():
+                    # The other way round in each second round, so that none has the better place.
+                    for server in list(servers.values())[:: -1 if number % 2 else 1]:
                         each = connections // exports
                         before = server.processor_time()
                         found = load(o.seconds, [server.clients(i, connections=each, **work) for i in range(exports)])
                         unit = "mib_a_second" if work["bytes"] > 4096 else "a_second"
                         value = sum(it[unit] for it in found)
-                        of = dict(part="throughput", transport=transport, connections=connections, exports=exports, work=name, unit=unit)
+                        of = dict(part=part, transport=transport, connections=connections, exports=exports, work=name, unit=unit)
                         figures.add(server.name, value, **of)
                         requests = sum(it["requests"] for it in found)
                         used = (server.processor_time() - before) * o.seconds / (o.seconds + 0.2)
@@ -184,6 +185,13 @@ def timeline(o, figures):
                 figures.add(server.name, found["slices"], part="timeline", export=i, settings=settings[i], start=spans[i][0], end=spans[i][1], unit="each_10_ms")
 
 
+def turns(o, figures):
+    """What turns cost where one export is busy: each figure of one and of four connections to one export, of programs nbdq alone."""
+    programs = [it for it in o.servers if "=" in it]
+    mine = {**vars(o), "servers": programs, "connections": [(1, 1), (4, 1)]}
+    throughput(argparse.Namespace(**mine), figures, part="turns")
+
+
 def memory(o, figures):
     """MiB that a server holds for a disk of 256 MiB: at its start, filled in order, and after writes of every length all over it."""
     for _ in range(min(o.rounds, 3)):
@@ -210,7 +218,8 @@ def version(server):
     return (said.stdout + said.stderr).strip().split("\n")[0]
 
 
-PARTS = [throughput, latency, shares, reservations, limits, timeline, memory]
+PARTS = [throughput, latency, shares, reservations, limits, timeline, memory, turns]
+UNASKED = [turns]  # those that --parts has to name
 
 
 def main():
@@ -219,7 +228,7 @@ def main():
     words.add_argument("--peers", default="nbdkit,nbd-server", help="those of nbdkit, nbd-server, qemu-nbd; 'none'")
     words.add_argument("--rounds", type=int, default=5)
     words.add_argument("--seconds", type=float, default=0.5)
-    words.add_argument("--parts", default=",".join(it.__name__ for it in PARTS))
+    words.add_argument("--parts", default=",".join(it.__name__ for it in PARTS if it not in UNASKED))
     words.add_argument("--transports", default="unix,tcp")
     words.add_argument("--connections", default="1x1,4x1,16x1,4x4", help="connections x exports, as 4x1")
     words.add_argument("--work", default="", help="only the work whose name has one of these, as '4 KiB,depth'")

@@ -97,6 +97,34 @@ def throughput(figures):
             table(["Work", *servers], rows)
 
 
+def compared(figures, rows, where):
+    """The medians of two programs, and the median of the first by the second in the same round, the greater the better."""
+    servers, out = ordered(figures, "server"), []
+    for key in ordered(figures, rows):
+        found = {it["server"]: it for it in figures if it[rows] == key}
+        if len(found) == 2:
+            one, two = (found[it] for it in servers)
+            ratios = sorted(a / b if b else 0 for a, b in zip(one["values"], two["values"]))
+            if one["unit"] == "processor_us":
+                ratios = sorted(1 / it if it else 0 for it in ratios)
+            out.append((statistics.median(ratios), [key, shown(middle(one)), shown(middle(two)), "%.2f (%.2f to %.2f)" % (statistics.median(ratios), ratios[0], ratios[-1])]))
+    if out:
+        print("### %s\n" % where)
+        table([rows.capitalize(), *servers, "The first by the second"], [row for _, row in out])
+        mean = math.exp(sum(math.log(max(it, 1e-9)) for it, _ in out) / len(out))
+        print("The least is %.2f, the geometric mean %.2f.\n" % (min(it for it, _ in out), mean))
+
+
+def turns(figures):
+    print("4 KiB: requests a second; longer: MiB a second. A ratio is the median of those of the rounds, with the least and the greatest; of processor time it is the second's by the first's.\n")
+    for transport in ordered(figures, "transport"):
+        for connections in sorted({it["connections"] for it in figures}):
+            mine = [it for it in figures if (it["transport"], it["connections"]) == (transport, connections)]
+            where = "%d connection%s, %s" % (connections, "s" * (connections > 1), {"unix": "Unix socket", "tcp": "TCP"}[transport])
+            compared([it for it in mine if it["unit"] != "processor_us"], "work", where)
+            compared([it for it in mine if it["unit"] == "processor_us"], "work", where + ", us of processor time a request")
+
+
 def latency(figures):
     for transport in ordered(figures, "transport"):
         where = {"unix": "Unix socket", "tcp": "TCP"}[transport]
@@ -213,6 +241,7 @@ PARTS = [
     ("Limits", "limits", shares),
     ("An export that stops or starts", "timeline", changes),
     ("Memory, in MiB", "memory", memory),
+    ("What turns cost", "turns", turns),
 ]
 
 

@@ -7,8 +7,10 @@ use crate::session_link::SessionLink;
 use crate::under_way::Admitted;
 use export_cell::Outdated;
 use nbd_base::NoMemory;
-use nbd_service::policy::{OUTDATED_PAGES, QUEUED_WORK, ends_hold, performs_itself, size_of};
-use nbd_service::{Asked, Disks, RequestSize, Service, Wakeups, prefetch};
+use nbd_service::policy::{
+    OUTDATED_PAGES, QUEUED_WORK, ends_hold, performs_itself, size_of, waiting_until,
+};
+use nbd_service::{Asked, Disks, RequestSize, Service, Waiting, Wakeups, prefetch};
 use nbd_session::{Counted, Frame, FrameReader};
 use nbd_wire::{Request, RequestHead};
 use server_lock::Pass;
@@ -17,7 +19,7 @@ use std::alloc::Global;
 use std::sync::ledger::Ledger;
 use std::sync::{MutexGuard, Wait};
 use std::time;
-use tag_clock::{Clock, Moment};
+use tag_clock::Clock;
 
 /// Where a reader has its requests from, and what it keeps for its holds of the server.
 #[derive(Drop)]
@@ -59,9 +61,8 @@ pub struct BatchOutcome {
     pub reads_long: bool,
     /// Whether a WRITE carries long data.
     pub writes_long: bool,
-    /// Whether something waits to be chosen, and when that is due. None where it waits for something else than time.
-    pub waits: bool,
-    pub due: Option<Moment>,
+    /// What waits to be chosen.
+    pub waiting: Waiting,
     /// How many requests were handed in.
     pub arrived: u64,
     /// What prefetching for these requests came to.
@@ -108,12 +109,12 @@ impl Admission {
     }
 }
 
-/// When the first of what waits is due, where something waits.
-pub fn due_of<L: Ledger>(disks: &Disks<L>, waits: bool) -> Option<Moment> {
-    if waits {
-        disks.server().next_due()
+/// What waits to be chosen.
+pub fn waiting_in<L: Ledger>(disks: &Disks<L>) -> Waiting {
+    if disks.server().waiting() > 0 {
+        waiting_until(&disks.server().next_due())
     } else {
-        None
+        Waiting::Nothing
     }
 }
 
@@ -170,8 +171,7 @@ impl<'a, 'b, R: Wait + time::Clock> RequestSource<'a, 'b, R> {
             batch.stop = Some(outlet.take(disks, pass, link.session));
         }
         link.bytes.add(admitted);
-        batch.waits = disks.server().waiting() > 0;
-        batch.due = due_of(disks, batch.waits);
+        batch.waiting = waiting_in(disks);
         disks.catch_up(link.session.export, QUEUED_WORK);
         disks.sweep(link.session.export, &mut self.outdated);
         batch
@@ -221,8 +221,7 @@ impl BatchOutcome {
             stop: None,
             reads_long: admission.size == RequestSize::LongRead,
             writes_long: admission.size == RequestSize::LongWrite,
-            waits: false,
-            due: None,
+            waiting: Waiting::Nothing,
             arrived: admission.arrival.is_some() as u64,
             prefetched,
         }

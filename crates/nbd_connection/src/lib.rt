@@ -18,6 +18,7 @@ pub mod rules;
 mod session_link;
 mod turn_seat;
 mod under_way;
+mod write_times;
 mod writer;
 
 pub use connection::serve_client;

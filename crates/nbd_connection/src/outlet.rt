@@ -68,6 +68,11 @@ impl<'a> Outlet<'a> {
         self.replies.unwritten()
     }
 
+    /// How many bytes the replies have that were taken and aren't written.
+    pub fn taken_bytes(&self) -> u64 {
+        self.replies.bytes() as u64
+    }
+
     /// Whether more replies may be kept before they are sent.
     pub fn may_keep(&self) -> bool {
         may_keep(self.unsent)

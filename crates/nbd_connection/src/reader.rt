@@ -3,7 +3,7 @@
 use crate::batch::{BatchOutcome, Offer, RequestSource};
 use crate::outlet::{FlushOutcome, Outlet};
 use crate::preparing::make_ready;
-use crate::rules::{wakes_worker, wakes_writer};
+use crate::rules::{wakes_writer, writer_chooses};
 use crate::session_link::SessionLink;
 use nbd_service::policy::{BATCH, PATIENCE_S, batch_after, load_of, size_of};
 use nbd_service::{HoldClock, Service};
@@ -124,7 +124,7 @@ fn read_on<L: Ledger, R: Wait + time::Clock>(
 ) -> (Turn<Global>, bool) {
     if let Some(head) = offer.head() {
         link.seat
-            .wait_for_turn(rt, head, source.frames.ready(), BATCH);
+            .wait_for_turn(rt, head, source.frames.ready(), BATCH, link.under_way());
     }
     let mut outlet = link.outlet.try_lock();
     let before = match &outlet {
@@ -151,9 +151,8 @@ fn read_on<L: Ledger, R: Wait + time::Clock>(
     if busy && batch.reads_long {
         make_ready(rt, service, link, &mut source.wakeups, pass);
     }
-    if wakes_worker(batch.waits, batch.reads_long, link.bytes.is_unread()) {
-        service.bells.ring_for(&batch.due);
-    }
+    let chooses = writer_chooses(batch.reads_long, link.bytes.is_unread());
+    service.bells.ring_for(batch.waiting, chooses);
     let ahead = batch.writes_long
         && service.is_wide
         && service.note_long_write(rt, link.session, service.clock(rt).now());

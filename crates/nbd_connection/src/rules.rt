@@ -29,12 +29,12 @@ pub fn wakes_writer(reads_long: bool, is_written: bool) -> bool
     reads_long || !is_written
 }
 
-/// Whether a reader wakes a worker behind a hold: something waits, and its writer won't choose it, since it isn't woken for long data
-/// or is kept from it by a client that doesn't read.
-pub fn wakes_worker(waits: bool, reads_long: bool, is_unread: bool) -> bool
-    ensures { result ≡ (waits && (is_unread || not reads_long)) }
+/// Whether a session's writer chooses what waits behind a hold of its reader: it is woken for long data, and no client that doesn't read
+/// keeps it from that.
+pub fn writer_chooses(reads_long: bool, is_unread: bool) -> bool
+    ensures { result ≡ (reads_long && not is_unread) }
 {
-    waits && (is_unread || !reads_long)
+    reads_long && !is_unread
 }
 
 /// Whether a writer goes on by itself: something is due, and this round wasn't for nothing.

@@ -1,6 +1,6 @@
 //! A session's place in the order of turns.
 
-use nbd_service::policy::{asks_for_turn, backlog_after, cost_of, size_of};
+use nbd_service::policy::{asks_for_turn, backlog_after, cost_of, has_more, size_of};
 use nbd_service::{RequestSize, RunningClock, Turns, has_input};
 use nbd_wire::{Request, RequestHead};
 use std::alloc::Global;
@@ -25,6 +25,8 @@ pub struct TurnSeat<'a> {
     had_input: AtomicBool,
     // Whether that was a long WRITE.
     writes_long: AtomicBool,
+    // Whether its client keeps up with its replies.
+    keeps_up: AtomicBool,
     // For how many holds it counts as one that mostly has several requests.
     backlog: AtomicU32,
     // What went on since its reader asked last, in units, and when that was, in nanoseconds.
@@ -43,30 +45,27 @@ impl<'a> TurnSeat<'a> {
             reader_waits: AtomicBool::new(false),
             had_input: AtomicBool::new(false),
             writes_long: AtomicBool::new(false),
+            keeps_up: AtomicBool::new(true),
             backlog: AtomicU32::new(0),
             owed: AtomicU32::new(0),
             asked_at: AtomicU64::new(0),
         }
     }
 
-    /// Waits for the turn of a request and of those that are ready behind it, so many at most in all. Some go on without it, and are
-    /// charged with the next that asks. A session that mostly has one request at a time doesn't count as one that has something at
-    /// hand: others needn't stop for it, whom it would have to wake behind each of its requests.
+    /// Waits for the turn of a request and of those that are ready behind it, so many at most in all, while so many of the session are
+    /// under way. Some go on without it, and are charged with the next that asks. A session that mostly has one request at a time
+    /// doesn't count as one that has something at hand: others needn't stop for it, whom it would have to wake behind each of its
+    /// requests. Long READs mostly come one at a time, one behind each reply, so those that are under way tell.
     pub fn wait_for_turn<R: Wait + time::Clock>(
         &self,
         rt: &R,
         head: RequestHead,
         ready: &[Request<Global>],
         most: usize,
+        under_way: u64,
     ) {
         let long = size_of(head) == RequestSize::LongWrite;
-        let more = !ready.is_empty() || (long && self.had_input.load(Ordering::SeqCst));
-        let before = self.backlog.load(Ordering::SeqCst);
-        let backlog = backlog_after(before, more);
-        if backlog != before {
-            self.backlog.store(backlog, Ordering::SeqCst);
-        }
-        set(&self.writes_long, long);
+        let backlog = self.note_at_hand(long, !ready.is_empty(), under_way);
         if self.turns.is_alone(self.export) {
             self.owed.store(0, Ordering::SeqCst);
             return;
@@ -100,6 +99,20 @@ impl<'a> TurnSeat<'a> {
             .store(clock.now().nanoseconds(), Ordering::SeqCst);
     }
 
+    /// The next request is a long WRITE or not, others are ready behind it or not, and so many are under way. Tells for how many holds
+    /// the session counts as one that mostly has several.
+    fn note_at_hand(&self, long_write: bool, ready: bool, under_way: u64) -> u32 {
+        let behind = long_write && self.had_input.load(Ordering::SeqCst);
+        let keeps_up = self.keeps_up.load(Ordering::SeqCst);
+        let before = self.backlog.load(Ordering::SeqCst);
+        let backlog = backlog_after(before, has_more(ready, under_way, behind, keeps_up));
+        if backlog != before {
+            self.backlog.store(backlog, Ordering::SeqCst);
+        }
+        set(&self.writes_long, long_write);
+        backlog
+    }
+
     /// Behind a hold: a session that mostly has one request at a time has nothing at hand.
     pub fn end_turn<R: Wait + time::Clock>(&self, rt: &R) {
         let more = self.backlog.load(Ordering::SeqCst) > 0;
@@ -131,6 +144,11 @@ impl<'a> TurnSeat<'a> {
             let much = self.backlog.load(Ordering::SeqCst) > 0;
             self.leave(rt, much && self.writes_long.load(Ordering::SeqCst));
         }
+    }
+
+    /// The client keeps up with what is written to it, or doesn't.
+    pub fn note_pace(&self, keeps_up: bool) {
+        set(&self.keeps_up, keeps_up);
     }
 
     /// Something has come from the client.

@@ -1,11 +1,12 @@
 //! The thread of a connection that writes replies.
 
-use crate::batch::due_of;
+use crate::batch::waiting_in;
 use crate::outlet::Outlet;
 use crate::rules::writer_goes_on;
 use crate::session_link::SessionLink;
+use crate::write_times::WriteTimes;
 use nbd_service::policy::is_due;
-use nbd_service::{Service, Wakeups};
+use nbd_service::{Service, Waiting, Wakeups};
 use server_lock::Pass;
 use session_turns::{ReadyReply, Stop};
 use std::alloc::Global;
@@ -13,7 +14,7 @@ use std::net::Shutdown;
 use std::sync::Wait;
 use std::sync::ledger::Ledger;
 use std::time;
-use tag_clock::{Clock, Moment};
+use tag_clock::Clock;
 
 /// What a round of a writer came to.
 #[derive(Clone, Copy, Debug, PartialEq, Eq)]
@@ -31,9 +32,8 @@ enum Round {
 struct DrainOutcome {
     /// Why no more replies were taken.
     stop: Stop,
-    /// Whether something waits to be chosen, and when that is due. None where it waits for something else than time.
-    waits: bool,
-    due: Option<Moment>,
+    /// What waits to be chosen.
+    waiting: Waiting,
     /// Whether it is due by now.
     is_due: bool,
     /// Whether a request was performed.
@@ -66,9 +66,10 @@ fn write_all<L: Ledger, R: Wait + time::Clock>(
     pass: &mut Pass<L>,
     wakeups: &mut Wakeups,
 ) {
+    let mut times = WriteTimes::new();
     for _ in rt.forever() {
         let heard = link.replies.heard();
-        match write_on(rt, service, link, pass, wakeups) {
+        match write_on(rt, service, link, pass, wakeups, &mut times) {
             Round::Going => {}
             Round::Idle => link.replies.wait(rt, heard, link.patience()),
             Round::Over => return,
@@ -83,35 +84,53 @@ fn write_on<L: Ledger, R: Wait + time::Clock>(
     link: &SessionLink<'_>,
     pass: &mut Pass<L>,
     wakeups: &mut Wakeups,
+    times: &mut WriteTimes,
 ) -> Round {
     let mut guard = link.outlet.lock(rt);
     let outlet = &mut *guard;
     if let Some(ready) = link.ready.take(rt) {
-        return send_ready(rt, service, link, outlet, pass, ready);
+        return send_ready(rt, service, link, outlet, pass, ready, times);
     }
-    let DrainOutcome {
-        stop,
-        waits,
-        due,
-        is_due,
-        performed,
-    } = take_on(rt, service, link, outlet, pass, wakeups);
+    let drained = take_on(rt, service, link, outlet, pass, wakeups);
     let wrote = outlet.unwritten() > 0;
-    if !outlet.write() {
+    if !write_taken(rt, service, link, outlet, times) {
         service.give_up(rt, link.session, pass);
         return Round::Over;
     }
     if wrote {
         link.room.ring();
     }
-    let goes_on = writer_goes_on(is_due, wrote, performed);
-    match stop {
+    end_round(rt, service, link, outlet, pass, times, drained, wrote)
+}
+
+/// What a round came to behind whose hold something was written or nothing. Where no more is there, what was written is sent.
+fn end_round<L: Ledger, R: Wait + time::Clock>(
+    rt: &R,
+    service: &Service<L>,
+    link: &SessionLink<'_>,
+    outlet: &mut Outlet<'_>,
+    pass: &mut Pass<L>,
+    times: &mut WriteTimes,
+    drained: DrainOutcome,
+    wrote: bool,
+) -> Round {
+    let goes_on = writer_goes_on(drained.is_due, wrote, drained.performed);
+    match drained.stop {
         Stop::Full => Round::Going,
         Stop::Empty => {
             if wrote && goes_on {
                 return Round::Going;
             }
-            send(rt, service, link, outlet, pass, goes_on, waits, due)
+            send(
+                rt,
+                service,
+                link,
+                outlet,
+                pass,
+                times,
+                goes_on,
+                drained.waiting,
+            )
         }
         Stop::End if !link.ready.is_empty(rt) => Round::Going,
         Stop::End | Stop::Refused(_) => {
@@ -120,6 +139,22 @@ fn write_on<L: Ledger, R: Wait + time::Clock>(
             Round::Over
         }
     }
+}
+
+/// Writes the replies that were taken, and notes how long that took. Where it failed the connection is over.
+fn write_taken<L: Ledger, R: Wait + time::Clock>(
+    rt: &R,
+    service: &Service<L>,
+    link: &SessionLink<'_>,
+    outlet: &mut Outlet<'_>,
+    times: &mut WriteTimes,
+) -> bool {
+    let clock = service.clock(rt);
+    let bytes = outlet.taken_bytes();
+    times.begin(clock.now());
+    let written = outlet.write();
+    link.seat.note_pace(times.end(clock.now(), bytes));
+    written
 }
 
 /// Takes the replies that are there. Where none is there it performs a request first, whoever asked for it.
@@ -140,31 +175,35 @@ fn take_on<L: Ledger, R: Wait + time::Clock>(
         wakeups.serve_one(&mut *disks, &service.bells, pass, link.session, &clock);
         stop = outlet.take(&mut *disks, pass, link.session);
     }
-    let waits = disks.server().waiting() > 0;
-    let due = due_of(&*disks, waits);
+    let waiting = waiting_in(&*disks);
     service.let_go(rt, disks, began);
     link.note_taken(outlet.unwritten().saturating_sub(before));
     let performed = wakeups.wake(&service.bells);
-    let is_due = is_due(&due, clock.now());
+    let is_due = is_due(waiting, clock.now());
     DrainOutcome {
         stop,
-        waits,
-        due,
+        waiting,
         is_due,
         performed,
     }
 }
 
 /// Sends what the reader made ready.
-fn send_ready<L: Ledger, R: Wait>(
+fn send_ready<L: Ledger, R: Wait + time::Clock>(
     rt: &R,
     service: &Service<L>,
     link: &SessionLink<'_>,
     outlet: &mut Outlet<'_>,
     pass: &mut Pass<L>,
     ready: ReadyReply<Global>,
+    times: &mut WriteTimes,
 ) -> Round {
-    if !outlet.send_ready(&ready) {
+    let clock = service.clock(rt);
+    times.begin(clock.now());
+    let sent = outlet.send_ready(&ready);
+    link.seat
+        .note_pace(times.end(clock.now(), ready.data() as u64));
+    if !sent {
         service.give_up(rt, link.session, pass);
         return Round::Over;
     }
@@ -180,21 +219,24 @@ fn send<L: Ledger, R: Wait + time::Clock>(
     link: &SessionLink<'_>,
     outlet: &mut Outlet<'_>,
     pass: &mut Pass<L>,
+    times: &mut WriteTimes,
     goes_on: bool,
-    waits: bool,
-    due: Option<Moment>,
+    waiting: Waiting,
 ) -> Round {
-    if !outlet.send() {
+    let clock = service.clock(rt);
+    times.begin(clock.now());
+    let sent = outlet.send();
+    link.seat.note_pace(times.end(clock.now(), 0));
+    if !sent {
         service.give_up(rt, link.session, pass);
         return Round::Over;
     }
     if goes_on {
         return Round::Going;
     }
-    if waits {
-        service.bells.ring_for(&due);
-    }
+    service.bells.ring_for(waiting, false);
     if link.patience().is_none() {
+        times.rest();
         link.seat.note_idle(rt);
         link.settle_bytes(rt, outlet);
         link.ready.rest(rt);

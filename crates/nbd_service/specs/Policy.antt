@@ -1,10 +1,13 @@
 -- The rules over values that the threads of a server follow. Data are counted in bytes, times in nanoseconds.
-use Rattle.std.specs.Prelude.{ℕ, ◌+◌, ◌-◌, ◌*◌, ◌%◌, min, Bool, true, false, ◌&&◌, ◌||◌, ◌==◌, nat_lt, nat_le, if◌then◌else◌, Option, Some, None}
+use Rattle.std.specs.Prelude.{ℕ, ◌+◌, ◌-◌, ◌*◌, ◌/◌, ◌%◌, min, Bool, true, false, ◌&&◌, ◌||◌, ◌==◌, not, nat_lt, nat_le, if◌then◌else◌, Option, Some, None}
 use Rattle.turn_order.specs.Flows.{units_of}
 use Rattle.nbd_service.specs.declared.request_size.RequestSize.{RequestSize}
 use Rattle.nbd_service.specs.declared.request_size.RequestSize.TheVariants as sizes
 use Rattle.nbd_service.specs.declared.request_size.Load.{Load}
 use Rattle.nbd_service.specs.declared.request_size.Load.TheVariants as loads
+use Rattle.nbd_service.specs.declared.waiting.Waiting.{Waiting}
+use Rattle.nbd_service.specs.declared.waiting.Waiting.TheVariants as waits
+use Rattle.nbd_service.specs.declared.write_pace.WritePace.{WritePace}
 
 -- ---- requests
 
@@ -67,15 +70,22 @@ yields_by bytes many = nat_le many bytes
 abbrev pub is_forgotten_by : ℕ → ℕ → Bool
 is_forgotten_by latest moment = nat_lt 1000000000 (moment - latest)
 
--- nobody looks by then, or nobody knows when it is due
-abbrev pub wakes_for_by : Option ℕ → ℕ → Bool
-wakes_for_by None looks_at = true
-wakes_for_by (Some due) looks_at = nat_lt due looks_at
+-- what waits, by the moment at which the first of it is due
+abbrev pub waiting_by : Option ℕ → Waiting
+waiting_by None = waits.ForOthers
+waiting_by (Some due) = waits.Until due
+
+-- no writer chooses what waits, and nobody looks by the moment at which it is due, or nobody knows that
+abbrev pub wakes_worker_by : Waiting → Bool → ℕ → Bool
+wakes_worker_by waits.Nothing chooses looks_at = false
+wakes_worker_by (waits.Until due) chooses looks_at = not chooses && nat_lt due looks_at
+wakes_worker_by waits.ForOthers chooses looks_at = not chooses
 
 -- that moment has come
-abbrev pub is_due_by : Option ℕ → ℕ → Bool
-is_due_by None now = false
-is_due_by (Some due) now = nat_le due now
+abbrev pub is_due_by : Waiting → ℕ → Bool
+is_due_by waits.Nothing now = false
+is_due_by (waits.Until due) now = nat_le due now
+is_due_by waits.ForOthers now = false
 
 -- 200 microseconds
 abbrev pub still_defers_by : ℕ → Bool
@@ -102,6 +112,25 @@ cost_by kind length = if (kind == 0) || (kind == 1) then units_of length else 1
 -- 16 holds more, or one fewer
 abbrev pub backlog_by : ℕ → Bool → ℕ
 backlog_by before more = if more then 16 else before - 1
+
+-- ready behind it, behind the long WRITE before this one, or under way, where the client keeps up
+abbrev pub has_more_by : Bool → ℕ → Bool → Bool → Bool
+has_more_by ready under_way behind keeps_up = ready || behind || (nat_lt 0 under_way && keeps_up)
+
+-- what the writes took beyond a nanosecond a byte isn't more than what lay between them
+abbrev pub keeps_up_by : ℕ → ℕ → ℕ → Bool
+keeps_up_by bytes writing between = nat_le (writing - bytes) between
+
+-- half of it behind 8 MiB, and more
+abbrev pub aged_by : ℕ → ℕ → ℕ → ℕ
+aged_by bytes before more = min ((if nat_lt 8388608 bytes then before / 2 else before) + more) 18446744073709551615
+
+abbrev pub pace_by : WritePace → ℕ → ℕ → ℕ → WritePace
+pace_by pace bytes writing between = record {
+  bytes = aged_by pace.bytes pace.bytes bytes;
+  writing = aged_by pace.bytes pace.writing writing;
+  between = aged_by pace.bytes pace.between between;
+}
 
 -- ---- silent clients, and what is under way
 

@@ -1,6 +1,7 @@
 //! Where the threads of a server sleep, and who is woken by what.
 
-use crate::policy::{LAST_MOMENT_NS, SESSION_BELLS, bell_of, wakes_for};
+use crate::policy::{LAST_MOMENT_NS, SESSION_BELLS, bell_of, wakes_worker};
+use crate::waiting::Waiting;
 use nbd_base::NoMemory;
 use nbd_commands::{Config, ExportConfig};
 use nbd_workers::Bell;
@@ -59,9 +60,13 @@ impl Bells {
         self.looks_at.store(until, Ordering::SeqCst);
     }
 
-    /// Something waits that is due at a moment, or for something else than time: wakes a worker, unless one looks by then.
-    pub fn ring_for(&self, due: &Option<Moment>) {
-        if wakes_for(due, self.looks_at.load(Ordering::SeqCst)) {
+    /// Wakes a worker for what waits, unless one looks by then, or a writer chooses it.
+    pub fn ring_for(&self, waiting: Waiting, writer_chooses: bool) {
+        if wakes_worker(
+            waiting,
+            writer_chooses,
+            self.looks_at.load(Ordering::SeqCst),
+        ) {
             self.work.ring_one();
         }
     }

@@ -24,8 +24,10 @@ mod service;
 mod spin;
 mod spin_poll;
 mod turns;
+mod waiting;
 mod wakeups;
 mod worker_gate;
+mod write_pace;
 
 pub use bells::Bells;
 pub use connections::{Connection, Connections, SessionFigures, Traffic};
@@ -45,5 +47,7 @@ pub use service::{Disks, LongWrite, Service};
 pub use spin::SpinLadder;
 pub use spin_poll::{SpinPoll, has_input};
 pub use turns::Turns;
+pub use waiting::Waiting;
 pub use wakeups::{Asked, Wakeups};
 pub use worker_gate::WorkerGate;
+pub use write_pace::WritePace;

@@ -1,9 +1,10 @@
 //! Every number of the serving code, and the rules over values that its threads follow. `specs/Policy.antt` says each rule.
 ghost use Rattle.std.specs.Prelude.{◌≡◌, ◌+◌, ◌-◌, ◌*◌, ◌<◌, ◌≤◌, ◌^◌, min, option_map};
 ghost use Rattle.std.specs.Duration.{as_nanos};
-ghost use Rattle.nbd_service.specs.Policy.{accept_may_pass_by, asks_for_turn_by, backlog_by, batch_by, bell_by, cost_by, data_by, ends_hold_by, handshake_wait_by, holds_back_by, is_alone_by, is_due_by, is_forgotten_by, is_network_fault_by, is_shortage_by, is_stalled_by, is_zero_by, keeps_by, load_by, next_skip_by, patience_by, performs_by, reads_ahead_by, short_pieces_by, size_by, still_defers_by, still_retunes_by, still_waits_for_line_by, suits_reader_by, wakes_for_by, yields_by, yields_behind_look_by};
+ghost use Rattle.nbd_service.specs.Policy.{accept_may_pass_by, asks_for_turn_by, backlog_by, batch_by, bell_by, cost_by, data_by, ends_hold_by, handshake_wait_by, has_more_by, holds_back_by, is_alone_by, is_due_by, is_forgotten_by, is_network_fault_by, is_shortage_by, is_stalled_by, is_zero_by, keeps_by, keeps_up_by, load_by, next_skip_by, patience_by, performs_by, reads_ahead_by, short_pieces_by, size_by, still_defers_by, still_retunes_by, still_waits_for_line_by, suits_reader_by, waiting_by, wakes_worker_by, yields_by, yields_behind_look_by};
 
 use crate::request_size::{Load, RequestSize};
+use crate::waiting::Waiting;
 use nbd_wire::RequestHead;
 use nbd_wire::protocol::{READ, TRIM, WRITE, WRITE_ZEROES};
 use std::time::Duration;
@@ -172,6 +173,9 @@ pub const TURN_NS: u64 = 1_000_000;
 /// request at a time came to 60,000 a second, and eight that flood another export to 3,700 (docs/notes/tries.md).
 pub const DEFERENCE_NS: u64 = 200_000;
 
+/// Of how many bytes of replies a client's pace is found, which then count half.
+pub const PACE_BYTES: u64 = 8_388_608;
+
 /// For how many holds with one request a session counts as one that mostly has several.
 pub const BACKLOG_HOLDS: u32 = 16;
 
@@ -292,24 +296,53 @@ pub fn asks_for_turn(units: u32, passed: u64) -> bool
     units >= UNITS_A_TURN || passed >= TURN_NS
 }
 
-/// Whether a worker is woken for what waits and is due at a moment, where another looks by itself at `looks_at`, in nanoseconds.
-/// What waits for something else than time has no moment.
-pub fn wakes_for(due: &Option<Moment>, looks_at: u64) -> bool
-    ensures { result ≡ wakes_for_by due.now looks_at }
+/// Whether a session has more at hand than its next request: others are ready behind it, more had come behind the long WRITE before this
+/// one, or so many are under way, and its client keeps up. Where it doesn't, these wait for the client and not for the server.
+pub fn has_more(ready: bool, under_way: u64, behind: bool, keeps_up: bool) -> bool
+    ensures { result ≡ has_more_by ready under_way behind keeps_up }
+{
+    ready || behind || (under_way > 0 && keeps_up)
+}
+
+/// Whether a client keeps up with its replies, to which so many bytes were written in so many nanoseconds, with so many in between while
+/// requests were under way: what the writes took beyond a nanosecond a byte isn't more than what was spent in between.
+pub fn keeps_up(bytes: u64, writing: u64, between: u64) -> bool
+    ensures { result ≡ keeps_up_by bytes writing between }
+{
+    writing.saturating_sub(bytes) <= between
+}
+
+/// What waits, of which the first is due at a moment, or has none.
+pub fn waiting_until(due: &Option<Moment>) -> Waiting
+    ensures { result ≡ waiting_by due.now }
 {
     match due {
-        Some(due) => due.nanoseconds() < looks_at,
-        None => true,
+        Some(due) => Waiting::Until {
+            nanoseconds: due.nanoseconds(),
+        },
+        None => Waiting::ForOthers,
+    }
+}
+
+/// Whether a worker is woken for what waits, where another looks by itself at `looks_at`, in nanoseconds, and the writer of who asks
+/// chooses it or not.
+pub fn wakes_worker(waiting: Waiting, writer_chooses: bool, looks_at: u64) -> bool
+    ensures { result ≡ wakes_worker_by waiting writer_chooses looks_at }
+{
+    match waiting {
+        Waiting::Nothing => false,
+        Waiting::Until { nanoseconds } => !writer_chooses && nanoseconds < looks_at,
+        Waiting::ForOthers => !writer_chooses,
     }
 }
 
 /// Whether what waits is due by now.
-pub fn is_due(due: &Option<Moment>, now: Moment) -> bool
-    ensures { result ≡ is_due_by due.now now }
+pub fn is_due(waiting: Waiting, now: Moment) -> bool
+    ensures { result ≡ is_due_by waiting now }
 {
-    match due {
-        Some(due) => due.nanoseconds() <= now.nanoseconds(),
-        None => false,
+    match waiting {
+        Waiting::Until { nanoseconds } => nanoseconds <= now.nanoseconds(),
+        Waiting::Nothing | Waiting::ForOthers => false,
     }
 }
 

@@ -2,12 +2,14 @@ mod rates_in_force;
 
 use nbd_service::policy::{
     accept_may_pass, asks_for_turn, backlog_after, batch_after, bell_of, connections_for, cost_of,
-    data_of, ends_hold, handshake_wait_ms, holds_back, is_alone, is_due, is_stalled, load_of,
-    may_keep, may_read_ahead, moment_after, next_skip, passes_for, patience, performs_itself,
-    short_pieces, size_of, still_defers, still_retunes, still_waits_for_line, suits_reader,
-    wakes_for, yields_behind, yields_behind_look,
+    data_of, ends_hold, handshake_wait_ms, has_more, holds_back, is_alone, is_due, is_stalled,
+    keeps_up, load_of, may_keep, may_read_ahead, moment_after, next_skip, passes_for, patience,
+    performs_itself, short_pieces, size_of, still_defers, still_retunes, still_waits_for_line,
+    suits_reader, waiting_until, wakes_worker, yields_behind, yields_behind_look,
 };
-use nbd_service::{InteractiveLoad, Load, RequestSize, RunningClock, SpinPoll, Turns};
+use nbd_service::{
+    InteractiveLoad, Load, RequestSize, RunningClock, SpinPoll, Turns, Waiting, WritePace,
+};
 use nbd_wire::RequestHead;
 use nbd_wire::protocol::{CACHE, FLUSH, READ, TRIM, WRITE, WRITE_ZEROES};
 use std::alloc::Global;
@@ -122,10 +124,16 @@ fn head(kind: u16, length: u32) -> RequestHead {
 
 #[test]
 fn who_is_woken_for_what_waits(rt: HostRuntime) {
-    assert!(rt; wakes_for(&Moment::new(4), 5) && !wakes_for(&Moment::new(5), 5));
-    assert!(rt; wakes_for(&None, 5));
+    let until = |nanoseconds| Waiting::Until { nanoseconds };
+    assert!(rt; wakes_worker(until(4), false, 5) && !wakes_worker(until(5), false, 5));
+    assert!(rt; wakes_worker(Waiting::ForOthers, false, 5));
+    assert!(rt; !wakes_worker(until(4), true, 5) && !wakes_worker(Waiting::ForOthers, true, 5));
+    assert!(rt; !wakes_worker(Waiting::Nothing, false, 5));
     let now = Moment::new(5).expect(&rt, "a moment");
-    assert!(rt; is_due(&Some(now), now) && !is_due(&Moment::new(6), now) && !is_due(&None, now));
+    assert!(rt; is_due(until(5), now) && !is_due(until(6), now));
+    assert!(rt; !is_due(Waiting::ForOthers, now) && !is_due(Waiting::Nothing, now));
+    assert!(rt; waiting_until(&Some(now)) == until(5));
+    assert!(rt; waiting_until(&None) == Waiting::ForOthers);
 }
 
 #[test]
@@ -142,6 +150,20 @@ fn what_a_request_counts(rt: HostRuntime) {
     assert!(rt; still_defers(199_999) && !still_defers(200_000));
     assert!(rt; still_retunes(4_999_999_999) && !still_retunes(5_000_000_000));
     assert!(rt; still_waits_for_line(10_000_000_000) && !still_waits_for_line(10_000_000_001));
+}
+
+#[test]
+fn whose_requests_wait_for_the_server(rt: HostRuntime) {
+    assert!(rt; has_more(true, 0, false, true) && has_more(false, 1, false, true));
+    assert!(rt; has_more(false, 0, true, true) && !has_more(false, 0, false, true));
+    assert!(rt; has_more(true, 0, false, false) && has_more(false, 0, true, false));
+    assert!(rt; !has_more(false, 8, false, false));
+    assert!(rt; keeps_up(1_000, 1_500, 500) && !keeps_up(1_000, 1_501, 500));
+    assert!(rt; keeps_up(1_000, 1_000, 0) && WritePace::NOTHING.keeps_up());
+    let slow = WritePace::NOTHING.with(8_388_608, 20_000_000, 10);
+    assert!(rt; !slow.keeps_up() && slow.with(2, 0, 0).bytes == 8_388_610);
+    let aged = slow.with(2, 0, 0).with(1, 2, 3);
+    assert!(rt; aged.bytes == 4_194_306 && aged.writing == 10_000_002 && aged.between == 8);
 }
 
 #[test]
