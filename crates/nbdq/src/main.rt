@@ -7,62 +7,62 @@ mod serving;
 
 use clap::Error;
 use control::control;
-use nbd_scripts::{replay_script, talk_script};
 use nbd_session::Counted;
 use nbdq_cli::{
-    Ending, Job, Outcome, Task, check_text, end_of_refusal, read_command_line, status_of_end,
-    text_of_end,
+    Commands, ControlTask, Ending, Outcome, ServeTask, Task, read_command_line, run_asked,
+    run_buffered,
 };
 use serve::serve;
 use std::io;
-use std::io::{BufWriter, Write};
+use std::net::Net;
 use std::process::ExitCode;
 
-/// The commands that read all of standard input, and then write.
-fn run<R: Input + Print + AllocGlobal>(rt: &R, task: Task) -> Outcome {
-    let alloc = rt.alloc();
-    let Ok(writer) = BufWriter::new(alloc, io::writer(rt)) else {
-        return Outcome::NoMemory;
-    };
-    let mut input = Counted::new(rt.reader());
-    let mut output = Counted::new(writer);
-    let outcome = match task {
-        Task::Check => check_text(alloc, alloc, &mut input, &mut output),
-        Task::Talk => talk_script(alloc, &mut input, &mut output),
-        Task::Replay => replay_script(alloc, &mut input, &mut output),
-    };
-    match output.flush() {
-        Ok(()) => outcome,
-        Err(_) => Outcome::WriteFailed,
+/// The commands over the system's streams and sockets.
+///
+/// `serve` is a closure of `main`: it may wait and starts threads, and the runtime itself has the leave for that in `main` alone.
+#[derive(Drop)]
+struct Program<'a, R, S> {
+    rt: &'a R,
+    serve: S,
+}
+
+impl<R: Input + Print + Eprint + AllocGlobal + Net, S: Fn(&ServeTask) -> Ending> Commands
+    for Program<'_, R, S> {
+    ghost ready = { λ program. S.IsAlwaysCallable program.serve };
+
+    fn task(&mut self, task: Task) -> Outcome {
+        let alloc = self.rt.alloc();
+        let mut input = Counted::new(self.rt.reader());
+        let (outcome, _) = run_buffered(task, alloc, alloc, &mut input, io::writer(self.rt));
+        outcome
+    }
+
+    fn serve(&mut self, task: &ServeTask) -> Ending {
+        (self.serve)(task)
+    }
+
+    fn control(&mut self, task: &ControlTask) -> Ending {
+        control(self.rt, task)
+    }
+
+    fn show(&mut self, error: &Error) -> bool {
+        self.rt.print(error).is_ok()
+    }
+
+    fn explain(&mut self, error: &Error) {
+        let _ = self.rt.eprint(error);
+    }
+
+    fn tell(&mut self, line: &str) {
+        let _ = self.rt.eprintln(line);
     }
 }
 
-/// Shows the text of the command line's parser: the version on standard output, all else on standard error.
-fn show<R: Print + Eprint>(rt: &R, error: &Error) -> Ending {
-    let end = end_of_refusal(error);
-    match end {
-        Ending::Version => match rt.print(error) {
-            Ok(()) => end,
-            Err(_) => Ending::Ran(Outcome::WriteFailed),
-        },
-        Ending::Usage => {
-            let _ = rt.eprint(error);
-            end
-        }
-        _ => end,
-    }
-}
-
-// A standard error that fails changes no status.
 fn main(rt: HostRuntime) -> ExitCode {
-    let end = match read_command_line(&rt) {
-        Ok(Job::Task(task)) => Ending::Ran(run(&rt, task)),
-        Ok(Job::Serve(task)) => serve(&rt, &task),
-        Ok(Job::Control(task)) => control(&rt, &task),
-        Err(error) => show(&rt, &error),
+    let asked = read_command_line(&rt);
+    let mut program = Program {
+        rt: &rt,
+        serve: |task: &ServeTask| serve(&rt, task),
     };
-    if let Some(line) = text_of_end(end) {
-        let _ = rt.eprintln(line);
-    }
-    ExitCode::from(status_of_end(end))
+    ExitCode::from(run_asked(&mut program, asked))
 }

@@ -1,3 +1,4 @@
 mod check_command;
 mod command_lines;
+mod dispatch;
 mod warnings;
