@@ -13,7 +13,8 @@
  *   operation=WORD       read, write, mixed (connections in turn), trim, zero, zero-keep, flush, cache (default read)
  *   bytes=N              of each request (default 4096)
  *   depth=N              requests under way at a time (default 1)
- *   order=WORD           random or sequential, in steps of `bytes` (default random)
+ *   order=WORD           random or sequential, in steps of `step` (default random)
+ *   step=N               requests lie at multiples of so many bytes (default: `bytes`)
  *   rate=N               requests a second of each connection, sent at fixed moments; 0: as fast as replies come (default 0)
  *   from=S until=S       seconds from the start between which requests are sent (default: all the time)
  *
@@ -51,6 +52,7 @@ struct clients {
     char *name, *at, *export, *operation;
     int connections, depth, sequential;
     uint32_t bytes;
+    uint64_t step;
     double rate, from, until;
 };
 
@@ -275,7 +277,7 @@ static void plan(struct traffic *t, uint64_t at)
     put16(head + 4, (unsigned)c->flags);
     put16(head + 6, (unsigned)c->kind);
     put64(head + 8, (uint64_t)slot);
-    put64(head + 16, c->kind == FLUSH ? 0 : block * c->clients->bytes);
+    put64(head + 16, c->kind == FLUSH ? 0 : block * c->clients->step);
     put32(head + 24, c->kind == FLUSH ? 0 : c->clients->bytes);
     t->out[t->out_count++] = (struct iovec){head, 28};
     if (c->kind == WRITE)
@@ -453,7 +455,7 @@ static void *run(void *given)
     t.piece = malloc(PIECE);
     for (int i = 0; i < t.slot_count; i++)
         t.free[t.free_count++] = t.slot_count - 1 - i;
-    t.blocks = c->size / k->bytes;
+    t.blocks = (c->size - k->bytes) / k->step + 1;
     t.position = t.blocks * (uint64_t)c->index / (uint64_t)k->connections;
     t.period = k->rate > 0 ? (uint64_t)(NANOS / k->rate) : 0;
     t.end = started + (uint64_t)((warm + measured) * NANOS);
@@ -479,6 +481,7 @@ static void read_clients(struct clients *k, char *words)
         else if (!strcmp(word, "operation")) k->operation = value;
         else if (!strcmp(word, "connections")) k->connections = atoi(value);
         else if (!strcmp(word, "bytes")) k->bytes = (uint32_t)strtoul(value, NULL, 10);
+        else if (!strcmp(word, "step")) k->step = strtoull(value, NULL, 10);
         else if (!strcmp(word, "depth")) k->depth = atoi(value);
         else if (!strcmp(word, "order")) k->sequential = *value == 's';
         else if (!strcmp(word, "rate")) k->rate = atof(value);
@@ -488,6 +491,7 @@ static void read_clients(struct clients *k, char *words)
     }
     if (!k->at || k->connections < 1 || k->depth < 1 || k->bytes < 1)
         exit((fprintf(stderr, "load: at=, and numbers from 1\n"), 2));
+    k->step = k->step ? k->step : k->bytes;
 }
 
 static void print_clients(const struct clients *k, struct connection *all, int count, uint64_t slices)

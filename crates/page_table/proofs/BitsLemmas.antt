@@ -3,9 +3,10 @@ use Rattle.std.proofs.Common.{◌≡◌, ◌≢◌, ℕ, zero, suc, ◌+◌, ◌
 use Rattle.std.specs.Int.{bit_at, bit_not}
 use Rattle.std.specs.Int.Count.{ones_step}
 use lib.Count.{ones}
-use Rattle.std.proofs.lemmas.Nat.{one_shl, pow_pos}
-use Rattle.std.proofs.lemmas.Nat.Bits.{and_pow, bit_at-lt, bit_at-zero, bit_at-suc, bit_at_lowest, bit_at_ones, bit_at_set_same, bit_at_set_other, bit_at_clear_same, bit_at_clear_other}
-use Rattle.std.proofs.lemmas.List.{get_or-set_same, get_or-set_other, get_or_past, get_or-take, get_or-drop}
+use Rattle.std.proofs.lemmas.Nat.{one_shl, pow_pos, div-add-mod'}
+use Rattle.std.proofs.Math.Nat.{mod-lt}
+use Rattle.std.proofs.lemmas.Nat.Bits.{and_pow, bit_at-lt, bit_at-zero, bit_at-suc, bit_at_lowest, bit_at_ones, bit_at_set_same, bit_at_set_other, bit_at_clear_same, bit_at_clear_other, bit_at_cat_low}
+use Rattle.std.proofs.lemmas.List.{get_or-set_same, get_or-set_other, get_or_past, get_or-take, get_or-drop, length-take-le}
 use Rattle.std.proofs.lemmas.Bool.{cases_lt, cases_eq}
 use Rattle.std.proofs.lemmas.Bool.Decides.{nat_tests}
 use Rattle.page_table.specs.Bits.{is_set, any_set, is_between}
@@ -140,3 +141,34 @@ pub count_next : (words : List ℕ) (i word count first n next : ℕ) → first 
     → count + count_ones word ≡ count_of (is_set words) 0 next
 count_next words i word count first n next begins all ends is below was =
     omega (arith, was, ones_in words i word first n begins all is below, count-append (is_set words) 0 first n next first ends (omega arith))
+
+-- how many of the lowest bits of a word are set
+pub ones_low : (word n m : ℕ) → m ≡ 2 ^ n → count_ones (word % m) ≡ count_of (λ i. nat_eq (bit_at word i) 1) 0 n
+ones_low word n m is =
+    let below : word % 2 ^ n < 2 ^ n = mod-lt word (pow_pos n) in
+    let whole : word / 2 ^ n * 2 ^ n + word % 2 ^ n ≡ word = div-add-mod' word (2 ^ n) in
+    ap (λ (all : ℕ). count_ones (word % all)) is
+    ∙ ones_below n (word % 2 ^ n) below
+    ∙ count-shift (λ i. nat_eq (bit_at word i) 1) (λ i. nat_eq (bit_at (word % 2 ^ n) i) 1) 0 0 n
+    (λ i j above less at. let same : j ≡ i = omega arith in
+    ap (λ (k : ℕ). nat_eq (bit_at (word % 2 ^ n) k) 1) same
+    ∙ ap (λ (b : ℕ). nat_eq b 1) (sym (bit_at_cat_low (word / 2 ^ n) n (word % 2 ^ n) i (omega arith)))
+    ∙ ap (λ (w : ℕ). nat_eq (bit_at w i) 1) whole)
+
+-- those of the words before one, and the lowest of that one
+pub count_parts : (words : List ℕ) (i rest number a b : ℕ) → number ≡ 64 * i + rest → rest < 64 → i ≤ length words → a ≡ count_of (is_set (take i words)) 0 (64 * length (take i words))
+    → b ≡ count_of (λ k. nat_eq (bit_at (get_or words i 0) k) 1) 0 rest → a + b ≡ count_of (is_set words) 0 number
+count_parts words i rest number a b all less within before here =
+    let long : length (take i words) ≡ i = length-take-le i words within in
+    let first : count_of (is_set (take i words)) 0 (64 * i) ≡ count_of (is_set words) 0 (64 * i) =
+    count-shift (is_set words) (is_set (take i words)) 0 0 (64 * i)
+    (λ k j above below at. let same : j ≡ k = omega arith in
+    ap (is_set (take i words)) same ∙ ap (λ (w : ℕ). nat_eq (bit_at w (k % 64)) 1) (get_or-take i words (k / 64) 0 (omega arith))) in
+    let behind : count_of (λ k. nat_eq (bit_at (get_or words i 0) k) 1) 0 rest ≡ count_of (is_set words) (64 * i) rest =
+    sym (count-shift (λ k. nat_eq (bit_at (get_or words i 0) k) 1) (is_set words) 0 (64 * i) rest
+    (λ k j above below at.
+    let place : j / 64 ≡ i = omega arith in
+    let bit : j % 64 ≡ k = omega arith in
+    rw (place, bit) refl)) in
+    let was : a ≡ count_of (is_set (take i words)) 0 (64 * i) = before ∙ ap (λ (n : ℕ). count_of (is_set (take i words)) 0 (64 * n)) long in
+    omega (arith, was, first, here, behind, count-append (is_set words) 0 (64 * i) rest number (64 * i) all (omega arith))

@@ -29,19 +29,11 @@ some_place chunk place = ap is_some (place_is chunk place) ∙ some_shown (is_ho
 pub none_place : (chunk : Chunk) (place : ℕ) → get_or chunk.pages place None ≡ None → in_place chunk place ≡ None
 none_place chunk place none = place_is chunk place ∙ ap (shown_page (is_hole chunk.holes place)) none
 
--- what an index reads
-pub read_place : (places : Places) (place : ℕ) (page : Option (List ℕ)) → place < length places → page ≡ get_or places place page → page ≡ get_or places place None
-read_place places place page below read = read ∙ get_or_default places place page None below
-
 -- places in none of which a page is stored
 pub nones_at : (n i : ℕ) → ◌≡◌ {A = Option (List ℕ)} (get_or (replicate n None) i None) None
 nones_at zero i = refl
 nones_at (suc n) zero = refl
 nones_at (suc n) (suc i) = nones_at n i
-
-pub nones_taken : (n : ℕ) → length (filter (λ (page : Option (List ℕ)). is_some page) (replicate n None)) ≡ 0
-nones_taken zero = refl
-nones_taken (suc n) = nones_taken n
 
 -- the bits of other places, and those of one
 eq_self : (k : ℕ) → nat_eq k k ≡ true
@@ -119,13 +111,6 @@ pub absent_page : (page : Option (List ℕ)) → is_some page ≡ false → page
 absent_page None absent = refl
 absent_page (Some page) absent = absurd (cc)
 
--- a list of one chunk
-pub only : (chunks : List Chunk) (chunk : Chunk) → length chunks ≡ 1 → chunk ≡ get_or chunks 0 chunk → chunk ≡ get_or chunks 0 no_chunk
-only chunks chunk one read = read ∙ get_or_default chunks 0 chunk no_chunk (omega (arith, one))
-
-pub only_set : (chunks : List Chunk) (chunk : Chunk) → length chunks ≡ 1 → get_or (set chunks 0 chunk) 0 no_chunk ≡ chunk
-only_set chunks chunk one = get_or-set_same chunks 0 chunk no_chunk (omega (arith, one))
-
 -- where no place is taken
 pub none_taken_place : (chunk : Chunk) (k : ℕ) → taken chunk ≡ 0 → in_place chunk k ≡ None
 none_taken_place chunk k none =
@@ -176,28 +161,18 @@ none_dug words first n place begins all none k =
       | inr le ↦ let over : nat_lt k 4096 ≡ false = grind (arith, nat_tests) in ap (λ (b : Bool). b && is_set words (4096 * place + k)) over
     ]
 
--- how many places are taken once another page, a first one or none is in one
-module _ (pages : Places) (place : ℕ) (before after : Option (List ℕ)) (below : place < length pages) (was : get_or pages place None ≡ before) where
-  counted : length (filter is_some (set pages place after)) + cond (is_some before) 1 0 ≡ length (filter is_some pages) + cond (is_some after) 1 0
-  counted = omega (arith, count_set is_some pages place after below, ap {B = ℕ} (λ (p : Option (List ℕ)). cond (is_some p) 1 0) was)
+put_more : (n m : ℕ) (b : Bool) → n + cond b 1 0 ≡ m + 1 → n ≡ m + (if b then 0 else 1)
+put_more n m true counted = omega (arith, counted)
+put_more n m false counted = omega (arith, counted)
 
-  pub taken_again : (old new : List ℕ) → before ≡ Some old → after ≡ Some new → length (filter is_some (set pages place after)) ≡ length (filter is_some pages)
-  taken_again old new there is =
-      omega (arith, counted, ap {B = ℕ} (λ (p : Option (List ℕ)). cond (is_some p) 1 0) there, ap {B = ℕ} (λ (p : Option (List ℕ)). cond (is_some p) 1 0) is)
-
-  pub taken_more : (new : List ℕ) → before ≡ None → after ≡ Some new → length (filter is_some (set pages place after)) ≡ length (filter is_some pages) + 1
-  taken_more new there is =
-      omega (arith, counted, ap {B = ℕ} (λ (p : Option (List ℕ)). cond (is_some p) 1 0) there, ap {B = ℕ} (λ (p : Option (List ℕ)). cond (is_some p) 1 0) is)
-
-  pub taken_less : (old : List ℕ) → before ≡ Some old → after ≡ None → length (filter is_some (set pages place after)) + 1 ≡ length (filter is_some pages)
-  taken_less old there is =
-      omega (arith, counted, ap {B = ℕ} (λ (p : Option (List ℕ)). cond (is_some p) 1 0) there, ap {B = ℕ} (λ (p : Option (List ℕ)). cond (is_some p) 1 0) is)
-
--- the same as contracts see it
-pub taken_seen : (found now : Chunk) (place : ℕ) (before : Option (List ℕ)) (count : ℕ) → found ≡ now → get_or found.pages place None ≡ before → count ≡ taken found + (if is_some before then 0 else 1)
-    → count ≡ taken now + (if is_some (in_place now place) then 0 else 1)
-taken_seen found now place before count seen was is =
-    is ∙ ap (λ (b : Bool). taken found + (if b then 0 else 1)) (sym (some_place found place ∙ ap is_some was))
+-- how many places are taken once a page is in one
+pub put_taken : (found now : Chunk) (place : ℕ) (new : Places) (page : List ℕ) → place < length found.pages → new ≡ set found.pages place (Some page) → found ≡ now
+    → length (filter is_some new) ≡ taken now + (if is_some (in_place now place) then 0 else 1)
+put_taken found now place new page below put seen =
+    let counted : length (filter is_some new) + cond (is_some (get_or found.pages place None)) 1 0 ≡ length (filter is_some found.pages) + 1 =
+    ap (λ (all : Places). length (filter is_some all) + cond (is_some (get_or found.pages place None)) 1 0) put ∙ count_set is_some found.pages place (Some page) below in
+    put_more (length (filter is_some new)) (taken found) (is_some (get_or found.pages place None)) counted
+    ∙ ap (λ (b : Bool). taken found + (if b then 0 else 1)) (sym (some_place found place))
     ∙ ap (λ (chunk : Chunk). taken chunk + (if is_some (in_place chunk place) then 0 else 1)) seen
 
 pub some_is : (a b : List ℕ) → ◌≡◌ {A = Option (List ℕ)} (Some a) (Some b) → a ≡ b

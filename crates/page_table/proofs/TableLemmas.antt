@@ -1,5 +1,5 @@
 -- A table after one of its chunks has changed.
-use Rattle.std.proofs.Common.{◌≡◌, ◌≢◌, ℕ, ◌+◌, ◌-◌, ◌*◌, ◌/◌, ◌%◌, ◌<◌, ◌≤◌, inl, inr, Bool, true, false, min, is_some, IfSome, Result, Ok, Err, OnErr, Option, None, Some, List, [], length, if◌then◌else◌, refl, sym, ap, subst, ◌∙◌, arith}
+use Rattle.std.proofs.Common.{◌≡◌, ◌≢◌, ℕ, ◌+◌, ◌-◌, ◌*◌, ◌/◌, ◌%◌, ◌<◌, ◌≤◌, inl, inr, Bool, true, false, min, is_some, IfSome, Result, Ok, Err, OnOk, OnErr, Option, None, Some, List, [], length, if◌then◌else◌, refl, sym, ap, subst, ◌∙◌, arith}
 use Rattle.std.specs.Ordering.{nat_cmp, is_eq}
 use Rattle.std.specs.Cmp.{nat_cmp_is}
 use Rattle.std.specs.declared.cmp.Ordering.TheVariants.{Less, Greater}
@@ -15,6 +15,15 @@ use Rattle.page_table.proofs.RangeLemmas.{between_yes, between_part}
 pub on_err : {T E : Type 0} (r : Result T E) (P : Type 0) → P → OnErr r P
 on_err (Ok x) P p = tt
 on_err (Err e) P p = p
+
+-- what follows from what is told of a result
+pub then_ok : {T E : Type 0} (r : Result T E) (P Q : Type 0) → (P → Q) → OnOk r P → OnOk r Q
+then_ok (Ok x) P Q so p = so p
+then_ok (Err e) P Q so p = tt
+
+pub then_err : {T E : Type 0} (r : Result T E) (P Q : Type 0) → (P → Q) → OnErr r P → OnErr r Q
+then_err (Ok x) P Q so p = tt
+then_err (Err e) P Q so p = so p
 
 at_other : (k q : ℕ) → q ≢ k → is_at (nat_cmp k) q ≡ false
 at_other k q apart =
@@ -98,6 +107,11 @@ module _ (m n : BTreeMap ℕ Chunk) (q : ℕ) (after : Chunk) (updates : Updates
   map_others before number is found same =
       other_places m.entries n.entries q (updates_others m n q (Some after) updates) number is
       (λ k apart. ap (λ (c : Option Chunk). in_chunk c k) updates.1 ∙ same k apart ∙ ap (λ (c : Option Chunk). in_chunk c k) found)
+
+  pub map_same : (before : Chunk) → Some before ≡ get nat_cmp m q → after ≡ before → (k : ℕ) → in_table n.entries k ≡ in_table m.entries k
+  map_same before found same =
+      same_table m.entries n.entries q (updates_others m n q (Some after) updates)
+      (λ k. ap (λ (c : Option Chunk). in_chunk c k) updates.1 ∙ ap (λ (chunk : Chunk). in_place chunk k) same ∙ ap (λ (c : Option Chunk). in_chunk c k) found)
 
   pub map_taken : AreTaken m.entries → 0 < taken after → AreTaken n.entries
   map_taken was here =

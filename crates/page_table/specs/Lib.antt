@@ -1,4 +1,5 @@
 pub mod Bits
+pub mod Places
 pub mod Table
 pub mod Marks
 pub mod Swept

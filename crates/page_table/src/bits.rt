@@ -32,8 +32,25 @@ pub(crate) fn count(words: &[u64]) -> usize
     count
 }
 
-// A number is a member from now on, or isn't.
-fn put_one(words: &mut [u64], number: usize, member: bool)
+// How many of the lowest numbers of a word are members.
+fn count_in(word: u64, numbers: usize) -> usize
+    requires { numbers < 64 }
+    ensures { result ≡ count_of (λ k. bit_at word k == 1) 0 numbers }
+{
+    (word % (1 << numbers)).count_ones() as usize
+}
+
+/// How many members are below a number.
+pub(crate) fn count_below(words: &[u64], number: usize) -> usize
+    requires within { number < 64 * length words.now }
+    requires few { length words.now ≤ 256 }
+    ensures { result ≡ count_of (is_set words.now) 0 number }
+{
+    count(&words[..number / 64]) + count_in(words[number / 64], number % 64)
+}
+
+/// A number is a member from now on, or isn't.
+pub(crate) fn put_one(words: &mut [u64], number: usize, member: bool)
     requires { number < 64 * length words.old }
     ensures here { is_set words.new number ≡ member }
     ensures others { (k : ℕ) → k ≢ number → is_set words.new k ≡ is_set words.old k }

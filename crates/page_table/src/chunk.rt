@@ -1,11 +1,12 @@
-ghost use Rattle.std.specs.Prelude.{◌≡◌, ℕ, ◌+◌, ◌<◌, ◌≤◌, ◌≢◌, None, Some, IfOk, is_some, length, slice_index_or, if◌then◌else◌};
+ghost use Rattle.std.specs.Prelude.{◌≡◌, ℕ, ◌+◌, ◌<◌, ◌≤◌, ◌≢◌, None, Some, IfOk, IsOk, OnOk, OnErr, is_some, true, length, slice_index_or, if◌then◌else◌};
 ghost use Rattle.page_table.specs.Bits.{is_between};
 ghost use Rattle.page_table.specs.Table.{in_place, taken, cleared};
 
 use crate::holes::Holes;
+use crate::places::Places;
 use crate::swept::Swept;
 use nbd_base::NoMemory;
-use payload::Page;
+use payload::{PAGE, Page};
 use std::alloc::Allocator;
 use std::marker::Model;
 use std::mem;
@@ -13,27 +14,20 @@ use std::mem;
 /// How many pages a chunk has places for.
 pub const CHUNK: usize = 256;
 
-/// Places for 256 pages in a row, in some of which one is stored. They lie side by side, so that the next page is found beside
-/// the one before it.
+/// Places for 256 pages in a row, in some of which one is stored. Those lie side by side, so that the next page is found beside the
+/// one before it.
 #[derive(Drop)]
 pub(crate) struct Chunk<A: Allocator + Copy> {
-    pages: Vec<Option<Page<A>>, A>,
+    pages: Places<Page<A>, A>,
     holes: Holes<A>,
-    // In how many of them one is stored.
-    taken: usize,
 }
 
 impl<A: Allocator + Copy> Model for Chunk<A> {
-    ghost use Rattle.std.specs.Prelude.{◌≡◌, is_some, length};
-    ghost use Rattle.std.specs.List.{filter};
     ghost use Rattle.page_table.specs.Table.{Chunk as Seen};
 
     ghost Value = { Seen };
 
-    ghost view = { λ chunk. record { pages = chunk.pages.items; holes = chunk.holes } };
-
-    ghost invariant = { λ chunk. (length chunk.pages.items ≡ 256)
-        × (chunk.taken ≡ length (filter is_some chunk.pages.items)) };
+    ghost view = { λ chunk. record { pages = chunk.pages; holes = chunk.holes } };
 }
 
 impl<A: Allocator + Copy> Chunk<A> {
@@ -41,15 +35,10 @@ impl<A: Allocator + Copy> Chunk<A> {
     pub(crate) fn new(alloc: A) -> Result<Chunk<A>, NoMemory>
         ensures { IfOk result (λ chunk. (k : ℕ) → in_place chunk k ≡ None) }
     {
-        let mut pages = Vec::with_capacity(alloc, CHUNK)?;
-        for _ in 0..CHUNK {
-            pages.push(None)?;
-        }
         let holes = Holes::none(alloc)?;
         Ok(Chunk {
-            pages,
+            pages: Places::new(alloc),
             holes,
-            taken: 0,
         })
     }
 
@@ -59,15 +48,18 @@ impl<A: Allocator + Copy> Chunk<A> {
         ensures few { result ≤ 256 }
         ensures long { length self.now.pages ≡ 256 }
     {
-        self.taken
+        self.pages.count()
     }
 
-    /// Whether a page is stored in a place.
+    /// Whether a page is stored in a place. It looks at what is kept of that page, so whoever asks has it in a cache then.
     pub(crate) fn stores(&self, place: usize) -> bool
         requires { place < 256 }
         ensures { result ≡ is_some (in_place self.now place) }
     {
-        self.pages[place].is_some()
+        match self.pages.get(place) {
+            Some(page) => page.as_slice().len() == PAGE,
+            None => false,
+        }
     }
 
     // A copy of the page in a place. It isn't made a part of its caller, which would zero its bytes even where none are copied.
@@ -99,26 +91,33 @@ impl<A: Allocator + Copy> Chunk<A> {
         requires { place < 256 }
         ensures { IfOk result (λ page. page ≡ in_place self.now place) }
     {
-        let Some(page) = self.pages[place].as_ref() else {
+        let Some(page) = self.pages.get(place) else {
             return Ok(None);
         };
         let page = self.current(alloc, place, page)?;
         Ok(Some(page))
     }
 
-    /// A page is stored in a place from now on. It takes no memory. The one before it is swept out.
-    pub(crate) fn put(&mut self, place: usize, page: Page<A>, swept: &mut Swept<A>)
+    /// A page is stored in a place from now on. It takes no memory where one was. The one before it is swept out.
+    pub(crate) fn put(
+        &mut self,
+        place: usize,
+        page: Page<A>,
+        swept: &mut Swept<A>,
+    ) -> Result<(), NoMemory>
         requires { place < 256 }
-        ensures here { in_place self.new place ≡ Some page }
+        ensures here { OnOk result (in_place self.new place ≡ Some page) }
         ensures others { (k : ℕ) → k ≢ place → in_place self.new k ≡ in_place self.old k }
-        ensures taken { taken self.new
-            ≡ taken self.old + (if is_some (in_place self.old place) then 0 else 1) }
+        ensures stored { is_some (in_place self.old place) ≡ true → IsOk result }
+        ensures no_memory { OnErr result (self.new ≡ self.old) }
+        ensures taken { OnOk result (taken self.new
+            ≡ taken self.old + (if is_some (in_place self.old place) then 0 else 1)) }
     {
-        self.holes.fill(place);
-        match mem::replace(&mut self.pages[place], Some(page)) {
-            Some(before) => swept.take_page(before),
-            None => self.taken += 1,
+        if let Some(before) = self.pages.put(place, page)? {
+            swept.take_page(before);
         }
+        self.holes.fill(place);
+        Ok(())
     }
 
     // The page in a place, with a range of it made zero.
@@ -159,12 +158,16 @@ impl<A: Allocator + Copy> Chunk<A> {
         ensures others { (k : ℕ) → k ≢ place → in_place self.new k ≡ in_place self.old k }
         ensures taken { taken self.new ≡ taken self.old }
     {
-        let Some(page) = self.pages[place].as_ref() else {
+        let Some(page) = self.pages.get(place) else {
             return;
         };
         let _whole = page.as_slice();
         match self.cleared(alloc, place, page, start, count) {
-            Ok(after) => self.put(place, after, swept),
+            Ok(after) => {
+                let Ok(()) = self.put(place, after, swept) else {
+                    unreachable!();
+                };
+            }
             Err(NoMemory) => self.holes.dig(place, start, count),
         }
     }
@@ -175,8 +178,7 @@ impl<A: Allocator + Copy> Chunk<A> {
         ensures here { in_place self.new place ≡ None }
         ensures others { (k : ℕ) → k ≢ place → in_place self.new k ≡ in_place self.old k }
     {
-        if let Some(page) = self.pages[place].take() {
-            self.taken -= 1;
+        if let Some(page) = self.pages.take(place) {
             swept.take_page(page);
         }
     }

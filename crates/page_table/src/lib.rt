@@ -9,7 +9,7 @@ mod chunk;
 mod held_zeros;
 mod holes;
 mod least;
-mod node;
+mod places;
 mod swept;
 mod table;
 

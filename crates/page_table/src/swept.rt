@@ -12,7 +12,7 @@ use std::marker::Model;
 #[derive(Drop)]
 pub struct Swept<A: Allocator + Copy> {
     pages: Vec<Page<A>, A>,
-    // A list takes the chunks of another over without memory, and at no cost, however many these are.
+    // A list, so that one more moves none of the others.
     chunks: LinkedList<Chunk<A>, A>,
 }
 
@@ -76,10 +76,11 @@ impl<A: Allocator + Copy> Swept<A> {
         }
     }
 
-    /// A chunk in a list of its own.
-    pub(crate) fn take_chunk(&mut self, mut chunk: LinkedList<Chunk<A>, A>) {
-        if self.chunks.append(&mut chunk).is_err() {
-            chunk.clear();
+    /// A chunk that isn't needed any more. Where memory for its place in the list is refused, it is let go.
+    pub(crate) fn take_chunk(&mut self, chunk: Chunk<A>) {
+        match self.chunks.push_back(chunk) {
+            Ok(()) => {}
+            Err(refused) => drop(refused),
         }
     }
 }

@@ -2,9 +2,8 @@ ghost use Rattle.std.specs.Prelude.{◌≡◌, ℕ, ◌+◌, ◌*◌, ◌/◌, �
 ghost use Rattle.page_table.specs.Bits.{is_between, count_of};
 ghost use Rattle.page_table.specs.Table.{in_table, cleared, chunk_of, in_chunk, taken};
 
-use crate::chunk::CHUNK;
+use crate::chunk::{CHUNK, Chunk};
 use crate::least::least_from;
-use crate::node::Node;
 use crate::swept::Swept;
 use nbd_base::NoMemory;
 use payload::Page;
@@ -13,10 +12,10 @@ use std::collections::BTreeMap;
 use std::marker::Model;
 
 /// Pages by their numbers, in chunks of 256 in a row. A page is found by a look-up in the map of the chunks, which is small,
-/// and an index. A chunk in which no page is stored isn't there.
+/// and a count of the pages before it in its chunk. A chunk in which no page is stored isn't there.
 #[derive(Drop)]
 pub struct Table<A: Allocator + Copy> {
-    chunks: BTreeMap<usize, Node<A>, A>,
+    chunks: BTreeMap<usize, Chunk<A>, A>,
 }
 
 impl<A: Allocator + Copy> Model for Table<A> {
@@ -32,7 +31,7 @@ impl<A: Allocator + Copy> Model for Table<A> {
 
 // Pages of a chunk that is there are stored no longer, from a place on before an end. The answer is how many are stored then.
 fn remove_places<A: Allocator + Copy>(
-    chunks: &mut BTreeMap<usize, Node<A>, A>,
+    chunks: &mut BTreeMap<usize, Chunk<A>, A>,
     number: usize,
     first: usize,
     end: usize,
@@ -47,15 +46,16 @@ fn remove_places<A: Allocator + Copy>(
     ensures others { (q : ℕ) → q ≢ number
         → chunk_of chunks.new.entries q ≡ chunk_of chunks.old.entries q }
 {
-    let Some(node) = chunks.get_mut(&number) else {
+    let Some(chunk) = chunks.get_mut(&number) else {
         unreachable!();
     };
-    node.remove(first, end, swept)
+    chunk.remove(first, end, swept);
+    chunk.taken()
 }
 
 // A chunk is there no longer.
 fn remove_chunk<A: Allocator + Copy>(
-    chunks: &mut BTreeMap<usize, Node<A>, A>,
+    chunks: &mut BTreeMap<usize, Chunk<A>, A>,
     number: usize,
     swept: &mut Swept<A>,
 )
@@ -63,8 +63,8 @@ fn remove_chunk<A: Allocator + Copy>(
     ensures others { (q : ℕ) → q ≢ number
         → chunk_of chunks.new.entries q ≡ chunk_of chunks.old.entries q }
 {
-    if let Some(node) = chunks.remove(&number) {
-        node.leave(swept);
+    if let Some(chunk) = chunks.remove(&number) {
+        swept.take_chunk(chunk);
     }
 }
 
@@ -82,7 +82,7 @@ impl<A: Allocator + Copy> Table<A> {
         ensures { result ≡ is_some (in_table self.now number) }
     {
         match self.chunks.get(&(number / CHUNK)) {
-            Some(node) => node.get().stores(number % CHUNK),
+            Some(chunk) => chunk.stores(number % CHUNK),
             None => false,
         }
     }
@@ -92,12 +92,12 @@ impl<A: Allocator + Copy> Table<A> {
         ensures { IfOk result (λ page. page ≡ in_table self.now number) }
     {
         match self.chunks.get(&(number / CHUNK)) {
-            Some(node) => node.get().page(alloc, number % CHUNK),
+            Some(chunk) => chunk.page(alloc, number % CHUNK),
             None => Ok(None),
         }
     }
 
-    /// A page is stored from now on. It takes no memory where its chunk is there. The one before it is swept out.
+    /// A page is stored from now on. It takes no memory where one was. The one before it is swept out.
     pub fn put(
         &mut self,
         alloc: A,
@@ -110,12 +110,11 @@ impl<A: Allocator + Copy> Table<A> {
         ensures stored { is_some (in_table self.old number) ≡ true → IsOk result }
         ensures no_memory { OnErr result ((k : ℕ) → in_table self.new k ≡ in_table self.old k) }
     {
-        if let Some(node) = self.chunks.get_mut(&(number / CHUNK)) {
-            node.put(number % CHUNK, page, swept);
-            return Ok(());
+        if let Some(chunk) = self.chunks.get_mut(&(number / CHUNK)) {
+            return chunk.put(number % CHUNK, page, swept);
         }
-        let mut made = Node::new(alloc)?;
-        made.put(number % CHUNK, page, swept);
+        let mut made = Chunk::new(alloc)?;
+        made.put(number % CHUNK, page, swept)?;
         self.chunks.insert(number / CHUNK, made)?;
         Ok(())
     }
@@ -133,10 +132,10 @@ impl<A: Allocator + Copy> Table<A> {
         ensures here { in_table self.new number ≡ cleared start count (in_table self.old number) }
         ensures others { (k : ℕ) → k ≢ number → in_table self.new k ≡ in_table self.old k }
     {
-        let Some(node) = self.chunks.get_mut(&(number / CHUNK)) else {
+        let Some(chunk) = self.chunks.get_mut(&(number / CHUNK)) else {
             return;
         };
-        node.clear(alloc, number % CHUNK, start, count, swept);
+        chunk.clear(alloc, number % CHUNK, start, count, swept);
     }
 
     // The first chunk that is there, from one on before an end.
@@ -196,7 +195,7 @@ impl<A: Allocator + Copy> Table<A> {
         ensures few { result ≤ 256 }
     {
         match self.chunks.get(&chunk) {
-            Some(node) => node.get().taken(),
+            Some(found) => found.taken(),
             None => 0,
         }
     }

@@ -20,7 +20,7 @@ invariant_of-self-2 g c =
     let found = c.in-Some.ensures.value in
     let updates = (c.get_mut.follows.holds written).3 (subst IsSome found refl) in
     map_taken c.self.inside.chunks (c.get_mut.follows.lender written) (n / 256) written updates c.self.invariant
-    (omega (arith, c.clear.ensures.taken, taken_found c.self.inside.chunks.entries (n / 256) c.in-Some.node.now c.self.invariant found))
+    (omega (arith, c.clear.ensures.taken, taken_found c.self.inside.chunks.entries (n / 256) c.in-Some.chunk.now c.self.invariant found))
 
 pub returns-clause-here : goal.returns-clause-here
 returns-clause-here g c =
@@ -31,7 +31,7 @@ returns-clause-here g c =
     map_here c.self.inside.chunks (c.get_mut.follows.lender written) (n / 256) written updates n (cleared c.args.start c.args.count (in_table c.args.self.now n)) refl
     (c.clear.ensures.here
     ∙ ap (cleared c.args.start c.args.count)
-    (found_is c.self.inside.chunks.entries n (n / 256) c.in-Some.node.now refl found ∙ ap (λ (all : List (ℕ × Chunk)). in_table all n) c.self.view_is))
+    (found_is c.self.inside.chunks.entries n (n / 256) c.in-Some.chunk.now refl found ∙ ap (λ (all : List (ℕ × Chunk)). in_table all n) c.self.view_is))
 
 pub returns-clause-others : goal.returns-clause-others
 returns-clause-others g c = λ k apart.
@@ -39,5 +39,5 @@ returns-clause-others g c = λ k apart.
     let written = c.clear.new.self in
     let found = c.in-Some.ensures.value in
     let updates = (c.get_mut.follows.holds written).3 (subst IsSome found refl) in
-    map_others c.self.inside.chunks (c.get_mut.follows.lender written) (n / 256) written updates (Some c.in-Some.node.now) n refl found c.clear.ensures.others k apart
+    map_others c.self.inside.chunks (c.get_mut.follows.lender written) (n / 256) written updates (Some c.in-Some.chunk.now) n refl found c.clear.ensures.others k apart
     ∙ ap (λ (all : List (ℕ × Chunk)). in_table all k) c.self.view_is

@@ -7,10 +7,9 @@ use Rattle.page_table.proofs.table.Table.page.Goals as goal
 pub returns-in-Some : goal.returns-in-Some
 returns-in-Some g c =
     let n : ℕ = c.args.number in
-    if_ok c.page.result (λ (page : Option (List ℕ)). page ≡ in_place c.get-in-Some.result.now (n % 256)) (λ (page : Option (List ℕ)). page ≡ in_table c.args.self.now n) (λ page is.
+    if_ok c.page.result (λ (page : Option (List ℕ)). page ≡ in_place c.in-Some.chunk.now (n % 256)) (λ (page : Option (List ℕ)). page ≡ in_table c.args.self.now n) (λ page is.
     is
-    ∙ ap (λ (chunk : Chunk). in_place chunk (n % 256)) c.get-in-Some.ensures
-    ∙ found_is c.self.inside.chunks.entries n (n / 256) c.in-Some.node.now refl c.in-Some.ensures.value
+    ∙ found_is c.self.inside.chunks.entries n (n / 256) c.in-Some.chunk.now refl c.in-Some.ensures.value
     ∙ ap (λ (all : List (ℕ × Chunk)). in_table all n) c.self.view_is) c.page.ensures
 
 pub returns-in-None : goal.returns-in-None

@@ -1,5 +1,5 @@
-use Rattle.std.proofs.Common.{◌∙◌, ◌*◌, ℕ, List, length, is_some, refl, sym, ap}
-use Rattle.page_table.specs.Table.{Chunk, in_table, taken}
+use Rattle.std.proofs.Common.{◌∙◌, ◌*◌, ℕ, List, is_some, refl, sym, ap}
+use Rattle.page_table.specs.Table.{Chunk, in_table}
 use Rattle.page_table.proofs.CountLemmas.{count_of}
 use Rattle.page_table.proofs.TableLemmas.{count_chunk, count_absent}
 use Rattle.page_table.proofs.table.Table.stored_in.Goals as goal
@@ -8,8 +8,7 @@ pub returns-in-Some-clause-count : goal.returns-in-Some-clause-count
 returns-in-Some-clause-count g c =
     let q : ℕ = c.args.chunk in
     c.taken.ensures.count
-    ∙ ap taken c.get-in-Some.ensures
-    ∙ count_chunk c.self.inside.chunks.entries q 256 (256 * q) c.in-Some.node.now refl refl (ap (λ (chunk : Chunk). length chunk.pages) (sym c.get-in-Some.ensures) ∙ c.taken.ensures.long) c.in-Some.ensures.value
+    ∙ count_chunk c.self.inside.chunks.entries q 256 (256 * q) c.in-Some.found.now refl refl c.taken.ensures.long c.in-Some.ensures.value
     ∙ ap (λ (all : List (ℕ × Chunk)). count_of (λ k. is_some (in_table all k)) (256 * q) 256) c.self.view_is
 
 pub returns-in-None-clause-count : goal.returns-in-None-clause-count

@@ -1,5 +1,5 @@
 use Rattle.std.proofs.Common.{◌∙◌, ◌/◌, ◌%◌, ℕ, List, is_some, refl, sym, ap}
-use Rattle.page_table.specs.Table.{Chunk, in_table, in_place}
+use Rattle.page_table.specs.Table.{Chunk, in_table}
 use Rattle.page_table.proofs.TableLemmas.{found_is, absent_is}
 use Rattle.page_table.proofs.table.Table.stores.Goals as goal
 
@@ -7,8 +7,7 @@ pub returns-in-Some : goal.returns-in-Some
 returns-in-Some g c =
     let n = c.args.number in
     c.stores.ensures
-    ∙ ap (λ (chunk : Chunk). is_some (in_place chunk (n % 256))) c.get-in-Some.ensures
-    ∙ ap is_some (found_is c.self.inside.chunks.entries n (n / 256) c.in-Some.node.now refl c.in-Some.ensures.value)
+    ∙ ap is_some (found_is c.self.inside.chunks.entries n (n / 256) c.in-Some.chunk.now refl c.in-Some.ensures.value)
     ∙ ap (λ (all : List (ℕ × Chunk)). is_some (in_table all n)) c.self.view_is
 
 pub returns-in-None : goal.returns-in-None

@@ -1,0 +1,122 @@
+ghost use Rattle.std.specs.Prelude.{◌≡◌, ◌<◌, ◌≤◌, ◌==◌, None, Some, IfSome, IfOk, IsOk, OnOk, OnErr, is_some, true, length, get_or, set, replicate};
+ghost use Rattle.std.specs.List.{filter};
+
+use crate::bits;
+use nbd_base::NoMemory;
+use std::alloc::Allocator;
+use std::marker::Model;
+use std::mem;
+
+/// Places for 256 items in a row. The items that are there lie side by side, so a place without one takes a bit.
+#[derive(Drop)]
+pub(crate) struct Places<T: Drop, A: Allocator + Copy> {
+    // In which places there is an item, a bit for each.
+    marks: [u64; 4],
+    // In the order of their places.
+    items: Vec<T, A>,
+}
+
+impl<T: Drop, A: Allocator + Copy> Model for Places<T, A> {
+    ghost use Rattle.std.specs.Prelude.{◌≡◌, Option, List, length};
+    ghost use Rattle.page_table.specs.Bits.{is_set, count_of};
+    ghost use Rattle.page_table.specs.Places.{in_places};
+
+    ghost Value = { List (Option T) };
+
+    ghost view = { λ places. in_places places.marks places.items.items };
+
+    ghost invariant = { λ places.
+        length places.items.items ≡ count_of (is_set places.marks) 0 256 };
+}
+
+impl<T: Drop, A: Allocator + Copy> Places<T, A> {
+    /// There is no item.
+    pub(crate) fn new(alloc: A) -> Places<T, A>
+        ensures { result ≡ replicate 256 None }
+    {
+        Places {
+            marks: [0; 4],
+            items: Vec::new(alloc),
+        }
+    }
+
+    /// How many items there are.
+    pub(crate) fn count(&self) -> usize
+        ensures count { result ≡ length (filter is_some self.now) }
+        ensures few { result ≤ 256 }
+        ensures long { length self.now ≡ 256 }
+    {
+        self.items.len()
+    }
+
+    /// The item in a place.
+    pub(crate) fn get(&self, place: usize) -> Option<&T>
+        requires { place < 256 }
+        ensures some { IfSome result (λ item. get_or self.now place None ≡ Some item.now) }
+        ensures none { result ≡ None → get_or self.now place None ≡ None }
+        ensures long { length self.now ≡ 256 }
+    {
+        if !bits::has(&self.marks, place) {
+            return None;
+        }
+        Some(&self.items[bits::count_below(&self.marks, place)])
+    }
+
+    // Puts an item in the place of one.
+    fn exchange(&mut self, place: usize, item: T) -> T
+        requires place { place < 256 }
+        requires there { is_some (get_or self.old place None) ≡ true }
+        ensures before { get_or self.old place None ≡ Some result }
+        ensures after { self.new ≡ set self.old place (Some item) }
+    {
+        let at = bits::count_below(&self.marks, place);
+        mem::replace(&mut self.items[at], item)
+    }
+
+    // Puts an item where there is none.
+    fn add(&mut self, place: usize, item: T) -> Result<(), NoMemory>
+        requires place { place < 256 }
+        requires none { get_or self.old place None ≡ None }
+        ensures added { OnOk result (self.new ≡ set self.old place (Some item)) }
+        ensures no_memory { OnErr result (self.new ≡ self.old) }
+    {
+        let at = bits::count_below(&self.marks, place);
+        let Ok(()) = self.items.insert(at, item) else {
+            return Err(NoMemory);
+        };
+        bits::put_one(&mut self.marks, place, true);
+        Ok(())
+    }
+
+    /// Puts an item in a place. The answer is the one before it. It takes no memory where there is one.
+    pub(crate) fn put(&mut self, place: usize, item: T) -> Result<Option<T>, NoMemory>
+        requires { place < 256 }
+        ensures before { IfOk result (λ before. before ≡ get_or self.old place None) }
+        ensures after { OnOk result (self.new ≡ set self.old place (Some item)) }
+        ensures there { is_some (get_or self.old place None) ≡ true → IsOk result }
+        ensures no_memory { OnErr result (self.new ≡ self.old) }
+        ensures long { length self.old ≡ 256 }
+    {
+        if self.get(place).is_some() {
+            let before = self.exchange(place, item);
+            return Ok(Some(before));
+        }
+        self.add(place, item)?;
+        Ok(None)
+    }
+
+    /// Takes the item out of a place.
+    pub(crate) fn take(&mut self, place: usize) -> Option<T>
+        requires { place < 256 }
+        ensures before { result ≡ get_or self.old place None }
+        ensures after { self.new ≡ set self.old place None }
+        ensures long { length self.old ≡ 256 }
+    {
+        if !bits::has(&self.marks, place) {
+            return None;
+        }
+        let at = bits::count_below(&self.marks, place);
+        bits::put_one(&mut self.marks, place, false);
+        Some(self.items.remove(at))
+    }
+}
