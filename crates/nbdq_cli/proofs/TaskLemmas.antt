@@ -21,6 +21,8 @@ new_buffer T B contents made writer output is inner empty =
 pub runs_task : (A : Type 0) (asked : Task) (unread left old first told last new : Option (List ℕ)) (outcome : Outcome) → first ≡ old
     → TellsTask A asked (record { unread = unread; left = left; old = first; new = told }) outcome → last ≡ told → Keeps last new
     → RunsTask A asked unread left old (Some new) outcome
-runs_task A asked unread left old first told last new outcome begins tells ends keeps =
-    (told, subst (λ (o : Option (List ℕ)). TellsTask A asked (record { unread = unread; left = left; old = o; new = told }) outcome) begins tells,
-     subst (λ (o : Option (List ℕ)). Keeps o new) ends keeps)
+runs_task A asked unread left old first told last new outcome begins tells ends keeps = (
+  told,
+  subst (λ (o : Option (List ℕ)). TellsTask A asked (record { unread = unread; left = left; old = o; new = told }) outcome) begins tells,
+  subst (λ (o : Option (List ℕ)). Keeps o new) ends keeps,
+)
