@@ -1,13 +1,12 @@
 -- What the program did, one thing after another.
-use Rattle.std.proofs.Common.{◌≡◌, ℕ, Bool, false, true, List, [], ◌∷◌, ◌++◌, Option, Some, None, Result, Ok, Err, refl, sym, ap, subst, ◌∙◌, append_assoc, append-nil}
+use Rattle.std.proofs.Common.{◌≡◌, ℕ, Bool, List, [], ◌∷◌, ◌++◌, Option, Some, None, Result, Ok, Err, refl, sym, ap, subst, ◌∙◌, append_assoc, append-nil}
 use Rattle.clap.specs.Words.{kind_of}
 use Rattle.clap.specs.declared.error.Error.{Error}
-use Rattle.nbd_scripts.specs.declared.outcome.Outcome.TheVariants.{WriteFailed}
 use Rattle.nbdq_cli.specs.declared.command_line.Job.{Job}
 use Rattle.nbdq_cli.specs.declared.outcome.Ending.{Ending}
 use Rattle.nbdq_cli.specs.declared.outcome.Ending.TheVariants as ends
 use Rattle.nbdq_cli.specs.Outcomes.{end_of_kind, status_of_end, text_of_end}
-use Rattle.nbdq_cli.specs.Deeds.{end_shown, line_told, ComesTo, Deed, Dispatches, Does, Explains, Goes, RefusedWith, Refuses, Runs, Shows, Tells}
+use Rattle.nbdq_cli.specs.Deeds.{end_shown, line_told, ComesTo, Deed, Dispatches, Does, Explains, RefusedWith, Refuses, Runs, Shows}
 
 pub does_nothing : (u : Option (List Deed)) → Does u u []
 does_nothing None = tt

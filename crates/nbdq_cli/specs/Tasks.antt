@@ -25,6 +25,6 @@ TellsTask A tasks.Replay s outcome = TellsReplay A s outcome
 -- What a command read and wrote, by how it went, where its output is given back: what it wrote is there. Else there was no memory
 -- for the buffer, or a write failed.
 abbrev pub RunsTask : Type 0 → Task → Option (List ℕ) → Option (List ℕ) → Option (List ℕ) → Option (Option (List ℕ)) → Outcome → Type 0
-RunsTask A task unread left old None outcome = (outcome ≡ outcomes.NoMemory) ⊎ (outcome ≡ outcomes.WriteFailed)
-RunsTask A task unread left old (Some new) outcome =
-    (written : Option (List ℕ)) × TellsTask A task (record { unread = unread; left = left; old = old; new = written }) outcome × Keeps written new
+RunsTask A asked unread left old None outcome = (outcome ≡ outcomes.NoMemory) ⊎ (outcome ≡ outcomes.WriteFailed)
+RunsTask A asked unread left old (Some new) outcome =
+    (written : Option (List ℕ)) × TellsTask A asked (record { unread = unread; left = left; old = old; new = written }) outcome × Keeps written new

@@ -1,5 +1,5 @@
 -- What `serve` says of a configuration that is odd and legal.
-use Rattle.std.specs.Prelude.{ℕ, Bool, if◌then◌else◌, nat_lt, List, [], ◌++◌, codes, sum_by}
+use Rattle.std.specs.Prelude.{ℕ, if◌then◌else◌, nat_lt, List, [], ◌++◌, codes, sum_by}
 use Rattle.std.specs.Fmt.{decimal}
 use Rattle.nbd_commands.specs.Exports.{Export, Offer}
 use Rattle.nbdq_cli.specs.Lines.{lines_of}
