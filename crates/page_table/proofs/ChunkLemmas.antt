@@ -3,10 +3,10 @@ use Rattle.std.proofs.Common.{◌≡◌, ◌≢◌, ℕ, zero, suc, ◌+◌, ◌
 use Rattle.std.specs.List.{filter}
 use Rattle.std.proofs.lemmas.Bool.Decides.{nat_tests}
 use Rattle.std.proofs.lemmas.Bool.{cases_lt}
-use Rattle.std.proofs.lemmas.List.{take-replicate, get_or_default, get_or-set_same, get_or-set_other, get_or_past}
+use Rattle.std.proofs.lemmas.List.{take-replicate, get_or-set_same, get_or-set_other, get_or_past}
 use Rattle.payload.specs.Rows.{zero_page}
 use Rattle.page_table.specs.Bits.{is_set, any_set, is_between}
-use Rattle.page_table.specs.Table.{Chunk, no_chunk, is_hole, shown, shown_page, in_place, taken, cleared}
+use Rattle.page_table.specs.Table.{Chunk, is_hole, shown, shown_page, in_place, taken, cleared}
 use Rattle.page_table.proofs.ShownLemmas.{page_none, page_same, page_dug}
 use Rattle.page_table.proofs.BitsLemmas.{part_set, not_any}
 use Rattle.page_table.proofs.CountLemmas.{count_set, count_some, count_zero}

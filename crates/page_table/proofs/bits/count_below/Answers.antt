@@ -1,4 +1,4 @@
-use Rattle.std.proofs.Common.{◌%◌, ◌/◌, ◌*◌, ◌≤◌, ℕ, length, take, get_or, nat_eq, arith}
+use Rattle.std.proofs.Common.{◌%◌, ◌/◌, ◌*◌, ℕ, length, take, get_or, nat_eq, arith}
 use Rattle.std.specs.Int.{bit_at}
 use Rattle.std.proofs.lemmas.List.{length-take-le}
 use Rattle.page_table.specs.Bits.{is_set}

@@ -1,4 +1,3 @@
-use Rattle.std.proofs.Common.{arith}
 use Rattle.std.proofs.lemmas.Nat.{one_shl}
 use Rattle.page_table.proofs.BitsLemmas.{ones_low}
 use Rattle.page_table.proofs.bits.count_in.Goals as goal

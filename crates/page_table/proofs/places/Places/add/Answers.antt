@@ -1,4 +1,4 @@
-use Rattle.std.proofs.Common.{◌≡◌, ◌∙◌, Some, None, false, length, get_or, set, sym, ap, arith}
+use Rattle.std.proofs.Common.{◌≡◌, ◌∙◌, Some, None, false, length, get_or, set, ap}
 use Rattle.std.proofs.lemmas.List.Edits.{length-insert}
 use Rattle.page_table.specs.Bits.{is_set}
 use Rattle.page_table.specs.Places.{in_places}

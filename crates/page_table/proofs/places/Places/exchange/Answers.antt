@@ -1,4 +1,4 @@
-use Rattle.std.proofs.Common.{◌≡◌, ◌∙◌, Some, None, is_some, true, length, get_or, set, sym, ap, arith}
+use Rattle.std.proofs.Common.{◌≡◌, ◌∙◌, Some, None, is_some, true, get_or, set, sym, ap}
 use Rattle.page_table.specs.Bits.{is_set}
 use Rattle.page_table.specs.Places.{in_places}
 use Rattle.page_table.proofs.PlacesLemmas.{place_there, place_some, place_set, place_below}

@@ -1,4 +1,4 @@
-use Rattle.std.proofs.Common.{◌∙◌, Some, None, length, get_or, sym, ap, arith}
+use Rattle.std.proofs.Common.{◌∙◌, Some, None, length, get_or, sym, ap}
 use Rattle.page_table.proofs.PlacesLemmas.{places-length, place_none, place_some, place_below}
 use Rattle.page_table.proofs.places.Places.get.Goals as goal
 

@@ -1,4 +1,4 @@
-use Rattle.std.proofs.Common.{◌∙◌, ◌∷◌, [], List, ℕ, length, sym, ap, arith}
+use Rattle.std.proofs.Common.{◌∙◌, ◌∷◌, [], length, sym, ap}
 use Rattle.page_table.specs.Bits.{is_set}
 use Rattle.page_table.specs.Places.{in_places}
 use Rattle.page_table.proofs.CountLemmas.{count-none}

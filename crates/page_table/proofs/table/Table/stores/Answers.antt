@@ -1,4 +1,4 @@
-use Rattle.std.proofs.Common.{◌∙◌, ◌/◌, ◌%◌, ℕ, List, is_some, refl, sym, ap}
+use Rattle.std.proofs.Common.{◌∙◌, ◌/◌, ℕ, List, is_some, refl, sym, ap}
 use Rattle.page_table.specs.Table.{Chunk, in_table}
 use Rattle.page_table.proofs.TableLemmas.{found_is, absent_is}
 use Rattle.page_table.proofs.table.Table.stores.Goals as goal
