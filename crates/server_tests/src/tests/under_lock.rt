@@ -1,11 +1,13 @@
-//! A script through the lock: each of its events is the turn of its kind, by the wrapper, with one pass.
+//! Lines through the lock: each of its events is the turn of its kind, by the wrapper, with one pass.
 
-use super::lines::{event_of, text_of};
-use super::scripts::{asks, told_of};
+ghost use Rattle.std.specs.Prelude.{◌≡◌};
+
+use super::acts::*;
 use super::*;
-use server_core::{ArriveRefusal, NotArrived, NotRetuned, Ticket};
 
-fn of_attach(said: Result<SessionId, NotAttached>) -> Answer<Global> {
+type Opened<'a, L> = Shared<L, Paged<Memory<'a>>, Heaped<Memory<'a>>>;
+
+fn of_attach<'a>(said: Result<SessionId, NotAttached>) -> Answer<Memory<'a>> {
     match said {
         Ok(session) => Answer::Session(session.number),
         Err(NotAttached::NoExport) => Answer::NoExport,
@@ -15,7 +17,7 @@ fn of_attach(said: Result<SessionId, NotAttached>) -> Answer<Global> {
     }
 }
 
-fn of_arrive(said: Result<Arrived, NotArrived<Global>>) -> Answer<Global> {
+fn of_arrive<'a>(said: Result<Arrived, NotArrived<Memory<'a>>>) -> Answer<Memory<'a>> {
     match said {
         Ok(Arrived::Accepted { number, limit_tag }) => Answer::Accepted { number, limit_tag },
         Ok(Arrived::Answered(error)) => Answer::Answered(error),
@@ -29,7 +31,7 @@ fn of_arrive(said: Result<Arrived, NotArrived<Global>>) -> Answer<Global> {
     }
 }
 
-fn of_dispatch(said: Option<Chosen>) -> Answer<Global> {
+fn of_dispatch<'a>(said: Option<Chosen>) -> Answer<Memory<'a>> {
     match said {
         Some(chosen) => Answer::Picked {
             export: chosen.ticket.export(),
@@ -40,21 +42,21 @@ fn of_dispatch(said: Option<Chosen>) -> Answer<Global> {
     }
 }
 
-fn of_perform(said: Option<bool>) -> Answer<Global> {
+fn of_perform<'a>(said: Option<bool>) -> Answer<Memory<'a>> {
     match said {
         Some(memory) => Answer::Performed { memory },
         None => Answer::NotOut,
     }
 }
 
-fn of_refusal(refusal: SessionRefusal) -> Answer<Global> {
+fn of_refusal<'a>(refusal: SessionRefusal) -> Answer<Memory<'a>> {
     match refusal {
         SessionRefusal::NoExport => Answer::NoExport,
         SessionRefusal::NotOpen => Answer::NotOpen,
     }
 }
 
-fn of_take(said: Result<Taken<Global>, SessionRefusal>) -> Answer<Global> {
+fn of_take<'a>(said: Result<Taken<Memory<'a>>, SessionRefusal>) -> Answer<Memory<'a>> {
     match said {
         Ok(Taken::Reply(reply)) => Answer::Reply(reply),
         Ok(Taken::Empty) => Answer::Empty,
@@ -63,21 +65,21 @@ fn of_take(said: Result<Taken<Global>, SessionRefusal>) -> Answer<Global> {
     }
 }
 
-fn of_leave(said: Result<(), SessionRefusal>) -> Answer<Global> {
+fn of_leave<'a>(said: Result<(), SessionRefusal>) -> Answer<Memory<'a>> {
     match said {
         Ok(()) => Answer::Left,
         Err(refusal) => of_refusal(refusal),
     }
 }
 
-fn of_gone(said: Result<(), SessionRefusal>) -> Answer<Global> {
+fn of_gone<'a>(said: Result<(), SessionRefusal>) -> Answer<Memory<'a>> {
     match said {
         Ok(()) => Answer::Dropped,
         Err(refusal) => of_refusal(refusal),
     }
 }
 
-fn of_retune(said: Result<(), NotRetuned>) -> Answer<Global> {
+fn of_retune<'a>(said: Result<(), NotRetuned>) -> Answer<Memory<'a>> {
     match said {
         Ok(()) => Answer::Retuned,
         Err(NotRetuned::NoExport) => Answer::NoExport,
@@ -88,7 +90,7 @@ fn of_retune(said: Result<(), NotRetuned>) -> Answer<Global> {
 }
 
 // An event as a pass remembers it.
-fn event_trace(event: &Event<Global>) -> EventTrace {
+fn event_trace(event: &Event<Memory<'_>>) -> EventTrace {
     match event {
         Event::Attach { export } => EventTrace::Attach { export: *export },
         Event::Arrive {
@@ -127,7 +129,7 @@ fn event_trace(event: &Event<Global>) -> EventTrace {
 }
 
 // An answer as a pass remembers it.
-fn answer_trace(answer: &Answer<Global>) -> AnswerTrace {
+fn answer_trace(answer: &Answer<Memory<'_>>) -> AnswerTrace {
     match answer {
         Answer::Session(number) => AnswerTrace::Session(*number),
         Answer::Accepted { number, limit_tag } => AnswerTrace::Accepted {
@@ -169,7 +171,7 @@ fn answer_trace(answer: &Answer<Global>) -> AnswerTrace {
 // The ticket of a request that was chosen, though it may be performed since then.
 fn ticket_of(tickets: &[Ticket], export: u32, number: u64) -> Option<Ticket> {
     for ticket in tickets {
-        if ticket.export() == export && ticket.number() == number {
+        if (ticket.export(), ticket.number()) == (export, number) {
             return Some(*ticket);
         }
     }
@@ -177,13 +179,13 @@ fn ticket_of(tickets: &[Ticket], export: u32, number: u64) -> Option<Ticket> {
 }
 
 // What a dispatch answers. The ticket of its choice is kept.
-fn chosen_by<L: Ledger, R: Wait>(
+fn chosen_by<'a, L: Ledger, R: Wait>(
     rt: &R,
-    shared: &Tried<L>,
+    shared: &Opened<'a, L>,
     pass: &mut Pass<L>,
-    tickets: &mut Vec<Ticket>,
+    tickets: &mut Vec<Ticket, Memory<'a>>,
     moment: Moment,
-) -> Option<Answer<Global>> {
+) -> Option<Answer<Memory<'a>>> {
     let said = shared.turn_dispatch(rt, pass, moment);
     if let Some(chosen) = &said {
         if tickets.push(chosen.ticket).is_err() {
@@ -193,14 +195,32 @@ fn chosen_by<L: Ledger, R: Wait>(
     Some(of_dispatch(said))
 }
 
-// What the turn of an event's kind answers. None where no ticket names what is to be performed.
-fn turned<L: Ledger, R: Wait>(
+// What an arrival answers. A request that is refused comes back.
+fn arrived<'a, L: Ledger, R: Wait>(
     rt: &R,
-    shared: &Tried<L>,
+    shared: &Opened<'a, L>,
     pass: &mut Pass<L>,
-    tickets: &mut Vec<Ticket>,
-    event: Event<Global>,
-) -> Option<Answer<Global>> {
+    session: SessionId,
+    moment: Moment,
+    request: Request<Memory<'a>>,
+) -> Option<Answer<Memory<'a>>> {
+    let head = request.head();
+    let said = shared.turn_arrive(rt, pass, session, moment, request);
+    let back = match &said {
+        Ok(_) => true,
+        Err(refused) => refused.request.head() == head,
+    };
+    if back { Some(of_arrive(said)) } else { None }
+}
+
+// What the turn of an event's kind answers. None where no ticket names what is to be performed.
+fn turned<'a, L: Ledger, R: Wait>(
+    rt: &R,
+    shared: &Opened<'a, L>,
+    pass: &mut Pass<L>,
+    tickets: &mut Vec<Ticket, Memory<'a>>,
+    event: Event<Memory<'a>>,
+) -> Option<Answer<Memory<'a>>> {
     match event {
         Event::Attach { export } => Some(of_attach(shared.turn_attach(rt, pass, export))),
         Event::Arrive {
@@ -208,11 +228,14 @@ fn turned<L: Ledger, R: Wait>(
             session: number,
             moment,
             request,
-        } => {
-            let session = SessionId { export, number };
-            let said = shared.turn_arrive(rt, pass, session, moment, request);
-            Some(of_arrive(said))
-        }
+        } => arrived(
+            rt,
+            shared,
+            pass,
+            SessionId { export, number },
+            moment,
+            request,
+        ),
         Event::Dispatch { moment } => chosen_by(rt, shared, pass, tickets, moment),
         Event::Perform { export, number } => match ticket_of(tickets, export, number) {
             Some(ticket) => Some(of_perform(shared.turn_perform(rt, pass, ticket))),
@@ -236,84 +259,151 @@ fn turned<L: Ledger, R: Wait>(
     }
 }
 
+// What a take answers under a hold of the server, which nobody else gets meanwhile.
+fn taken_held<'a, L: Ledger, R: Wait>(
+    rt: &R,
+    shared: &Opened<'a, L>,
+    pass: &mut Pass<L>,
+    session: SessionId,
+) -> Option<Answer<Memory<'a>>> {
+    let mut held = shared.hold(rt);
+    if shared.try_hold().is_some() {
+        return None;
+    }
+    Some(of_take(turn_take(&mut *held, pass, session)))
+}
+
 // Whether the turn behind so many turns is the pass's last, with this event and answer.
 fn is_noted<L: Ledger>(
     pass: &Pass<L>,
     turns: u64,
     event: EventTrace,
-    answer: &Answer<Global>,
+    answer: &Answer<Memory<'_>>,
 ) -> bool {
     let answer = answer_trace(answer);
     pass.turns().checked_sub(turns) == Some(1) && pass.last() == Some(Trace { event, answer })
 }
 
-// What an event's turn answers, where the pass remembers it so.
-fn noted<L: Ledger, R: Wait>(
+// What an event's turn answers, where the pass remembers it so, and the lock is free behind it.
+fn noted<'a, L: Ledger, R: Wait>(
     rt: &R,
-    shared: &Tried<L>,
+    shared: &Opened<'a, L>,
     pass: &mut Pass<L>,
-    tickets: &mut Vec<Ticket>,
-    event: Event<Global>,
-) -> Option<Answer<Global>> {
+    tickets: &mut Vec<Ticket, Memory<'a>>,
+    act: Act,
+    event: Event<Memory<'a>>,
+) -> Option<Told> {
     let (turns, trace) = (pass.turns(), event_trace(&event));
-    match turned(rt, shared, pass, tickets, event) {
-        Some(answer) if is_noted(pass, turns, trace, &answer) => Some(answer),
+    let answer = match act {
+        Act::HeldTake(export, number) => taken_held(rt, shared, pass, SessionId { export, number }),
+        _ => turned(rt, shared, pass, tickets, event),
+    };
+    match answer {
+        Some(answer) if is_noted(pass, turns, trace, &answer) => Some(told_of(&answer)),
         _ => None,
     }
 }
 
 // What is answered to a line.
-fn told_under_lock<L: Ledger, R: Wait>(
+fn told_under_lock<'a, L: Ledger, R: Wait>(
     rt: &R,
-    alloc: Global,
-    shared: &Tried<L>,
+    memory: Memory<'a>,
+    piece: &Payload<Memory<'a>>,
+    shared: &Opened<'a, L>,
     pass: &mut Pass<L>,
-    tickets: &mut Vec<Ticket>,
-    line: &str,
-) -> Option<String<Global>> {
-    if asks(line) {
-        return told_of(alloc, shared.hold(rt).server(), line);
+    tickets: &mut Vec<Ticket, Memory<'a>>,
+    act: Act,
+) -> Option<Told> {
+    if let Some(event) = event_of(piece, act) {
+        return noted(rt, shared, pass, tickets, act, event);
     }
-    let Some(event) = event_of(alloc, line) else {
-        return None;
-    };
-    match noted(rt, shared, pass, tickets, event) {
-        Some(answer) => text_of(alloc, &answer),
-        None => None,
+    match act {
+        Act::Passed => Some(("passed", pass.turns(), pass.held(), 0)),
+        Act::Due => Some(due_of(shared.next_due(rt))),
+        _ => Some(asked(memory, shared.hold(rt).server(), act)),
     }
 }
 
-// Whether a turn is answered as it says.
-fn answers<L: Ledger, R: Wait>(
+// Whether each line is answered so, and the lock is free behind it.
+fn answers_each<'a, L: Ledger, R: Wait>(
     rt: &R,
-    alloc: Global,
-    shared: &Tried<L>,
+    memory: Memory<'a>,
+    shared: &Opened<'a, L>,
     pass: &mut Pass<L>,
-    tickets: &mut Vec<Ticket>,
-    turn: &str,
+    lines: &[Line],
 ) -> bool {
-    let Some((line, expected)) = turn.split_once(": ") else {
+    let Some(piece) = piece_of(memory) else {
         return false;
     };
-    match told_under_lock(rt, alloc, shared, pass, tickets, line) {
-        Some(told) => told.as_str() == expected,
-        None => false,
-    }
-}
-
-// Whether each turn is answered as it says.
-pub fn answers_each<L: Ledger, R: Wait>(
-    rt: &R,
-    alloc: Global,
-    shared: &Tried<L>,
-    pass: &mut Pass<L>,
-    turns: &str,
-) -> bool {
-    let mut tickets = Vec::new(alloc);
-    for turn in turns.split("; ") {
-        if !answers(rt, alloc, shared, pass, &mut tickets, turn) {
+    let mut tickets = Vec::new(memory);
+    for (_, act, told) in lines {
+        let answer = told_under_lock(rt, memory, &piece, shared, pass, &mut tickets, *act);
+        if answer != Some(*told) || shared.try_hold().is_none() {
             return false;
         }
     }
     true
+}
+
+// The server's steps behind lines that are answered so.
+fn steps_behind<'a, L: Ledger, R: Wait>(
+    rt: &R,
+    memory: Memory<'a>,
+    shared: &Opened<'a, L>,
+    passes: &mut Vec<Pass<L>, Memory<'a>>,
+    lines: &[Line],
+) -> Option<u128> {
+    let Some(pass) = passes.get_mut(0) else {
+        return None;
+    };
+    if answers_each(rt, memory, shared, pass, lines) {
+        Some(shared.hold(rt).server().steps())
+    } else {
+        None
+    }
+}
+
+// The steps of a server, where these are all its passes.
+pub fn settled<'a, L: Ledger, E: Eligibility<Alloc = Memory<'a>>>(
+    booked: Booked<L, Paged<Memory<'a>>, E>,
+    passes: Vec<Pass<L>, Memory<'a>>,
+) -> Option<u128> {
+    if passes.len() as u64 != booked.passes() {
+        return None;
+    }
+    Some(settle(booked, passes))
+}
+
+// Whether lines are answered so, and the steps that are settled are those that the server counted.
+fn plays_so<'a, L: Ledger, R: Wait>(
+    rt: &R,
+    memory: Memory<'a>,
+    shared: Opened<'a, L>,
+    passes: Vec<Pass<L>, Memory<'a>>,
+    lines: &[Line],
+) -> bool {
+    let mut passes = passes;
+    let steps = steps_behind(rt, memory, &shared, &mut passes, lines);
+    steps.is_some() && settled(shared.end(), passes) == steps
+}
+
+// The same of a server that is shared for them, with its only pass.
+pub fn plays<'a, L: Ledger, R: Wait>(
+    rt: &R,
+    memory: Memory<'a>,
+    exports: Exports,
+    lines: &[Line],
+    blank: Blank,
+) -> bool
+    requires name { blank.name ≡ L.name }
+    requires parts { blank.parts ≡ L.parts }
+    requires one { blank.parts ≡ 1 }
+{
+    let Some(server) = server_of(memory, exports) else {
+        return false;
+    };
+    match Opened::<'a, L>::new(memory, server, blank, 1) {
+        Ok((shared, passes)) => plays_so(rt, memory, shared, passes, lines),
+        Err(_) => false,
+    }
 }

@@ -1,4 +1,4 @@
-use Rattle.server_lock_tests.proofs.tests.earlier_steps_are_settled.Given as goal
+use Rattle.server_tests.proofs.tests.opening.earlier_steps_are_settled.Given as goal
 
 abbrev pub ghosts-opens : goal.ghosts-opens
 ghosts-opens g a = record { name = a.blank.name; parts = a.blank.parts }
