@@ -42,9 +42,9 @@ pub enum Act {
 
 // What is answered: a word and up to three numbers. Of a reply these are its cookie, its error, and its data with their length
 // before them.
-pub type Told = (&'static str, u64, u64, u64);
+pub type Told<'t> = (&'t str, u64, u64, u64);
 
-pub type Row = (Act, Told);
+pub type Row<'t> = (Act, Told<'t>);
 
 // Which requests of export 1 wait: the number of the first and how many, their L tag, and the P tag of the first.
 pub type Waiting = (u64, u64, i128, i128);
@@ -52,17 +52,17 @@ pub type Waiting = (u64, u64, i128, i128);
 pub const NONE: Waiting = (0, 0, 0, 0);
 
 // What waits at export 1 before an event, the event, and what is answered.
-pub type Line = (Waiting, Act, Told);
+pub type Line<'t> = (Waiting, Act, Told<'t>);
 
 // What waits at export 1 before each of these rows, how often they are made, and the rows.
-pub type Part = (Waiting, u64, &'static [Row]);
+pub type Part<'t> = (Waiting, u64, &'t [Row<'t>]);
 
 pub const ZEROS: u64 = 0x4_0000_0000;
 
 pub const WRITTEN: u64 = 0x4_dead_beef;
 
 // A row that was made so often before: what is numbered has the next numbers.
-fn later(row: &Row, by: u64) -> Row {
+fn later<'t>(row: &Row<'t>, by: u64) -> Row<'t> {
     let (act, (word, first, second, third)) = *row;
     let act = match act {
         Act::Perform(export, number) => Act::Perform(export, number.saturating_add(by)),
@@ -82,7 +82,7 @@ fn later(row: &Row, by: u64) -> Row {
 }
 
 // Adds the rows of a part once. Where a request of export 1 arrives over and over, all of them go on waiting.
-fn is_added(lines: &mut Vec<Line>, part: &Part, by: u64) -> bool {
+fn is_added<'t>(lines: &mut Vec<Line<'t>>, part: &Part<'t>, by: u64) -> bool {
     let ((first, count, l, p), _, rows) = *part;
     let more = match rows.first() {
         Some((Act::Read(1, ..), _)) => by,
@@ -98,7 +98,7 @@ fn is_added(lines: &mut Vec<Line>, part: &Part, by: u64) -> bool {
     true
 }
 
-pub fn lines_of(alloc: Global, parts: &[Part]) -> Option<Vec<Line>> {
+pub fn lines_of<'t>(alloc: Global, parts: &[Part<'t>]) -> Option<Vec<Line<'t>>> {
     let mut lines = Vec::new(alloc);
     for part in parts {
         for by in 0..part.1 {
@@ -225,7 +225,7 @@ fn data_of(reply: &Reply<Memory<'_>>) -> u64 {
     (bytes.len() as u64) << 32 | data
 }
 
-pub fn told_of(answer: &Answer<Memory<'_>>) -> Told {
+pub fn told_of<'t>(answer: &Answer<Memory<'_>>) -> Told<'t> {
     match answer {
         Answer::Session(number) => ("session", *number, 0, 0),
         Answer::Accepted { number, limit_tag } => {
@@ -282,14 +282,17 @@ fn word_of(answer: &Answer<Memory<'_>>) -> &'static str {
     }
 }
 
-pub fn due_of(due: Option<Moment>) -> Told {
+pub fn due_of<'t>(due: Option<Moment>) -> Told<'t> {
     match due {
         Some(moment) => ("due", moment.nanoseconds(), 0, 0),
         None => ("never due", 0, 0, 0),
     }
 }
 
-pub fn counts<'a, E: Eligibility<Alloc = Memory<'a>>>(server: &Tried<'a, E>, export: u32) -> Told {
+pub fn counts<'a, 't, E: Eligibility<Alloc = Memory<'a>>>(
+    server: &Tried<'a, E>,
+    export: u32,
+) -> Told<'t> {
     let Some(cell) = server.journal(export) else {
         return ("no export", 0, 0, 0);
     };
@@ -307,12 +310,12 @@ fn are_tagged(told: &[(u64, Tags)], wanted: &[Tagged]) -> bool {
     told.len() == wanted.len()
 }
 
-pub fn tags<'a, E: Eligibility<Alloc = Memory<'a>>>(
+pub fn tags<'a, 't, E: Eligibility<Alloc = Memory<'a>>>(
     memory: Memory<'a>,
     server: &Tried<'a, E>,
     export: u32,
     wanted: &[Tagged],
-) -> Told {
+) -> Told<'t> {
     match server.tags(memory, export) {
         Ok(told) if are_tagged(told.as_slice(), wanted) => ("tags", 0, 0, 0),
         Ok(_) => ("other tags", 0, 0, 0),
@@ -322,11 +325,11 @@ pub fn tags<'a, E: Eligibility<Alloc = Memory<'a>>>(
 }
 
 // What is answered to what is asked.
-pub fn asked<'a, E: Eligibility<Alloc = Memory<'a>>>(
+pub fn asked<'a, 't, E: Eligibility<Alloc = Memory<'a>>>(
     memory: Memory<'a>,
     server: &Tried<'a, E>,
     act: Act,
-) -> Told {
+) -> Told<'t> {
     match act {
         Act::Due => due_of(server.next_due()),
         Act::Steps => (

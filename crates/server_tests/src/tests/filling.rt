@@ -28,7 +28,7 @@ fn next_of<'a>(
     memory: Memory<'a>,
     piece: &Payload<Memory<'a>>,
     server: &mut Kept<'a>,
-    row: Row,
+    row: Row<'_>,
     nth: u64,
 ) -> Option<u64> {
     memory.arm(0);
@@ -54,7 +54,7 @@ fn refusals<'a>(
     memory: Memory<'a>,
     piece: &Payload<Memory<'a>>,
     server: &mut Kept<'a>,
-    row: Row,
+    row: Row<'_>,
 ) -> Option<u64> {
     let mut nth = 1u64;
     for refused in 0..1000u64 {
@@ -67,7 +67,7 @@ fn refusals<'a>(
     None
 }
 
-fn answer_of<'a>(piece: &Payload<Memory<'a>>, server: &mut Kept<'a>, act: Act) -> Told {
+fn answer_of<'a, 't>(piece: &Payload<Memory<'a>>, server: &mut Kept<'a>, act: Act) -> Told<'t> {
     match event_of(piece, act) {
         Some(event) => told_of(&server.event(event)),
         None => ("no event", 0, 0, 0),
@@ -98,7 +98,7 @@ fn is_done<'a>(
 // An event and its answer; how many growths of it are refused at least; what is counted then; and the request that is done
 // then. Two WRITEs of the whole image fill the log: for a third the attach and the first arrival go into the base. An attach
 // makes an outbox and room in the log; the base has an outbox of its own.
-const STEPS: [(Row, u64, Told, Option<u64>); 4] = [
+const STEPS: [(Row<'static>, u64, Told<'static>, Option<u64>); 4] = [
     (
         (Act::Attach(0), ("session", 0, 0, 0)),
         2,

@@ -6,7 +6,7 @@ use super::*;
 
 // The write of a session that is gone is still done, and another session reads it. Two requests of the other export wait
 // meanwhile, due a while later; the first arrival takes their P tags down to its moment.
-const GONE: [Part; 6] = [
+const GONE: [Part<'static>; 6] = [
     (
         NONE,
         1,
@@ -70,7 +70,7 @@ const GONE: [Part; 6] = [
 ];
 
 // A queue of two, before the other export is sent 1,000 requests and behind that.
-const CROWD: [Part; 3] = [
+const CROWD: [Part<'static>; 3] = [
     (
         NONE,
         1,
@@ -100,7 +100,7 @@ const CROWD: [Part; 3] = [
 ];
 
 // Two requests of the other export wait, due later.
-const BEFORE_THE_ROUNDS: [Part; 2] = [
+const BEFORE_THE_ROUNDS: [Part<'static>; 2] = [
     (
         NONE,
         1,
@@ -120,7 +120,7 @@ const BEFORE_THE_ROUNDS: [Part; 2] = [
 const ROUNDS: u64 = 20;
 
 // A READ that arrives while nothing of its export waits takes the other export's P tags to its moment, and is served.
-fn round_of(number: u64) -> [Line; 4] {
+fn round_of<'t>(number: u64) -> [Line<'t>; 4] {
     let moment = number.saturating_add(1);
     let before = if number == 0 {
         1000
@@ -140,7 +140,7 @@ fn round_of(number: u64) -> [Line; 4] {
     ]
 }
 
-fn are_added(lines: &mut Vec<Line>) -> bool {
+fn are_added(lines: &mut Vec<Line<'_>>) -> bool {
     for number in 0..ROUNDS {
         for line in &round_of(number) {
             if lines.push(*line).is_err() {
@@ -151,28 +151,28 @@ fn are_added(lines: &mut Vec<Line>) -> bool {
     lines.push((NONE, Act::Steps, ("steps", 84, 0, 0))).is_ok()
 }
 
-const ATTACHED: Part = (NONE, 1, &[(Act::Attach(0), ("session", 0, 0, 0))]);
+const ATTACHED: Part<'static> = (NONE, 1, &[(Act::Attach(0), ("session", 0, 0, 0))]);
 
-const ATTACHED_AGAIN: Part = (NONE, 1, &[(Act::Attach(0), ("session", 1, 0, 0))]);
+const ATTACHED_AGAIN: Part<'static> = (NONE, 1, &[(Act::Attach(0), ("session", 1, 0, 0))]);
 
-pub const SERVED: &[Row] = &[
+pub const SERVED: &[Row<'static>] = &[
     (Act::Read(0, 0, 0, 1), ("accepted", 0, 0, 0)),
     (Act::Dispatch(0), ("weight", 0, 0, 0)),
     (Act::Perform(0, 0), ("performed", 0, 0, 0)),
     (Act::Take(0, 0), ("reply", 1, 0, ZEROS)),
 ];
 
-pub const SERVED_BEHIND: &[Row] = &[
+pub const SERVED_BEHIND: &[Row<'static>] = &[
     (Act::Read(0, 0, 0, 1025), ("accepted", 1024, 0, 0)),
     (Act::Dispatch(0), ("weight", 0, 1024, 0)),
     (Act::Perform(0, 1024), ("performed", 0, 0, 0)),
     (Act::Take(0, 0), ("reply", 1025, 0, ZEROS)),
 ];
 
-const RETUNED: &[Row] = &[(Act::Retune(0, 0, 4, 1), ("retuned", 0, 0, 0))];
+const RETUNED: &[Row<'static>] = &[(Act::Retune(0, 0, 4, 1), ("retuned", 0, 0, 0))];
 
 // A session of which nothing is left undone.
-const FLUSHED: [Part; 4] = [
+const FLUSHED: [Part<'static>; 4] = [
     (
         NONE,
         1,
@@ -204,17 +204,11 @@ const TWO: Exports<'static> = (&[[0, 0, 1, 2, 256], [0, 0, 1, 1024, 1024]], 32);
 const NARROW: Exports<'static> = (&[[0, 0, 1, 2, 2], [0, 0, 1, 2, 2]], 4);
 
 // What grows; the exports; the parts before, of which no growth is refused, and behind; and how many growths there are at least.
-type Growth = (
-    &'static str,
-    Exports<'static>,
-    &'static [Part],
-    &'static [Part],
-    u64,
-);
+type Growth<'t> = (&'t str, Exports<'t>, &'t [Part<'t>], &'t [Part<'t>], u64);
 
 // In each row an outbox and a log for each attach, and a log's growth for each doubling. Where a log is full, the steps that
 // go into the base may want memory too.
-const GROWTHS: [Growth; 7] = [
+const GROWTHS: [Growth<'static>; 7] = [
     ("two exports", TWO, &[], &GONE, 5),
     ("two exports, in a crowd", TWO, &[], &CROWD, 6),
     ("a session", NARROW, &[], &FLUSHED, 3),
@@ -274,12 +268,12 @@ fn may_want_memory(act: Act, word: &str) -> bool {
 }
 
 // What is answered, without any memory asked for by an event that may not want some.
-fn answered<'a, E: Eligibility<Alloc = Memory<'a>>>(
+fn answered<'a, 't, E: Eligibility<Alloc = Memory<'a>>>(
     memory: Memory<'a>,
     piece: &Payload<Memory<'a>>,
     server: &mut Tried<'a, E>,
     act: Act,
-) -> Option<Told> {
+) -> Option<Told<'t>> {
     let Some(event) = event_of(piece, act) else {
         return Some(asked(memory, server, act));
     };
@@ -293,9 +287,9 @@ fn answered<'a, E: Eligibility<Alloc = Memory<'a>>>(
 }
 
 // How many steps a server counted, how many requests wait, and what its exports count.
-pub type State = (u128, usize, Told, Told);
+pub type State<'t> = (u128, usize, Told<'t>, Told<'t>);
 
-pub fn state_of<'a, E: Eligibility<Alloc = Memory<'a>>>(server: &Tried<'a, E>) -> State {
+pub fn state_of<'a, 't, E: Eligibility<Alloc = Memory<'a>>>(server: &Tried<'a, E>) -> State<'t> {
     (
         server.steps(),
         server.waiting(),
@@ -305,22 +299,22 @@ pub fn state_of<'a, E: Eligibility<Alloc = Memory<'a>>>(server: &Tried<'a, E>) -
 }
 
 // Whether an export has counted as many steps as before, and has them in its base and its log.
-fn is_kept(before: Told, now: Told) -> bool {
+fn is_kept(before: Told<'_>, now: Told<'_>) -> bool {
     now.1 == before.1 && now.1.checked_sub(now.3) == Some(now.2) && before.3 <= now.3
 }
 
-pub fn is_as_it_was(before: State, now: State) -> bool {
+pub fn is_as_it_was(before: State<'_>, now: State<'_>) -> bool {
     (now.0, now.1) == (before.0, before.1) && is_kept(before.2, now.2) && is_kept(before.3, now.3)
 }
 
 // What an event is answered at the second time, where the first changed nothing but the bases, which are no further then.
-fn answered_again<'a, E: Eligibility<Alloc = Memory<'a>>>(
+fn answered_again<'a, 't, E: Eligibility<Alloc = Memory<'a>>>(
     memory: Memory<'a>,
     piece: &Payload<Memory<'a>>,
     server: &mut Tried<'a, E>,
     act: Act,
-    before: State,
-) -> Option<Told> {
+    before: State<'t>,
+) -> Option<Told<'t>> {
     let now = state_of(server);
     if !is_as_it_was(before, now) {
         return None;
@@ -363,13 +357,13 @@ fn has_waiting<'a, E: Eligibility<Alloc = Memory<'a>>>(
 }
 
 // What an event is answered that is made again where it found no memory, which was refused then.
-fn answered_at_last<'a, E: Eligibility<Alloc = Memory<'a>>>(
+fn answered_at_last<'a, 't, E: Eligibility<Alloc = Memory<'a>>>(
     memory: Memory<'a>,
     piece: &Payload<Memory<'a>>,
     server: &mut Tried<'a, E>,
     act: Act,
     waiting: Waiting,
-) -> Option<Told> {
+) -> Option<Told<'t>> {
     let (armed, before) = (memory.is_armed(), state_of(server));
     let Some(told) = answered(memory, piece, server, act) else {
         return None;
@@ -392,7 +386,7 @@ type Lost = Option<(u32, u64)>;
 
 // What a reply is then: without data for that request, and zeros for a READ of what wasn't written. A request's cookie is one
 // more than its number, and number 0 of export 0 is the only WRITE.
-fn reply_without(export: u32, told: Told, lost: Lost) -> Told {
+fn reply_without<'t>(export: u32, told: Told<'t>, lost: Lost) -> Told<'t> {
     let (word, cookie, error, data) = told;
     if error != 0 {
         return told;
@@ -407,7 +401,7 @@ fn reply_without(export: u32, told: Told, lost: Lost) -> Told {
 }
 
 // Whether an event is answered as its line says, but for what was performed without memory.
-fn is_told(act: Act, told: Told, answer: Told, lost: &mut Lost) -> bool {
+fn is_told(act: Act, told: Told<'_>, answer: Told<'_>, lost: &mut Lost) -> bool {
     match act {
         Act::Perform(export, number) if answer.0 == "performed without memory" => {
             *lost = Some((export, number));
@@ -424,7 +418,7 @@ pub fn first_wrong<'a, E: Eligibility<Alloc = Memory<'a>>>(
     memory: Memory<'a>,
     piece: &Payload<Memory<'a>>,
     server: &mut Tried<'a, E>,
-    lines: &[Line],
+    lines: &[Line<'_>],
 ) -> usize {
     let mut lost = None;
     for (place, (waiting, act, told)) in lines.iter().enumerate() {
@@ -443,8 +437,8 @@ pub fn first_wrong<'a, E: Eligibility<Alloc = Memory<'a>>>(
 fn goes_armed<'a, E: Eligibility<Alloc = Memory<'a>>>(
     memory: Memory<'a>,
     server: &mut Tried<'a, E>,
-    before: &[Line],
-    behind: &[Line],
+    before: &[Line<'_>],
+    behind: &[Line<'_>],
     nth: u64,
 ) -> bool {
     let Some(piece) = piece_of(memory) else {
@@ -461,8 +455,8 @@ fn goes_armed<'a, E: Eligibility<Alloc = Memory<'a>>>(
 fn goes_at<'a, E: Eligibility<Alloc = Memory<'a>>>(
     memory: Memory<'a>,
     exports: Exports,
-    before: &[Line],
-    behind: &[Line],
+    before: &[Line<'_>],
+    behind: &[Line<'_>],
     nth: u64,
 ) -> bool {
     memory.arm(0);
@@ -476,8 +470,8 @@ fn goes_at<'a, E: Eligibility<Alloc = Memory<'a>>>(
 fn growths_of<'a, E: Eligibility<Alloc = Memory<'a>>>(
     memory: Memory<'a>,
     exports: Exports,
-    before: &[Line],
-    behind: &[Line],
+    before: &[Line<'_>],
+    behind: &[Line<'_>],
 ) -> u64 {
     for nth in 1..1000u64 {
         if !goes_at::<E>(memory, exports, before, behind, nth) {
@@ -491,13 +485,19 @@ fn growths_of<'a, E: Eligibility<Alloc = Memory<'a>>>(
 }
 
 // By both forms of eligibility.
-fn grow(memory: Memory, exports: Exports, before: &[Line], behind: &[Line], least: u64) -> bool {
+fn grow(
+    memory: Memory,
+    exports: Exports,
+    before: &[Line<'_>],
+    behind: &[Line<'_>],
+    least: u64,
+) -> bool {
     growths_of::<Heaped<Memory>>(memory, exports, before, behind) >= least
         && growths_of::<Listed<Memory>>(memory, exports, before, behind) >= least
 }
 
 // The same of parts.
-fn parts_grow(alloc: Global, memory: Memory, growth: &Growth) -> bool {
+fn parts_grow(alloc: Global, memory: Memory, growth: &Growth<'_>) -> bool {
     let (Some(before), Some(behind)) = (lines_of(alloc, growth.2), lines_of(alloc, growth.3)) else {
         return false;
     };
@@ -526,26 +526,26 @@ fn each_growth_of_two_exports_is_refused_in_turn(rt: HostRuntime) {
     assert!(rt; grow(&memory, TWO, &[], lines.as_slice(), 6));
 }
 
-const WAITING: &[Row] = &[
+const WAITING: &[Row<'static>] = &[
     (Act::Attach(0), ("session", 0, 0, 0)),
     (Act::Read(0, 0, 0, 1), ("accepted", 0, 0, 0)),
 ];
 
 // There is no export 2, and a request of export 0 waits.
-const REFUSED: &[Row] = &[
+const REFUSED: &[Row<'static>] = &[
     (Act::Retune(2, 0, 4, 1), ("no export", 0, 0, 0)),
     (Act::Retune(0, 0, 4, 1), ("waiting", 0, 0, 0)),
 ];
 
 // Export 1, of which nothing waits, finds no memory for its first step, and then some.
-const RETUNED_AT_LAST: &[Row] = &[
+const RETUNED_AT_LAST: &[Row<'static>] = &[
     (Act::Retune(1, 0, 4, 1), ("retuned", 0, 0, 0)),
     (Act::Counts(1), ("counts", 1, 1, 0)),
     (Act::Steps, ("steps", 3, 0, 0)),
 ];
 
 // Whether lines behind so many retunes are answered so, where the first growth is refused.
-fn goes_behind(alloc: Global, memory: Memory, retunes: u64, rows: &'static [Row]) -> bool {
+fn goes_behind(alloc: Global, memory: Memory, retunes: u64, rows: &[Row<'_>]) -> bool {
     let before = lines_of(alloc, &[(NONE, retunes, RETUNED), (NONE, 1, WAITING)]);
     let behind = lines_of(alloc, &[(NONE, 1, rows)]);
     match (before, behind) {

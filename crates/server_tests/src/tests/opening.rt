@@ -16,7 +16,7 @@ type Ended<'a, L> = Booked<L, Paged<Memory<'a>>, Listed<Memory<'a>>>;
 const PLAIN: Exports<'static> = (&[[0, 0, 1, 1024, 256]], 32);
 
 // Seven counted steps: of three requests one is performed, one is in service and one waits.
-const SEVEN: [Part; 1] = [(
+const SEVEN: [Part<'static>; 1] = [(
     NONE,
     1,
     &[
@@ -31,7 +31,7 @@ const SEVEN: [Part; 1] = [(
 )];
 
 // What such a server shows: its count, what waits, and the requests that are found in service.
-const SHOWN: [Row; 5] = [
+const SHOWN: [Row<'static>; 5] = [
     (Act::Steps, ("steps", 7, 0, 0)),
     (Act::Waiting, ("wait", 1, 0, 0)),
     (Act::Find(0, 0), ("found", 0, 0, 0)),
@@ -52,7 +52,7 @@ fn shows<'a>(memory: Memory<'a>, server: &Old<'a>) -> bool {
 }
 
 // Whether the steps leave what they are to.
-fn becomes_served<'a>(memory: Memory<'a>, server: &mut Old<'a>, lines: &[Line]) -> bool {
+fn becomes_served<'a>(memory: Memory<'a>, server: &mut Old<'a>, lines: &[Line<'_>]) -> bool {
     let Some(piece) = piece_of(memory) else {
         return false;
     };
@@ -61,7 +61,7 @@ fn becomes_served<'a>(memory: Memory<'a>, server: &mut Old<'a>, lines: &[Line]) 
         && tags(memory, server, 0, THIRD).0 == "tags"
 }
 
-fn served<'a>(memory: Memory<'a>, lines: &[Line]) -> Option<Old<'a>> {
+fn served<'a>(memory: Memory<'a>, lines: &[Line<'_>]) -> Option<Old<'a>> {
     let Some(mut server) = server_of(memory, PLAIN) else {
         return None;
     };
@@ -113,7 +113,13 @@ fn opens_again<'a, L: Ledger>(memory: Memory<'a>, server: Old<'a>, blank: Blank,
 }
 
 // Whether a server of these lines is shared, at the second time where this growth is refused, and then ended.
-fn opens<'a, L: Ledger>(memory: Memory<'a>, lines: &[Line], blank: Blank, n: u64, nth: u64) -> bool
+fn opens<'a, L: Ledger>(
+    memory: Memory<'a>,
+    lines: &[Line<'_>],
+    blank: Blank,
+    n: u64,
+    nth: u64,
+) -> bool
     requires some { 1 ≤ n }
     requires name { blank.name ≡ L.name }
     requires parts { blank.parts ≡ L.parts }

@@ -8,7 +8,7 @@ use super::growths::{SERVED, SERVED_BEHIND, first_wrong};
 use super::*;
 
 // What a script shows; its exports; and its parts.
-pub type Script<'a> = (&'a str, Exports<'a>, &'a [Part]);
+pub type Script<'a> = (&'a str, Exports<'a>, &'a [Part<'a>]);
 
 pub const SCRIPTS: [Script<'static>; 27] = [
     (
@@ -681,7 +681,7 @@ const NEVER_CHOSEN: Script<'static> = (
 fn serves<'a, E: Eligibility<Alloc = Memory<'a>>>(
     memory: Memory<'a>,
     exports: Exports,
-    lines: &[Line],
+    lines: &[Line<'_>],
 ) -> bool {
     match (server_of::<E>(memory, exports), piece_of(memory)) {
         (Some(mut server), Some(piece)) => first_wrong(memory, &piece, &mut server, lines) == 0,
@@ -690,7 +690,10 @@ fn serves<'a, E: Eligibility<Alloc = Memory<'a>>>(
 }
 
 // The events of lines.
-fn events_of<'a>(memory: Memory<'a>, lines: &[Line]) -> Option<Vec<Event<Memory<'a>>, Memory<'a>>> {
+fn events_of<'a>(
+    memory: Memory<'a>,
+    lines: &[Line<'_>],
+) -> Option<Vec<Event<Memory<'a>>, Memory<'a>>> {
     let Some(piece) = piece_of(memory) else {
         return None;
     };
@@ -705,7 +708,7 @@ fn events_of<'a>(memory: Memory<'a>, lines: &[Line]) -> Option<Vec<Event<Memory<
     Some(events)
 }
 
-fn reads_as(answer: Option<&Answer<Memory<'_>>>, told: Told) -> bool {
+fn reads_as(answer: Option<&Answer<Memory<'_>>>, told: Told<'_>) -> bool {
     match answer {
         Some(answer) => told_of(answer) == told,
         None => false,
@@ -713,7 +716,7 @@ fn reads_as(answer: Option<&Answer<Memory<'_>>>, told: Told) -> bool {
 }
 
 // Whether these are the answers to the lines that are events, one each.
-fn are_told(answers: &[Answer<Memory<'_>>], lines: &[Line]) -> bool {
+fn are_told(answers: &[Answer<Memory<'_>>], lines: &[Line<'_>]) -> bool {
     let mut answers = answers.iter();
     for (_, act, told) in lines {
         if is_event(*act) && !reads_as(answers.next(), *told) {
@@ -727,7 +730,7 @@ fn are_told(answers: &[Answer<Memory<'_>>], lines: &[Line]) -> bool {
 fn runs<'a, E: Eligibility<Alloc = Memory<'a>>>(
     memory: Memory<'a>,
     exports: Exports,
-    lines: &[Line],
+    lines: &[Line<'_>],
 ) -> bool {
     let (Some(config), Some(events)) = (config_of(memory, exports), events_of(memory, lines)) else {
         return false;
@@ -739,12 +742,12 @@ fn runs<'a, E: Eligibility<Alloc = Memory<'a>>>(
 }
 
 // Whether a script goes as it says, by both forms of eligibility.
-fn goes(memory: Memory, exports: Exports, lines: &[Line]) -> bool {
+fn goes(memory: Memory, exports: Exports, lines: &[Line<'_>]) -> bool {
     serves::<Listed<Memory>>(memory, exports, lines)
         && serves::<Heaped<Memory>>(memory, exports, lines)
 }
 
-fn goes_by_run(memory: Memory, exports: Exports, lines: &[Line]) -> bool {
+fn goes_by_run(memory: Memory, exports: Exports, lines: &[Line<'_>]) -> bool {
     runs::<Listed<Memory>>(memory, exports, lines) && runs::<Heaped<Memory>>(memory, exports, lines)
 }
 

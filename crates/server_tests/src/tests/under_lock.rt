@@ -285,14 +285,14 @@ fn is_noted<L: Ledger>(
 }
 
 // What an event's turn answers, where the pass remembers it so, and the lock is free behind it.
-fn noted<'a, L: Ledger, R: Wait>(
+fn noted<'a, 't, L: Ledger, R: Wait>(
     rt: &R,
     shared: &Opened<'a, L>,
     pass: &mut Pass<L>,
     tickets: &mut Vec<Ticket, Memory<'a>>,
     act: Act,
     event: Event<Memory<'a>>,
-) -> Option<Told> {
+) -> Option<Told<'t>> {
     let (turns, trace) = (pass.turns(), event_trace(&event));
     let answer = match act {
         Act::HeldTake(export, number) => taken_held(rt, shared, pass, SessionId { export, number }),
@@ -305,7 +305,7 @@ fn noted<'a, L: Ledger, R: Wait>(
 }
 
 // What is answered to a line.
-fn told_under_lock<'a, L: Ledger, R: Wait>(
+fn told_under_lock<'a, 't, L: Ledger, R: Wait>(
     rt: &R,
     memory: Memory<'a>,
     piece: &Payload<Memory<'a>>,
@@ -313,7 +313,7 @@ fn told_under_lock<'a, L: Ledger, R: Wait>(
     pass: &mut Pass<L>,
     tickets: &mut Vec<Ticket, Memory<'a>>,
     act: Act,
-) -> Option<Told> {
+) -> Option<Told<'t>> {
     if let Some(event) = event_of(piece, act) {
         return noted(rt, shared, pass, tickets, act, event);
     }
@@ -330,7 +330,7 @@ fn answers_each<'a, L: Ledger, R: Wait>(
     memory: Memory<'a>,
     shared: &Opened<'a, L>,
     pass: &mut Pass<L>,
-    lines: &[Line],
+    lines: &[Line<'_>],
 ) -> bool {
     let Some(piece) = piece_of(memory) else {
         return false;
@@ -351,7 +351,7 @@ fn steps_behind<'a, L: Ledger, R: Wait>(
     memory: Memory<'a>,
     shared: &Opened<'a, L>,
     passes: &mut Vec<Pass<L>, Memory<'a>>,
-    lines: &[Line],
+    lines: &[Line<'_>],
 ) -> Option<u128> {
     let Some(pass) = passes.get_mut(0) else {
         return None;
@@ -380,7 +380,7 @@ fn plays_so<'a, L: Ledger, R: Wait>(
     memory: Memory<'a>,
     shared: Opened<'a, L>,
     passes: Vec<Pass<L>, Memory<'a>>,
-    lines: &[Line],
+    lines: &[Line<'_>],
 ) -> bool {
     let mut passes = passes;
     let steps = steps_behind(rt, memory, &shared, &mut passes, lines);
@@ -392,7 +392,7 @@ pub fn plays<'a, L: Ledger, R: Wait>(
     rt: &R,
     memory: Memory<'a>,
     exports: Exports,
-    lines: &[Line],
+    lines: &[Line<'_>],
     blank: Blank,
 ) -> bool
     requires name { blank.name ≡ L.name }

@@ -1,3 +1,5 @@
+//! Turns of exports.
+
 use nbd_base::NoMemory;
 use std::alloc::{Allocator, Global};
 use tag_clock::Moment;
@@ -18,7 +20,8 @@ enum Call {
     Enter(u32, u32),
     Leave(u32),
     Linger(u32, u32),
-    Retune(u32, Rates),
+    // An export's reservation, limit and weight.
+    Retune(u32, (u32, u32, u32)),
     BeginWait(u32),
     EndWait(u32),
     // From a number on, the next one to wake.
@@ -31,6 +34,10 @@ fn rates(reservation: u32, limit: u32, weight: u32) -> Rates {
         limit,
         weight,
     }
+}
+
+fn of(told: (u32, u32, u32)) -> Rates {
+    rates(told.0, told.1, told.2)
 }
 
 fn at(microseconds: u32) -> Option<Moment> {
@@ -97,7 +104,7 @@ fn is_so<A: Allocator>(order: &mut TurnOrder<A>, call: &Call) -> bool {
         }
         Call::Linger(export, until) => lingers(order, export, until),
         Call::Retune(export, rates) => {
-            order.retune(export, rates);
+            order.retune(export, of(rates));
             true
         }
         Call::BeginWait(export) => {

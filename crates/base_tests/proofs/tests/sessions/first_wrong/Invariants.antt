@@ -1,5 +1,5 @@
 use Rattle.std.proofs.Common.{◌<◌, ◌^◌}
-use Rattle.reply_box_tests.proofs.tests.first_wrong.Given as goal
+use Rattle.base_tests.proofs.tests.sessions.first_wrong.Given as goal
 
 abbrev pub invariant-loop-place : goal.invariant-loop-place
 invariant-loop-place l = l.sessions.window < 2 ^ 32

@@ -1,3 +1,5 @@
+//! What is due next, by both forms of eligibility.
+
 use eligibility::{Eligibility, Heaped, Listed};
 use std::alloc::Global;
 use tag_clock::{Moment, Tags};

@@ -1,3 +1,5 @@
+//! Clocks of tags.
+
 use tag_clock::{Moment, Tuning};
 
 mod limits;

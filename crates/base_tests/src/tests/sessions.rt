@@ -1,3 +1,4 @@
+//! Sessions, and their replies.
 ghost use Rattle.std.specs.Prelude.{◌≡◌, ◌<◌, ◌^◌};
 
 use nbd_wire::Reply;

@@ -1,3 +1,5 @@
+//! Walks over operations, by both forms of eligibility.
+
 use eligibility::{Eligibility, Heaped, Listed, Op, walk};
 use nbd_base::NoMemory;
 use refusing::Refusing;
@@ -120,7 +122,10 @@ fn new_wants_memory(rt: HostRuntime) {
 
 // How many growths of a walk there are, each of which was refused in turn: it has no answers then, and all of them where none
 // was refused. 0 where it isn't so, or there is no end.
-fn growths_of_a_walk<'a, E: Eligibility<Alloc = Memory<'a>>>(memory: Memory<'a>, ops: &[Op]) -> u64 {
+fn growths_of_a_walk<'a, E: Eligibility<Alloc = Memory<'a>>>(
+    memory: Memory<'a>,
+    ops: &[Op],
+) -> u64 {
     for nth in 1..100u64 {
         memory.arm(nth);
         let walked = is_walked::<E>(memory, ops, &BY_WEIGHT);

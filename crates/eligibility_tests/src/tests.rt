@@ -1,2 +1,0 @@
-mod soonest;
-mod walks;
