@@ -8,7 +8,7 @@ use super::*;
 pub type Tagged = (u64, Option<i128>, i128, i128);
 
 #[derive(Clone, Copy)]
-pub enum Act {
+pub enum Act<'t> {
     Attach(u32),
     // A READ of four bytes: its export, session, moment and cookie.
     Read(u32, u64, u64, u64),
@@ -35,7 +35,7 @@ pub enum Act {
     // How many steps an export counted, how many its log has, and how many its base has made.
     Counts(u32),
     // What waits at an export.
-    Tags(u32, &'static [Tagged]),
+    Tags(u32, &'t [Tagged]),
     // How many turns a pass has made, and how many requests it holds. A server without passes knows nothing of it.
     Passed,
 }
@@ -44,7 +44,7 @@ pub enum Act {
 // before them.
 pub type Told<'t> = (&'t str, u64, u64, u64);
 
-pub type Row<'t> = (Act, Told<'t>);
+pub type Row<'t> = (Act<'t>, Told<'t>);
 
 // Which requests of export 1 wait: the number of the first and how many, their L tag, and the P tag of the first.
 pub type Waiting = (u64, u64, i128, i128);
@@ -52,7 +52,7 @@ pub type Waiting = (u64, u64, i128, i128);
 pub const NONE: Waiting = (0, 0, 0, 0);
 
 // What waits at export 1 before an event, the event, and what is answered.
-pub type Line<'t> = (Waiting, Act, Told<'t>);
+pub type Line<'t> = (Waiting, Act<'t>, Told<'t>);
 
 // What waits at export 1 before each of these rows, how often they are made, and the rows.
 pub type Part<'t> = (Waiting, u64, &'t [Row<'t>]);
@@ -148,7 +148,7 @@ fn write_of<'a>(
     Some(Request::new(head, payload))
 }
 
-fn request_of<'a>(piece: &Payload<Memory<'a>>, act: Act) -> Option<Request<Memory<'a>>> {
+fn request_of<'a>(piece: &Payload<Memory<'a>>, act: Act<'_>) -> Option<Request<Memory<'a>>> {
     match act {
         Act::Read(_, _, _, cookie) => {
             Some(Request::new(head_of(READ, cookie, 0, 4), Payload::new()))
@@ -170,7 +170,7 @@ fn retune_of<'a>(export: u32, rates: [u64; 3]) -> Option<Event<Memory<'a>>> {
 }
 
 // None for what is asked.
-pub fn event_of<'a>(piece: &Payload<Memory<'a>>, act: Act) -> Option<Event<Memory<'a>>> {
+pub fn event_of<'a>(piece: &Payload<Memory<'a>>, act: Act<'_>) -> Option<Event<Memory<'a>>> {
     match act {
         Act::Attach(export) => Some(Event::Attach { export }),
         Act::Dispatch(moment) => Some(Event::Dispatch { moment: at(moment) }),
@@ -199,7 +199,7 @@ pub fn event_of<'a>(piece: &Payload<Memory<'a>>, act: Act) -> Option<Event<Memor
     }
 }
 
-pub fn is_event(act: Act) -> bool {
+pub fn is_event(act: Act<'_>) -> bool {
     !matches!(
         act,
         Act::Due
@@ -293,12 +293,15 @@ pub fn counts<'a, 't, E: Eligibility<Alloc = Memory<'a>>>(
     server: &Tried<'a, E>,
     export: u32,
 ) -> Told<'t> {
-    let Some(cell) = server.journal(export) else {
+    let found = server.journal(export);
+    let Some(cell) = found else {
         return ("no export", 0, 0, 0);
     };
     cell.laws();
-    let kept = cell.entries().len() as u64;
-    ("counts", cell.steps(), kept, cell.base().steps())
+    let entries = cell.entries();
+    let kept = entries.len() as u64;
+    let base = cell.base();
+    ("counts", cell.steps(), kept, base.steps())
 }
 
 fn are_tagged(told: &[(u64, Tags)], wanted: &[Tagged]) -> bool {
@@ -328,7 +331,7 @@ pub fn tags<'a, 't, E: Eligibility<Alloc = Memory<'a>>>(
 pub fn asked<'a, 't, E: Eligibility<Alloc = Memory<'a>>>(
     memory: Memory<'a>,
     server: &Tried<'a, E>,
-    act: Act,
+    act: Act<'_>,
 ) -> Told<'t> {
     match act {
         Act::Due => due_of(server.next_due()),

@@ -67,7 +67,7 @@ fn refusals<'a>(
     None
 }
 
-fn answer_of<'a, 't>(piece: &Payload<Memory<'a>>, server: &mut Kept<'a>, act: Act) -> Told<'t> {
+fn answer_of<'a, 't>(piece: &Payload<Memory<'a>>, server: &mut Kept<'a>, act: Act<'_>) -> Told<'t> {
     match event_of(piece, act) {
         Some(event) => told_of(&server.event(event)),
         None => ("no event", 0, 0, 0),

@@ -257,7 +257,7 @@ const GROWTHS: [Growth<'static>; 7] = [
 ];
 
 // Whether an event may find no memory, which is answered so.
-fn may_want_memory(act: Act, word: &str) -> bool {
+fn may_want_memory(act: Act<'_>, word: &str) -> bool {
     match act {
         Act::Retune(..) => word == "retuned" || word == "no memory",
         Act::Dispatch(_) | Act::Take(..) | Act::HeldTake(..) | Act::Leave(..) | Act::Gone(..) => {
@@ -272,7 +272,7 @@ fn answered<'a, 't, E: Eligibility<Alloc = Memory<'a>>>(
     memory: Memory<'a>,
     piece: &Payload<Memory<'a>>,
     server: &mut Tried<'a, E>,
-    act: Act,
+    act: Act<'_>,
 ) -> Option<Told<'t>> {
     let Some(event) = event_of(piece, act) else {
         return Some(asked(memory, server, act));
@@ -312,7 +312,7 @@ fn answered_again<'a, 't, E: Eligibility<Alloc = Memory<'a>>>(
     memory: Memory<'a>,
     piece: &Payload<Memory<'a>>,
     server: &mut Tried<'a, E>,
-    act: Act,
+    act: Act<'_>,
     before: State<'t>,
 ) -> Option<Told<'t>> {
     let now = state_of(server);
@@ -361,7 +361,7 @@ fn answered_at_last<'a, 't, E: Eligibility<Alloc = Memory<'a>>>(
     memory: Memory<'a>,
     piece: &Payload<Memory<'a>>,
     server: &mut Tried<'a, E>,
-    act: Act,
+    act: Act<'_>,
     waiting: Waiting,
 ) -> Option<Told<'t>> {
     let (armed, before) = (memory.is_armed(), state_of(server));
@@ -401,7 +401,7 @@ fn reply_without<'t>(export: u32, told: Told<'t>, lost: Lost) -> Told<'t> {
 }
 
 // Whether an event is answered as its line says, but for what was performed without memory.
-fn is_told(act: Act, told: Told<'_>, answer: Told<'_>, lost: &mut Lost) -> bool {
+fn is_told(act: Act<'_>, told: Told<'_>, answer: Told<'_>, lost: &mut Lost) -> bool {
     match act {
         Act::Perform(export, number) if answer.0 == "performed without memory" => {
             *lost = Some((export, number));

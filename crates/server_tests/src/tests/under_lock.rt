@@ -290,7 +290,7 @@ fn noted<'a, 't, L: Ledger, R: Wait>(
     shared: &Opened<'a, L>,
     pass: &mut Pass<L>,
     tickets: &mut Vec<Ticket, Memory<'a>>,
-    act: Act,
+    act: Act<'_>,
     event: Event<Memory<'a>>,
 ) -> Option<Told<'t>> {
     let (turns, trace) = (pass.turns(), event_trace(&event));
@@ -312,7 +312,7 @@ fn told_under_lock<'a, 't, L: Ledger, R: Wait>(
     shared: &Opened<'a, L>,
     pass: &mut Pass<L>,
     tickets: &mut Vec<Ticket, Memory<'a>>,
-    act: Act,
+    act: Act<'_>,
 ) -> Option<Told<'t>> {
     if let Some(event) = event_of(piece, act) {
         return noted(rt, shared, pass, tickets, act, event);
