@@ -11,7 +11,7 @@ use reply_box::Taken;
 use server_core::*;
 use server_lock::*;
 use server_table::{Answer, Event};
-use std::alloc::Global;
+use std::alloc::{Allocator, Global};
 use std::marker::Brand;
 use std::sync::Wait;
 use std::sync::ledger::{Blank, Ledger};
@@ -52,8 +52,8 @@ fn settings(name: &'static [u8], size: u64, rates: &[u64; 5]) -> ExportSettings<
     settings
 }
 
-fn sized_config<'a>(memory: Memory<'a>, size: u64, exports: Exports) -> Option<Config<Memory<'a>>> {
-    let mut list = ExportList::new(memory);
+fn sized_config<A: Allocator + Copy>(alloc: A, size: u64, exports: Exports) -> Option<Config<A>> {
+    let mut list = ExportList::new(alloc);
     for (name, rates) in [b"a", b"b"].iter().zip(exports.0) {
         if list.add(&settings(name.as_slice(), size, rates)).is_err() {
             return None;
@@ -63,21 +63,21 @@ fn sized_config<'a>(memory: Memory<'a>, size: u64, exports: Exports) -> Option<C
 }
 
 // Of exports of 4,096 bytes.
-fn config_of<'a>(memory: Memory<'a>, exports: Exports) -> Option<Config<Memory<'a>>> {
-    sized_config(memory, 4096, exports)
+fn config_of<A: Allocator + Copy>(alloc: A, exports: Exports) -> Option<Config<A>> {
+    sized_config(alloc, 4096, exports)
 }
 
-fn server_of<'a, E: Eligibility<Alloc = Memory<'a>>>(
-    memory: Memory<'a>,
+fn server_of<A: Allocator + Copy, E: Eligibility<Alloc = A>>(
+    alloc: A,
     exports: Exports,
-) -> Option<Tried<'a, E>> {
-    match config_of(memory, exports) {
-        Some(config) => Server::new(memory, &config).ok(),
+) -> Option<Server<Paged<A>, E>> {
+    match config_of(alloc, exports) {
+        Some(config) => Server::new(alloc, &config).ok(),
         None => None,
     }
 }
 
 // What a WRITE of a line writes.
-fn piece_of<'a>(memory: Memory<'a>) -> Option<Payload<Memory<'a>>> {
-    Payload::copied(memory, 0, [0xde, 0xad, 0xbe, 0xef].as_slice()).ok()
+fn piece_of<A: Allocator + Copy>(alloc: A) -> Option<Payload<A>> {
+    Payload::copied(alloc, 0, [0xde, 0xad, 0xbe, 0xef].as_slice()).ok()
 }

@@ -124,7 +124,7 @@ fn head_of(kind: u16, cookie: u64, offset: u64, length: u32) -> RequestHead
 }
 
 // A payload's clone, which is made again where it found no memory.
-fn clone_of<'a>(piece: &Payload<Memory<'a>>) -> Option<Payload<Memory<'a>>> {
+fn clone_of<A: Allocator + Copy>(piece: &Payload<A>) -> Option<Payload<A>> {
     let first: Result<_, _> = piece.clone();
     if let Ok(clone) = first {
         return Some(clone);
@@ -133,11 +133,11 @@ fn clone_of<'a>(piece: &Payload<Memory<'a>>) -> Option<Payload<Memory<'a>>> {
     second.ok()
 }
 
-fn write_of<'a>(
-    piece: &Payload<Memory<'a>>,
+fn write_of<A: Allocator + Copy>(
+    piece: &Payload<A>,
     cookie: u64,
     offset: u64,
-) -> Option<Request<Memory<'a>>> {
+) -> Option<Request<A>> {
     let Some(payload) = clone_of(piece) else {
         return None;
     };
@@ -148,7 +148,7 @@ fn write_of<'a>(
     Some(Request::new(head, payload))
 }
 
-fn request_of<'a>(piece: &Payload<Memory<'a>>, act: Act<'_>) -> Option<Request<Memory<'a>>> {
+fn request_of<A: Allocator + Copy>(piece: &Payload<A>, act: Act<'_>) -> Option<Request<A>> {
     match act {
         Act::Read(_, _, _, cookie) => {
             Some(Request::new(head_of(READ, cookie, 0, 4), Payload::new()))
@@ -162,7 +162,7 @@ fn request_of<'a>(piece: &Payload<Memory<'a>>, act: Act<'_>) -> Option<Request<M
     }
 }
 
-fn retune_of<'a>(export: u32, rates: [u64; 3]) -> Option<Event<Memory<'a>>> {
+fn retune_of<A: Allocator>(export: u32, rates: [u64; 3]) -> Option<Event<A>> {
     match Rates::new(rates[0], rates[1], rates[2]) {
         Ok(rates) => Some(Event::Retune { export, rates }),
         Err(_) => None,
@@ -170,7 +170,7 @@ fn retune_of<'a>(export: u32, rates: [u64; 3]) -> Option<Event<Memory<'a>>> {
 }
 
 // None for what is asked.
-pub fn event_of<'a>(piece: &Payload<Memory<'a>>, act: Act<'_>) -> Option<Event<Memory<'a>>> {
+pub fn event_of<A: Allocator + Copy>(piece: &Payload<A>, act: Act<'_>) -> Option<Event<A>> {
     match act {
         Act::Attach(export) => Some(Event::Attach { export }),
         Act::Dispatch(moment) => Some(Event::Dispatch { moment: at(moment) }),
@@ -213,7 +213,7 @@ pub fn is_event(act: Act<'_>) -> bool {
 }
 
 // The data of a reply with their length before them.
-fn data_of(reply: &Reply<Memory<'_>>) -> u64 {
+fn data_of<A: Allocator>(reply: &Reply<A>) -> u64 {
     if reply.content().is_empty() {
         return 0;
     }
@@ -225,7 +225,7 @@ fn data_of(reply: &Reply<Memory<'_>>) -> u64 {
     (bytes.len() as u64) << 32 | data
 }
 
-pub fn told_of<'t>(answer: &Answer<Memory<'_>>) -> Told<'t> {
+pub fn told_of<'t, A: Allocator>(answer: &Answer<A>) -> Told<'t> {
     match answer {
         Answer::Session(number) => ("session", *number, 0, 0),
         Answer::Accepted { number, limit_tag } => {
@@ -261,7 +261,7 @@ pub fn told_of<'t>(answer: &Answer<Memory<'_>>) -> Told<'t> {
     }
 }
 
-fn word_of(answer: &Answer<Memory<'_>>) -> &'static str {
+fn word_of<'t, A: Allocator>(answer: &Answer<A>) -> &'t str {
     match answer {
         Answer::Nothing => "none",
         Answer::Performed { memory: true } => "performed",
@@ -289,8 +289,8 @@ pub fn due_of<'t>(due: Option<Moment>) -> Told<'t> {
     }
 }
 
-pub fn counts<'a, 't, E: Eligibility<Alloc = Memory<'a>>>(
-    server: &Tried<'a, E>,
+pub fn counts<'t, A: Allocator + Copy, E: Eligibility<Alloc = A>>(
+    server: &Server<Paged<A>, E>,
     export: u32,
 ) -> Told<'t> {
     let found = server.journal(export);
@@ -313,13 +313,13 @@ fn are_tagged(told: &[(u64, Tags)], wanted: &[Tagged]) -> bool {
     told.len() == wanted.len()
 }
 
-pub fn tags<'a, 't, E: Eligibility<Alloc = Memory<'a>>>(
-    memory: Memory<'a>,
-    server: &Tried<'a, E>,
+pub fn tags<'t, A: Allocator + Copy, E: Eligibility<Alloc = A>>(
+    alloc: A,
+    server: &Server<Paged<A>, E>,
     export: u32,
     wanted: &[Tagged],
 ) -> Told<'t> {
-    match server.tags(memory, export) {
+    match server.tags(alloc, export) {
         Ok(told) if are_tagged(told.as_slice(), wanted) => ("tags", 0, 0, 0),
         Ok(_) => ("other tags", 0, 0, 0),
         Err(NoTags::NoExport) => ("no export", 0, 0, 0),
@@ -328,9 +328,9 @@ pub fn tags<'a, 't, E: Eligibility<Alloc = Memory<'a>>>(
 }
 
 // What is answered to what is asked.
-pub fn asked<'a, 't, E: Eligibility<Alloc = Memory<'a>>>(
-    memory: Memory<'a>,
-    server: &Tried<'a, E>,
+pub fn asked<'t, A: Allocator + Copy, E: Eligibility<Alloc = A>>(
+    alloc: A,
+    server: &Server<Paged<A>, E>,
     act: Act<'_>,
 ) -> Told<'t> {
     match act {
@@ -351,7 +351,7 @@ pub fn asked<'a, 't, E: Eligibility<Alloc = Memory<'a>>>(
             )
         }
         Act::Counts(export) => counts(server, export),
-        Act::Tags(export, wanted) => tags(memory, server, export, wanted),
+        Act::Tags(export, wanted) => tags(alloc, server, export, wanted),
         _ => ("no event", 0, 0, 0),
     }
 }

@@ -268,18 +268,20 @@ fn may_want_memory(act: Act<'_>, word: &str) -> bool {
 }
 
 // What is answered, without any memory asked for by an event that may not want some.
-fn answered<'a, 't, E: Eligibility<Alloc = Memory<'a>>>(
-    memory: Memory<'a>,
-    piece: &Payload<Memory<'a>>,
-    server: &mut Tried<'a, E>,
+fn answered<'t, A: Allocator + Copy, E: Eligibility<Alloc = A>>(
+    refusing: &Refusing<Global>,
+    alloc: A,
+    piece: &Payload<A>,
+    server: &mut Server<Paged<A>, E>,
     act: Act<'_>,
 ) -> Option<Told<'t>> {
     let Some(event) = event_of(piece, act) else {
-        return Some(asked(memory, server, act));
+        return Some(asked(alloc, server, act));
     };
-    let armed = memory.is_armed();
-    let told = told_of(&server.event(event));
-    if may_want_memory(act, told.0) || armed == memory.is_armed() {
+    let armed = refusing.is_armed();
+    let answer = server.event(event);
+    let told = told_of(&answer);
+    if may_want_memory(act, told.0) || armed == refusing.is_armed() {
         Some(told)
     } else {
         None
@@ -289,7 +291,9 @@ fn answered<'a, 't, E: Eligibility<Alloc = Memory<'a>>>(
 // How many steps a server counted, how many requests wait, and what its exports count.
 pub type State<'t> = (u128, usize, Told<'t>, Told<'t>);
 
-pub fn state_of<'a, 't, E: Eligibility<Alloc = Memory<'a>>>(server: &Tried<'a, E>) -> State<'t> {
+pub fn state_of<'t, A: Allocator + Copy, E: Eligibility<Alloc = A>>(
+    server: &Server<Paged<A>, E>,
+) -> State<'t> {
     (
         server.steps(),
         server.waiting(),
@@ -308,10 +312,11 @@ pub fn is_as_it_was(before: State<'_>, now: State<'_>) -> bool {
 }
 
 // What an event is answered at the second time, where the first changed nothing but the bases, which are no further then.
-fn answered_again<'a, 't, E: Eligibility<Alloc = Memory<'a>>>(
-    memory: Memory<'a>,
-    piece: &Payload<Memory<'a>>,
-    server: &mut Tried<'a, E>,
+fn answered_again<'t, A: Allocator + Copy, E: Eligibility<Alloc = A>>(
+    refusing: &Refusing<Global>,
+    alloc: A,
+    piece: &Payload<A>,
+    server: &mut Server<Paged<A>, E>,
     act: Act<'_>,
     before: State<'t>,
 ) -> Option<Told<'t>> {
@@ -319,7 +324,7 @@ fn answered_again<'a, 't, E: Eligibility<Alloc = Memory<'a>>>(
     if !is_as_it_was(before, now) {
         return None;
     }
-    let told = answered(memory, piece, server, act);
+    let told = answered(refusing, alloc, piece, server, act);
     let then = state_of(server);
     if now.2.3 <= then.2.3 && now.3.3 <= then.3.3 {
         told
@@ -345,40 +350,41 @@ fn are_waiting(told: &[(u64, Tags)], waiting: Waiting) -> bool {
 }
 
 // Whether this waits at export 1.
-fn has_waiting<'a, E: Eligibility<Alloc = Memory<'a>>>(
-    memory: Memory<'a>,
-    server: &Tried<'a, E>,
+fn has_waiting<A: Allocator + Copy, E: Eligibility<Alloc = A>>(
+    alloc: A,
+    server: &Server<Paged<A>, E>,
     waiting: Waiting,
 ) -> bool {
-    match server.tags(memory, 1) {
+    match server.tags(alloc, 1) {
         Ok(told) => are_waiting(told.as_slice(), waiting),
         Err(_) => false,
     }
 }
 
 // What an event is answered that is made again where it found no memory, which was refused then.
-fn answered_at_last<'a, 't, E: Eligibility<Alloc = Memory<'a>>>(
-    memory: Memory<'a>,
-    piece: &Payload<Memory<'a>>,
-    server: &mut Tried<'a, E>,
+fn answered_at_last<'t, A: Allocator + Copy, E: Eligibility<Alloc = A>>(
+    refusing: &Refusing<Global>,
+    alloc: A,
+    piece: &Payload<A>,
+    server: &mut Server<Paged<A>, E>,
     act: Act<'_>,
     waiting: Waiting,
 ) -> Option<Told<'t>> {
-    let (armed, before) = (memory.is_armed(), state_of(server));
-    let Some(told) = answered(memory, piece, server, act) else {
+    let (armed, before) = (refusing.is_armed(), state_of(server));
+    let Some(told) = answered(refusing, alloc, piece, server, act) else {
         return None;
     };
     let performed = told.0 == "performed without memory";
     if told.0 != "no memory" && !performed {
         return Some(told);
     }
-    if !armed || memory.is_armed() || !has_waiting(memory, server, waiting) {
+    if !armed || refusing.is_armed() || !has_waiting(alloc, server, waiting) {
         return None;
     }
     if performed {
         return Some(told);
     }
-    answered_again(memory, piece, server, act, before)
+    answered_again(refusing, alloc, piece, server, act, before)
 }
 
 // The request that was performed without memory.
@@ -414,15 +420,16 @@ fn is_told(act: Act<'_>, told: Told<'_>, answer: Told<'_>, lost: &mut Lost) -> b
 }
 
 // The first line that is answered otherwise, counted from 1; 0 where each is answered so.
-pub fn first_wrong<'a, E: Eligibility<Alloc = Memory<'a>>>(
-    memory: Memory<'a>,
-    piece: &Payload<Memory<'a>>,
-    server: &mut Tried<'a, E>,
+pub fn first_wrong<A: Allocator + Copy, E: Eligibility<Alloc = A>>(
+    refusing: &Refusing<Global>,
+    alloc: A,
+    piece: &Payload<A>,
+    server: &mut Server<Paged<A>, E>,
     lines: &[Line<'_>],
 ) -> usize {
     let mut lost = None;
     for (place, (waiting, act, told)) in lines.iter().enumerate() {
-        let well = match answered_at_last(memory, piece, server, *act, *waiting) {
+        let well = match answered_at_last(refusing, alloc, piece, server, *act, *waiting) {
             Some(answer) => is_told(*act, *told, answer, &mut lost),
             None => false,
         };
@@ -434,50 +441,53 @@ pub fn first_wrong<'a, E: Eligibility<Alloc = Memory<'a>>>(
 }
 
 // Whether lines are answered so, and then these where this growth is refused.
-fn goes_armed<'a, E: Eligibility<Alloc = Memory<'a>>>(
-    memory: Memory<'a>,
-    server: &mut Tried<'a, E>,
+fn goes_armed<A: Allocator + Copy, E: Eligibility<Alloc = A>>(
+    refusing: &Refusing<Global>,
+    alloc: A,
+    server: &mut Server<Paged<A>, E>,
     before: &[Line<'_>],
     behind: &[Line<'_>],
     nth: u64,
 ) -> bool {
-    let Some(piece) = piece_of(memory) else {
+    let Some(piece) = piece_of(alloc) else {
         return false;
     };
-    if first_wrong(memory, &piece, server, before) != 0 {
+    if first_wrong(refusing, alloc, &piece, server, before) != 0 {
         return false;
     }
-    memory.arm(nth);
-    first_wrong(memory, &piece, server, behind) == 0
+    refusing.arm(nth);
+    first_wrong(refusing, alloc, &piece, server, behind) == 0
 }
 
 // The same of a server that is made for them.
-fn goes_at<'a, E: Eligibility<Alloc = Memory<'a>>>(
-    memory: Memory<'a>,
+fn goes_at<A: Allocator + Copy, E: Eligibility<Alloc = A>>(
+    refusing: &Refusing<Global>,
+    alloc: A,
     exports: Exports,
     before: &[Line<'_>],
     behind: &[Line<'_>],
     nth: u64,
 ) -> bool {
-    memory.arm(0);
-    match server_of::<E>(memory, exports) {
-        Some(mut server) => goes_armed(memory, &mut server, before, behind, nth),
+    refusing.arm(0);
+    match server_of::<A, E>(alloc, exports) {
+        Some(mut server) => goes_armed(refusing, alloc, &mut server, before, behind, nth),
         None => false,
     }
 }
 
 // How many growths there are, each of which was refused in turn. 0 where an answer was wrong, or there is no end.
-fn growths_of<'a, E: Eligibility<Alloc = Memory<'a>>>(
-    memory: Memory<'a>,
+fn growths_of<A: Allocator + Copy, E: Eligibility<Alloc = A>>(
+    refusing: &Refusing<Global>,
+    alloc: A,
     exports: Exports,
     before: &[Line<'_>],
     behind: &[Line<'_>],
 ) -> u64 {
     for nth in 1..1000u64 {
-        if !goes_at::<E>(memory, exports, before, behind, nth) {
+        if !goes_at::<A, E>(refusing, alloc, exports, before, behind, nth) {
             return 0;
         }
-        if memory.is_armed() {
+        if refusing.is_armed() {
             return nth - 1;
         }
     }
@@ -492,8 +502,8 @@ fn grow(
     behind: &[Line<'_>],
     least: u64,
 ) -> bool {
-    growths_of::<Heaped<Memory>>(memory, exports, before, behind) >= least
-        && growths_of::<Listed<Memory>>(memory, exports, before, behind) >= least
+    growths_of::<_, Heaped<Memory>>(memory, memory, exports, before, behind) >= least
+        && growths_of::<_, Listed<Memory>>(memory, memory, exports, before, behind) >= least
 }
 
 // The same of parts.
@@ -545,13 +555,13 @@ const RETUNED_AT_LAST: &[Row<'static>] = &[
 ];
 
 // Whether lines behind so many retunes are answered so, where the first growth is refused.
-fn goes_behind(alloc: Global, memory: Memory, retunes: u64, rows: &[Row<'_>]) -> bool {
+fn goes_behind(alloc: Global, memory: Memory, retunes: u64, rows: &'static [Row<'static>]) -> bool {
     let before = lines_of(alloc, &[(NONE, retunes, RETUNED), (NONE, 1, WAITING)]);
     let behind = lines_of(alloc, &[(NONE, 1, rows)]);
     match (before, behind) {
         (Some(before), Some(behind)) => {
             let (before, behind) = (before.as_slice(), behind.as_slice());
-            goes_at::<Heaped<Memory>>(memory, NARROW, before, behind, 1)
+            goes_at::<_, Heaped<Memory>>(memory, memory, NARROW, before, behind, 1)
         }
         _ => false,
     }

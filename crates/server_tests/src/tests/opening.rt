@@ -56,7 +56,7 @@ fn becomes_served<'a>(memory: Memory<'a>, server: &mut Old<'a>, lines: &[Line<'_
     let Some(piece) = piece_of(memory) else {
         return false;
     };
-    first_wrong(memory, &piece, server, lines) == 0
+    first_wrong(memory, memory, &piece, server, lines) == 0
         && shows(memory, server)
         && tags(memory, server, 0, THIRD).0 == "tags"
 }

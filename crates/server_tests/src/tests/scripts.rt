@@ -678,26 +678,27 @@ const NEVER_CHOSEN: Script<'static> = (
 );
 
 // Whether a server answers lines so.
-fn serves<'a, E: Eligibility<Alloc = Memory<'a>>>(
-    memory: Memory<'a>,
+fn serves<A: Allocator + Copy, E: Eligibility<Alloc = A>>(
+    refusing: &Refusing<Global>,
+    alloc: A,
     exports: Exports,
     lines: &[Line<'_>],
 ) -> bool {
-    match (server_of::<E>(memory, exports), piece_of(memory)) {
-        (Some(mut server), Some(piece)) => first_wrong(memory, &piece, &mut server, lines) == 0,
-        _ => false,
+    let Some(piece) = piece_of(alloc) else {
+        return false;
+    };
+    match server_of::<A, E>(alloc, exports) {
+        Some(mut server) => first_wrong(refusing, alloc, &piece, &mut server, lines) == 0,
+        None => false,
     }
 }
 
 // The events of lines.
-fn events_of<'a>(
-    memory: Memory<'a>,
-    lines: &[Line<'_>],
-) -> Option<Vec<Event<Memory<'a>>, Memory<'a>>> {
-    let Some(piece) = piece_of(memory) else {
+fn events_of<A: Allocator + Copy>(alloc: A, lines: &[Line<'_>]) -> Option<Vec<Event<A>, A>> {
+    let Some(piece) = piece_of(alloc) else {
         return None;
     };
-    let mut events = Vec::new(memory);
+    let mut events = Vec::new(alloc);
     for (_, act, _) in lines {
         if let Some(event) = event_of(&piece, *act) {
             if events.push(event).is_err() {
@@ -708,7 +709,7 @@ fn events_of<'a>(
     Some(events)
 }
 
-fn reads_as(answer: Option<&Answer<Memory<'_>>>, told: Told<'_>) -> bool {
+fn reads_as<A: Allocator>(answer: Option<&Answer<A>>, told: Told<'_>) -> bool {
     match answer {
         Some(answer) => told_of(answer) == told,
         None => false,
@@ -716,7 +717,7 @@ fn reads_as(answer: Option<&Answer<Memory<'_>>>, told: Told<'_>) -> bool {
 }
 
 // Whether these are the answers to the lines that are events, one each.
-fn are_told(answers: &[Answer<Memory<'_>>], lines: &[Line<'_>]) -> bool {
+fn are_told<A: Allocator>(answers: &[Answer<A>], lines: &[Line<'_>]) -> bool {
     let mut answers = answers.iter();
     for (_, act, told) in lines {
         if is_event(*act) && !reads_as(answers.next(), *told) {
@@ -727,15 +728,18 @@ fn are_told(answers: &[Answer<Memory<'_>>], lines: &[Line<'_>]) -> bool {
 }
 
 // Whether `run` answers them so.
-fn runs<'a, E: Eligibility<Alloc = Memory<'a>>>(
-    memory: Memory<'a>,
+fn runs<A: Allocator + Copy, E: Eligibility<Alloc = A>>(
+    alloc: A,
     exports: Exports,
     lines: &[Line<'_>],
 ) -> bool {
-    let (Some(config), Some(events)) = (config_of(memory, exports), events_of(memory, lines)) else {
+    let Some(config) = config_of(alloc, exports) else {
         return false;
     };
-    match run::<Paged<Memory<'a>>, E>(memory, &config, events) {
+    let Some(events) = events_of(alloc, lines) else {
+        return false;
+    };
+    match run::<Paged<A>, E>(alloc, &config, events) {
         Ok(answers) => are_told(answers.as_slice(), lines),
         Err(_) => false,
     }
@@ -743,12 +747,13 @@ fn runs<'a, E: Eligibility<Alloc = Memory<'a>>>(
 
 // Whether a script goes as it says, by both forms of eligibility.
 fn goes(memory: Memory, exports: Exports, lines: &[Line<'_>]) -> bool {
-    serves::<Listed<Memory>>(memory, exports, lines)
-        && serves::<Heaped<Memory>>(memory, exports, lines)
+    serves::<_, Listed<Memory>>(memory, memory, exports, lines)
+        && serves::<_, Heaped<Memory>>(memory, memory, exports, lines)
 }
 
 fn goes_by_run(memory: Memory, exports: Exports, lines: &[Line<'_>]) -> bool {
-    runs::<Listed<Memory>>(memory, exports, lines) && runs::<Heaped<Memory>>(memory, exports, lines)
+    runs::<_, Listed<Memory>>(memory, exports, lines)
+        && runs::<_, Heaped<Memory>>(memory, exports, lines)
 }
 
 fn goes_both(alloc: Global, memory: Memory, script: &Script) -> bool {
