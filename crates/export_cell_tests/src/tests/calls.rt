@@ -103,8 +103,13 @@ pub fn arrived<'a, 't>(cell: &mut Cell<'a>, session: u64, request: Request<Heap<
             )
         }
         Ok(Arrived::Answered(error)) => ("answered", u64::from(error), 0, 0),
-        Err(NotArrived { fault, request }) if request.head() == head => refused(fault),
-        Err(_) => ("another request", 0, 0, 0),
+        Err(NotArrived { fault, request }) => {
+            if request.head() == head {
+                refused(fault)
+            } else {
+                ("another request", 0, 0, 0)
+            }
+        }
     }
 }
 

@@ -11,9 +11,9 @@ const NARROW: Terms = (8, 0, 2, 2);
 
 const LIMITED: Terms = (8, 10, 1024, 256);
 
-// What grows; the export's terms; the parts before, of which no growth is refused, none where the opening's are refused too; the
-// parts behind; and how many growths there are at least.
-type Growth<'t> = (&'t str, Terms, Option<&'t [Part<'t>]>, &'t [Part<'t>], u64);
+// What grows; the export's terms; whether the opening's growths are refused too; the parts before, of which none is, and the parts
+// behind; and how many growths there are at least.
+type Growth<'t> = (&'t str, Terms, bool, &'t [Part<'t>], &'t [Part<'t>], u64);
 
 // Where the log is full: before each step the oldest go into the base, and those may want memory too. The log has 4,095 steps
 // before each arrival, and four more when its request is served.
@@ -21,7 +21,8 @@ const GROWTHS: [Growth<'static>; 4] = [
     (
         "a log, from the opening on",
         NARROW,
-        None,
+        true,
+        &[],
         &[
             ATTACHED,
             (20, 0, READ_8),
@@ -32,11 +33,12 @@ const GROWTHS: [Growth<'static>; 4] = [
     (
         "a base",
         NARROW,
-        Some(&[
+        false,
+        &[
             ATTACHED,
             (1024, 0, READ_8),
             (1, 0, &[(Call::Counts, ("counts", 4097, 4097, 0))]),
-        ]),
+        ],
         &[
             (1, 0, &[(Call::Attach, ("session", 1, 0, 0))]),
             (6, 0, READ_BEHIND),
@@ -47,7 +49,8 @@ const GROWTHS: [Growth<'static>; 4] = [
     (
         "a log of retunes",
         LIMITED,
-        Some(&[]),
+        false,
+        &[],
         &[
             (20, 0, RETUNED_ALONE),
             (1, 0, &[(Call::Counts, ("counts", 20, 20, 0))]),
@@ -57,7 +60,8 @@ const GROWTHS: [Growth<'static>; 4] = [
     (
         "a base by retunes",
         LIMITED,
-        Some(&FILLED),
+        false,
+        &FILLED,
         &[
             (12, 0, RETUNED_ALONE),
             (1, 0, &[(Call::Counts, ("counts", 4107, 4096, 11))]),
@@ -145,12 +149,30 @@ fn are_told<'a>(
     !lost
 }
 
-// Whether rows are answered so, and then these where this growth is refused; where there are none before, the opening's growths are
-// refused too.
+// Whether rows are answered so, and then these where this growth is refused.
+fn goes_behind<'a>(
+    heap: Heap<'a>,
+    piece: &Payload<Heap<'a>>,
+    cell: &mut Cell<'a>,
+    before: &[Row<'_>],
+    behind: &[Row<'_>],
+    nth: u64,
+) -> bool {
+    if !before.is_empty() && first_wrong(heap, piece, cell, before) != 0 {
+        return false;
+    }
+    if nth != 0 {
+        heap.arm(nth);
+    }
+    are_told(heap, piece, cell, behind)
+}
+
+// The same of a cell that is made for them; where the opening's growths are refused too, it may be one of these.
 fn goes_at<'a>(
     heap: Heap<'a>,
     terms: Terms,
-    before: Option<&[Row<'_>]>,
+    opening: bool,
+    before: &[Row<'_>],
     behind: &[Row<'_>],
     nth: u64,
 ) -> bool {
@@ -158,34 +180,23 @@ fn goes_at<'a>(
     let Some(piece) = piece_of(heap) else {
         return false;
     };
-    let opening = if before.is_none() { nth } else { 0 };
-    let Some(mut cell) = opened(heap, terms, opening) else {
-        return false;
-    };
-    goes_behind(heap, &piece, &mut cell, before, behind, nth)
-}
-
-fn goes_behind<'a>(
-    heap: Heap<'a>,
-    piece: &Payload<Heap<'a>>,
-    cell: &mut Cell<'a>,
-    before: Option<&[Row<'_>]>,
-    behind: &[Row<'_>],
-    nth: u64,
-) -> bool {
-    if let Some(rows) = before {
-        if first_wrong(heap, piece, cell, rows) != 0 {
-            return false;
-        }
-        heap.arm(nth);
+    let (first, second) = if opening { (nth, 0) } else { (0, nth) };
+    match opened(heap, terms, first) {
+        Some(mut cell) => goes_behind(heap, &piece, &mut cell, before, behind, second),
+        None => false,
     }
-    are_told(heap, piece, cell, behind)
 }
 
 // How many growths there are, each of which was refused in turn. 0 where an answer was wrong, or there is no end.
-fn growths_of(heap: Heap, terms: Terms, before: Option<&[Row<'_>]>, behind: &[Row<'_>]) -> u64 {
+fn growths_of(
+    heap: Heap,
+    terms: Terms,
+    opening: bool,
+    before: &[Row<'_>],
+    behind: &[Row<'_>],
+) -> u64 {
     for nth in 1..1000u64 {
-        if !goes_at(heap, terms, before, behind, nth) {
+        if !goes_at(heap, terms, opening, before, behind, nth) {
             return 0;
         }
         if heap.is_armed() {
@@ -196,24 +207,29 @@ fn growths_of(heap: Heap, terms: Terms, before: Option<&[Row<'_>]>, behind: &[Ro
 }
 
 // The same of parts.
-fn parts_grow(alloc: Global, heap: Heap, growth: &Growth<'_>) -> u64 {
-    let Some(behind) = rows_of(alloc, growth.3) else {
+fn parts_grow(alloc: Global, growth: &Growth<'_>) -> u64 {
+    let heap = Refusing::new(alloc, 0);
+    let Some(before) = rows_of(alloc, growth.3) else {
         return 0;
     };
-    let Some(parts) = growth.2 else {
-        return growths_of(heap, growth.1, None, behind.as_slice());
-    };
-    match rows_of(alloc, parts) {
-        Some(before) => growths_of(heap, growth.1, Some(before.as_slice()), behind.as_slice()),
+    match rows_of(alloc, growth.4) {
+        Some(behind) => {
+            growths_of(
+                &heap,
+                growth.1,
+                growth.2,
+                before.as_slice(),
+                behind.as_slice(),
+            )
+        }
         None => 0,
     }
 }
 
 #[test]
 fn each_growth_is_refused_in_turn(rt: HostRuntime) {
-    let heap = Refusing::new(rt.alloc(), 0);
     for growth in &GROWTHS {
-        let growths = parts_grow(rt.alloc(), &heap, growth);
-        assert!(rt; growths >= growth.4, "{}: {growths}", growth.0);
+        let growths = parts_grow(rt.alloc(), growth);
+        assert!(rt; growths >= growth.5, "{}: {growths}", growth.0);
     }
 }

@@ -16,7 +16,8 @@ fn later<'t>(row: &Row<'t>, by: u64, pace: u64) -> Row<'t> {
     match word {
         "session" | "request" => (call, (word, number, second, third)),
         "base" => {
-            let steps = first.saturating_add(by.saturating_mul(pace.max(1)));
+            let each = if pace == 0 { 1 } else { pace };
+            let steps = first.saturating_add(by.saturating_mul(each));
             (call, (word, steps, second, third))
         }
         "accepted" if second != 0 => {

@@ -293,7 +293,8 @@ fn is_queued_at_last<'a>(
     rows: &[Row<'_>],
     nth: u64,
 ) -> bool {
-    let Some((last, before)) = rows.split_last() else {
+    let end = rows.len().saturating_sub(1);
+    let (Some(last), Some(before)) = (rows.last(), rows.get(..end)) else {
         return false;
     };
     first_wrong(heap, piece, cell, before) == 0

@@ -186,8 +186,9 @@ fn bytes_beside(image: &Kept<'_>, place: usize) -> usize {
     if payload.len() != 2 {
         return NO_MEMORY;
     }
-    match payload.from(0) {
-        [before, behind] => usize::from(*before) * 256 + usize::from(*behind),
+    let bytes = payload.from(0);
+    match (bytes.first(), bytes.get(1)) {
+        (Some(before), Some(behind)) => *before as usize * 256 + *behind as usize,
         _ => NO_MEMORY,
     }
 }
@@ -206,7 +207,7 @@ fn answered<'a>(heap: Heap<'a>, image: &mut Kept<'a>, call: Call<'_>) -> usize {
             heap.arm(nth);
             0
         }
-        Call::Armed => usize::from(heap.is_armed()),
+        Call::Armed => { if heap.is_armed() { 1 } else { 0 } }
         Call::Held => image.held(),
         Call::Size => image.size(),
         Call::Zeros => zeros_of(heap, image),
