@@ -84,17 +84,11 @@ fn sweeps<'a>(heap: Heap<'a>, lone: &mut Alone<'a>) -> bool {
     attached && swept.pages().is_empty() && lone.steps() == 1
 }
 
-fn is_swept(alloc: Global) -> bool {
-    let heap = Refusing::new(alloc, 0);
-    match opened(&heap, SMALL, 0) {
-        Some(mut lone) => sweeps(&heap, &mut lone),
-        None => false,
-    }
-}
-
 #[test]
 fn a_sweep_is_no_step(rt: HostRuntime) {
-    assert!(rt; is_swept(rt.alloc()));
+    let heap = Refusing::new(rt.alloc(), 0);
+    let mut lone = opened(&heap, SMALL, 0).expect(&rt, "memory");
+    assert!(rt; sweeps(&heap, &mut lone));
 }
 
 // Each law holds, so it can be called anywhere.

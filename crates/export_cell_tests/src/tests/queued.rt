@@ -1,72 +1,180 @@
 //! Steps that are queued for the base come to what a plain fold of them comes to.
 
-use super::calls::{SESSIONS, arrived, base_into, read_into, request_of};
-use super::growths::{is_told_again, state_of};
-use super::runs::{first_wrong, piece_of};
 use super::*;
+use nbd_wire::protocol::{CACHE, TRIM, WRITE_ZEROES};
 
-const SIZE: u64 = 64;
+// The steps that were made, noted beside the cell.
+type Steps<'a> = Vec<Step<Heap<'a>>, Heap<'a>>;
 
-const WIDE: Terms = (SIZE, 0, 4096, 4096);
+const SIZE: usize = 64;
 
-type Rows = Vec<Row<'static>>;
+const SESSIONS: u64 = 3;
 
-fn is_noted(rows: &mut Rows, call: Call<'static>, told: Told<'static>) -> bool {
-    rows.push((call, told)).is_ok()
+#[derive(Clone, Copy)]
+enum Queueing {
+    // Queued steps come to a fold where so much work is done besides.
+    ComesToAFold(usize),
+    // 8,192 of 11,908 steps are queued that left the log at once.
+    IsBounded,
+    // The same as a fold with a refusal from the arrival on that queues a thousand steps.
+    Grows,
 }
 
-fn attach(rows: &mut Rows) -> bool {
-    for number in 0..SESSIONS {
-        if !is_noted(rows, Call::Attach, ("session", number, 0, 0)) {
+impl Trial for Queueing {
+    fn holds<'a>(&self, cell: &mut Cell<'a>, heap: Heap<'a>, nth: u64) -> bool {
+        let mut steps = Vec::new(heap);
+        self.holds_noting(cell, &mut steps, heap, nth)
+    }
+}
+
+impl Queueing {
+    fn holds_noting<'a>(
+        &self,
+        cell: &mut Cell<'a>,
+        steps: &mut Steps<'a>,
+        heap: Heap<'a>,
+        nth: u64,
+    ) -> bool {
+        match *self {
+            Queueing::ComesToAFold(most) => is_folded(cell, steps, heap, most),
+            Queueing::IsBounded => is_queued(cell, steps, heap),
+            Queueing::Grows => is_queued_at_last(cell, steps, heap, nth),
+        }
+    }
+}
+
+fn settings() -> ExportSettings<'static> {
+    ExportSettings {
+        depth: 4096,
+        window: 4096,
+        ..of_size(SIZE as u64)
+    }
+}
+
+fn requested<A: Allocator>(
+    kind: u16,
+    offset: u64,
+    length: u32,
+    payload: Payload<A>,
+) -> Option<Request<A>> {
+    if kind == WRITE && payload.len() != length as usize || length > 64 {
+        return None;
+    }
+    if kind != WRITE && !payload.is_empty() {
+        return None;
+    }
+    let head = RequestHead {
+        flags: 0,
+        kind,
+        cookie: 7,
+        offset,
+        length,
+    };
+    Some(Request::new(head, payload))
+}
+
+// The request of this number: a WRITE, zeros, a READ, a trim, or a WRITE at an odd place.
+fn request_of(heap: Heap<'_>, number: u64) -> Option<Request<Heap<'_>>> {
+    let place = number % 6 * 8;
+    match number % 5 {
+        1 => requested(WRITE_ZEROES, place, 12, Payload::new()),
+        2 => requested(READ, place, 8, Payload::new()),
+        3 => requested(TRIM, place, 4, Payload::new()),
+        rest => write_at(heap, place + rest, (number % 251) as u8),
+    }
+}
+
+fn write_at(heap: Heap<'_>, place: u64, byte: u8) -> Option<Request<Heap<'_>>> {
+    let bytes = [byte; 8];
+    match Payload::copied(heap, place, &bytes) {
+        Ok(payload) => requested(WRITE, place, 8, payload),
+        Err(_) => None,
+    }
+}
+
+fn attaches<'a>(cell: &mut Cell<'a>, steps: &mut Steps<'a>) -> bool {
+    for _ in 0..SESSIONS {
+        if cell.attach().is_err() || steps.push(Step::Attach).is_err() {
             return false;
         }
     }
     true
 }
 
-fn arrives(rows: &mut Rows, number: u64) -> bool {
-    is_noted(rows, Call::Numbered(number), ("accepted", number, 0, 0))
+// Notes the arrival of the request of this number.
+fn notes<'a>(steps: &mut Steps<'a>, heap: Heap<'a>, number: u64) -> bool {
+    match request_of(heap, number) {
+        Some(request) => steps.push(arrive_of(number, request)).is_ok(),
+        None => false,
+    }
 }
 
-// The requests of these numbers arrive.
-fn all_arrive(rows: &mut Rows, first: u64, end: u64) -> bool {
-    for number in first..end {
-        if !arrives(rows, number) {
-            return false;
-        }
+fn arrive_of<'a>(number: u64, request: Request<Heap<'a>>) -> Step<Heap<'a>> {
+    Step::Arrive {
+        session: number % SESSIONS,
+        moment: Moment::zero(),
+        request,
     }
-    true
+}
+
+fn comes<'a>(cell: &mut Cell<'a>, heap: Heap<'a>, number: u64) -> bool {
+    match request_of(heap, number) {
+        Some(request) => arrival(cell, number % SESSIONS, request).is_ok(),
+        None => false,
+    }
+}
+
+fn arrives<'a>(cell: &mut Cell<'a>, steps: &mut Steps<'a>, heap: Heap<'a>, number: u64) -> bool {
+    notes(steps, heap, number) && comes(cell, heap, number)
 }
 
 // The first request that waits is picked and performed, every second READ without memory.
-fn performs(rows: &mut Rows, number: u64) -> bool {
-    let (call, memory) = if number % 10 == 2 {
-        (Call::Fail(number), 0)
-    } else {
-        (Call::Perform(number), 1)
-    };
-    is_noted(rows, Call::Pick, ("request", number, 0, 0))
-        && is_noted(rows, call, ("performed", memory, 0, 0))
+fn performs<'a>(cell: &mut Cell<'a>, steps: &mut Steps<'a>, heap: Heap<'a>, number: u64) -> bool {
+    let memory = !is_refused(number);
+    heap.arm(is_refused(number) as u64);
+    let done = performed(cell);
+    heap.arm(0);
+    done == Some((number, memory))
+        && steps.push(Step::Pick).is_ok()
+        && steps.push(Step::Perform { number, memory }).is_ok()
+}
+
+fn is_refused(number: u64) -> bool {
+    number % 10 == 2
 }
 
 // The reply to the request of this number is taken.
-fn is_taken(rows: &mut Rows, number: u64) -> bool {
-    let (error, length) = match number % 10 {
-        2 => (12, 0),
-        7 => (0, 8),
-        _ => (0, 0),
-    };
-    is_noted(
-        rows,
-        Call::Take(number % SESSIONS),
-        ("reply", error, length, 0),
-    )
+fn is_taken<'a>(cell: &mut Cell<'a>, steps: &mut Steps<'a>, number: u64) -> bool {
+    let session = number % SESSIONS;
+    steps.push(Step::Take { session }).is_ok() && takes(cell, session)
+}
+
+// The requests of these numbers arrive.
+fn all_arrive<'a>(
+    cell: &mut Cell<'a>,
+    steps: &mut Steps<'a>,
+    heap: Heap<'a>,
+    first: u64,
+    end: u64,
+) -> bool {
+    for number in first..end {
+        if !arrives(cell, steps, heap, number) {
+            return false;
+        }
+    }
+    true
 }
 
 // They are served one after another.
-fn each_is_served(rows: &mut Rows, first: u64, end: u64) -> bool {
+fn each_is_served<'a>(
+    cell: &mut Cell<'a>,
+    steps: &mut Steps<'a>,
+    heap: Heap<'a>,
+    first: u64,
+    end: u64,
+) -> bool {
     for number in first..end {
-        if !performs(rows, number) || !is_taken(rows, number) {
+        if !performs(cell, steps, heap, number) || !is_taken(cell, steps, number) {
             return false;
         }
     }
@@ -74,262 +182,234 @@ fn each_is_served(rows: &mut Rows, first: u64, end: u64) -> bool {
 }
 
 // All are performed, and then all replies are taken.
-fn all_are_served(rows: &mut Rows, first: u64, end: u64) -> bool {
-    for number in first..end {
-        if !performs(rows, number) {
-            return false;
-        }
-    }
-    for number in first..end {
-        if !is_taken(rows, number) {
-            return false;
-        }
-    }
-    true
-}
-
-// Requests of so many numbers, which bring the log to 4,003 steps, and so many more that all wait before the first of them is
-// served: when the next one arrives, three times as many steps have to go.
-fn is_filled(rows: &mut Rows, served: u64, more: u64) -> bool {
-    let end = served.saturating_add(more);
-    attach(rows)
-        && all_arrive(rows, 0, served)
-        && each_is_served(rows, 0, served)
-        && all_arrive(rows, served, end)
-        && all_are_served(rows, served, end)
-}
-
-// Some requests one by one, and so much work is done besides. What was made is in the log or the base.
-fn all_go_on(rows: &mut Rows, most: usize) -> bool {
-    for number in 1900..1950u64 {
-        let steps = 3 + (number + 1) * 4;
-        let noted = arrives(rows, number)
-            && is_noted(rows, Call::CatchUp(most), ("caught up", 0, 0, 0))
-            && performs(rows, number)
-            && is_taken(rows, number)
-            && is_noted(rows, Call::Kept, ("kept", steps, 1, 0));
-        if !noted {
-            return false;
-        }
-    }
-    true
-}
-
-// All that is queued is made at last.
-fn ends(rows: &mut Rows) -> bool {
-    is_noted(rows, Call::CatchUp(usize::MAX), ("caught up", 0, 0, 0))
-}
-
-fn comes_to_a_fold(rows: &mut Rows, most: usize) -> bool {
-    let waits = u64::from(most < 50);
-    is_filled(rows, 700, 1200)
-        && is_noted(rows, Call::Queued, ("queued", 0, 1, 0))
-        && all_go_on(rows, most)
-        && is_noted(rows, Call::Waits, ("waits", waits, 0, 0))
-        && ends(rows)
-}
-
-// 8,192 of 11,908 steps are queued that left the log at once, and some of them are made with the next arrival.
-fn is_bounded(rows: &mut Rows) -> bool {
-    is_filled(rows, 0, 4000)
-        && arrives(rows, 4000)
-        && is_noted(rows, Call::Counts, ("counts", 16004, 4096, 11908))
-        && is_noted(rows, Call::Queued, ("queued", 8192, 0, 0))
-        && arrives(rows, 4001)
-        && is_noted(rows, Call::QueuedBelow(8192), ("below", 1, 0, 0))
-        && ends(rows)
-}
-
-// The step of a row, where it is one.
-fn step_of<'a>(heap: Heap<'a>, piece: &Payload<Heap<'a>>, row: &Row<'_>) -> Option<Step<Heap<'a>>> {
-    let (call, (_, first, _, _)) = *row;
-    match call {
-        Call::Attach => Some(Step::Attach),
-        Call::Pick => Some(Step::Pick),
-        Call::Perform(number) | Call::Fail(number) => Some(Step::Perform {
-            number,
-            memory: first != 0,
-        }),
-        Call::Take(session) => Some(Step::Take { session }),
-        _ => match request_of(heap, piece, call) {
-            Some((session, request)) => Some(Step::Arrive {
-                session,
-                moment: Moment::zero(),
-                request,
-            }),
-            None => None,
-        },
-    }
-}
-
-// So many of the steps of rows, from the first on.
-fn steps_of<'a>(
+fn all_are_served<'a>(
+    cell: &mut Cell<'a>,
+    steps: &mut Steps<'a>,
     heap: Heap<'a>,
-    piece: &Payload<Heap<'a>>,
-    rows: &[Row<'_>],
-    count: u64,
-) -> Option<Vec<Step<Heap<'a>>, Heap<'a>>> {
-    let mut steps = Vec::new(heap);
-    for row in rows {
-        if steps.len() as u64 == count {
-            break;
-        }
-        if let Some(step) = step_of(heap, piece, row) {
-            if steps.push(step).is_err() {
-                return None;
-            }
+    first: u64,
+    end: u64,
+) -> bool {
+    for number in first..end {
+        if !performs(cell, steps, heap, number) {
+            return false;
         }
     }
-    Some(steps)
+    for number in first..end {
+        if !is_taken(cell, steps, number) {
+            return false;
+        }
+    }
+    true
+}
+
+// Requests of so many numbers, which bring the log to 4,003 steps, and so many more that all wait before the first of them is served: when
+// the next one arrives, three times as many steps have to go.
+fn is_filled<'a>(
+    cell: &mut Cell<'a>,
+    steps: &mut Steps<'a>,
+    heap: Heap<'a>,
+    served: u64,
+    more: u64,
+) -> bool {
+    let end = served.saturating_add(more);
+    attaches(cell, steps)
+        && all_arrive(cell, steps, heap, 0, served)
+        && each_is_served(cell, steps, heap, 0, served)
+        && all_arrive(cell, steps, heap, served, end)
+        && all_are_served(cell, steps, heap, served, end)
+}
+
+// One request more, and so much work is done besides.
+fn goes_on<'a>(
+    cell: &mut Cell<'a>,
+    steps: &mut Steps<'a>,
+    heap: Heap<'a>,
+    number: u64,
+    most: usize,
+) -> bool {
+    let arrived = arrives(cell, steps, heap, number);
+    cell.catch_up(most);
+    arrived
+        && performs(cell, steps, heap, number)
+        && is_taken(cell, steps, number)
+        && is_kept(cell, steps.len() as u64)
+}
+
+// Some requests one by one.
+fn all_go_on<'a>(cell: &mut Cell<'a>, steps: &mut Steps<'a>, heap: Heap<'a>, most: usize) -> bool {
+    for number in 1900..1950u64 {
+        if !goes_on(cell, steps, heap, number, most) {
+            return false;
+        }
+    }
+    true
 }
 
 // Whether all these steps are made.
-fn makes<'a>(heap: Heap<'a>, lone: &mut LoneExport<'a>, steps: &[Step<Heap<'a>>]) -> bool {
+fn makes<'a>(lone: &mut LoneExport<'a>, heap: Heap<'a>, steps: &[Step<Heap<'a>>]) -> bool {
     let mut answers = Vec::new(heap);
     lone.replay_all(steps, &mut answers) == Ok(steps.len())
 }
 
 // The bytes of an export alone once these steps are made go behind these.
 fn folds_into<'a>(heap: Heap<'a>, steps: &[Step<Heap<'a>>], bytes: &mut Vec<u8, Heap<'a>>) -> bool {
-    match alone(heap, WIDE) {
-        Some(mut lone) => makes(heap, &mut lone, steps) && read_into(lone.image(), bytes),
+    match alone(heap, &settings()) {
+        Some(mut lone) => makes(&mut lone, heap, steps) & read_into(lone.image(), bytes),
+        None => false,
+    }
+}
+
+// The bytes of the base go behind these, where all of its steps are made.
+fn base_into<'a>(cell: &Cell<'a>, bytes: &mut Vec<u8, Heap<'a>>) -> bool {
+    match cell.base().image() {
+        Some(image) => read_into(image, bytes),
         None => false,
     }
 }
 
 // Whether the base, all of whose steps are made, is what those steps come to that aren't in the log.
-fn is_fold<'a>(
-    heap: Heap<'a>,
-    piece: &Payload<Heap<'a>>,
-    cell: &Cell<'a>,
-    rows: &[Row<'_>],
-) -> bool {
-    let (mut own, mut other) = (Vec::new(heap), Vec::new(heap));
-    let Some(steps) = steps_of(heap, piece, rows, cell.base().steps()) else {
-        return false;
+fn is_fold<'a>(cell: &Cell<'a>, steps: &[Step<Heap<'a>>], heap: Heap<'a>) -> bool {
+    let mut own = Vec::new(heap);
+    let mut other = Vec::new(heap);
+    let read = base_into(cell, &mut own);
+    let folded = match steps.get(..cell.base().steps() as usize) {
+        Some(first) => folds_into(heap, first, &mut other),
+        None => false,
     };
-    let folded = folds_into(heap, steps.as_slice(), &mut other);
-    folded
-        && steps.len() as u64 == cell.base().steps()
-        && base_into(cell, &mut own)
-        && own.len() as u64 == SIZE
-        && own.as_slice() == other.as_slice()
+    read & folded & (own.len() == SIZE) & (own.as_slice() == other.as_slice())
 }
 
-// Whether rows are answered so, and the base comes to a fold of them.
-fn goes_as_a_fold(heap: Heap, rows: &[Row<'_>]) -> bool {
-    let (Some(piece), Some(mut cell)) = (piece_of(heap), opened(heap, WIDE, 0)) else {
-        return false;
-    };
-    first_wrong(heap, &piece, &mut cell, rows) == 0 && is_fold(heap, &piece, &cell, rows)
+// Whether all are made at last, and the base comes to that fold.
+fn ends_as_fold<'a>(cell: &mut Cell<'a>, steps: &Steps<'a>, heap: Heap<'a>) -> bool {
+    cell.catch_up(usize::MAX);
+    is_fold(cell, steps.as_slice(), heap)
 }
 
-fn is_queued_so(alloc: Global, most: Option<usize>) -> bool {
-    let heap = Refusing::new(alloc, 0);
-    let mut rows = Vec::new(alloc);
-    let noted = match most {
-        Some(most) => comes_to_a_fold(&mut rows, most),
-        None => is_bounded(&mut rows),
-    };
-    noted && goes_as_a_fold(&heap, rows.as_slice())
+// Whether the base comes to that fold where so much work is done besides.
+fn is_folded<'a>(cell: &mut Cell<'a>, steps: &mut Steps<'a>, heap: Heap<'a>, most: usize) -> bool {
+    is_filled(cell, steps, heap, 700, 1200)
+        && cell.base().queued() == 0
+        && all_go_on(cell, steps, heap, most)
+        && waits(cell) == (most < 50)
+        && ends_as_fold(cell, steps, heap)
+}
+
+fn waits(cell: &Cell<'_>) -> bool {
+    cell.base().queued() > 0 && cell.base().image().is_none()
+}
+
+fn comes_to_a_fold(alloc: Global, most: usize) -> bool {
+    holds(alloc, &settings(), &Queueing::ComesToAFold(most))
 }
 
 #[test]
 fn queued_steps_come_to_a_fold(rt: HostRuntime) {
-    for most in [0, 1, 7, 1000, usize::MAX] {
-        assert!(rt; is_queued_so(rt.alloc(), Some(most)), "at {most}");
-    }
+    assert!(rt; comes_to_a_fold(rt.alloc(), 0));
+    assert!(rt; comes_to_a_fold(rt.alloc(), 1));
+    assert!(rt; comes_to_a_fold(rt.alloc(), 7));
+    assert!(rt; comes_to_a_fold(rt.alloc(), 1000));
+    assert!(rt; comes_to_a_fold(rt.alloc(), usize::MAX));
+}
+
+// Whether 8,192 of 11,908 steps are queued that left the log at once, and some of them are made with the next arrival.
+fn is_queued<'a>(cell: &mut Cell<'a>, steps: &mut Steps<'a>, heap: Heap<'a>) -> bool {
+    is_filled(cell, steps, heap, 0, 4000)
+        && arrives(cell, steps, heap, 4000)
+        && counts(cell) == (16004, 4096, 11908)
+        && cell.base().queued() == 8192
+        && arrives(cell, steps, heap, 4001)
+        && cell.base().queued() < 8192
+        && ends_as_fold(cell, steps, heap)
 }
 
 #[test]
 fn a_queue_has_8192_steps(rt: HostRuntime) {
-    assert!(rt; is_queued_so(rt.alloc(), None));
+    assert!(rt; holds(rt.alloc(), &settings(), &Queueing::IsBounded));
 }
 
-// Whether the last row's request arrives where this growth is refused, at the second time where the first found no memory.
+// Whether request 1,300 arrives where a growth is refused, which leaves all as it was.
+fn comes_at_last<'a>(cell: &mut Cell<'a>, heap: Heap<'a>, nth: u64) -> bool {
+    match request_of(heap, 1300) {
+        Some(request) => {
+            heap.arm(nth);
+            insists(cell, 1, request)
+        }
+        None => false,
+    }
+}
+
 fn arrives_at_last<'a>(
-    heap: Heap<'a>,
-    piece: &Payload<Heap<'a>>,
     cell: &mut Cell<'a>,
-    last: &Row<'_>,
+    steps: &mut Steps<'a>,
+    heap: Heap<'a>,
     nth: u64,
 ) -> bool {
-    let (call, wanted) = *last;
-    let Some((session, request)) = request_of(heap, piece, call) else {
-        return false;
-    };
-    let before = state_of(cell);
-    heap.arm(nth);
-    let told = arrived(cell, session, request);
-    if told == wanted {
-        return true;
-    }
-    told.0 == "no memory" && !heap.is_armed() && is_told_again(heap, piece, cell, last, before)
+    is_kept(cell, steps.len() as u64)
+        && cell.live().waiting() == 0
+        && notes(steps, heap, 1300)
+        && comes_at_last(cell, heap, nth)
 }
 
-// Whether steps stay queued where memory is refused, and all are made once it isn't. The fold takes memory as well: what is left to
-// be refused then is no matter.
-fn ends_as_fold<'a>(
-    heap: Heap<'a>,
-    piece: &Payload<Heap<'a>>,
+// Whether steps stay queued where memory is refused, and all are made once it isn't.
+fn catches_up_at_last(cell: &mut Cell<'_>, steps: u64) -> bool {
+    cell.catch_up(usize::MAX);
+    let same = is_kept(cell, steps);
+    cell.catch_up(usize::MAX);
+    same & is_kept(cell, steps)
+}
+
+// Whether all comes to the same with a refusal from the arrival on that queues a thousand steps. They want memory too: the READs among them
+// are performed beside others, so that their data are read.
+fn is_queued_at_last<'a>(
     cell: &mut Cell<'a>,
-    rows: &[Row<'_>],
+    steps: &mut Steps<'a>,
+    heap: Heap<'a>,
+    nth: u64,
 ) -> bool {
-    let kept = [(Call::Kept, ("kept", 5204, 1, 0))];
-    cell.catch_up(usize::MAX);
-    let stays = first_wrong(heap, piece, cell, &kept) == 0;
-    cell.catch_up(usize::MAX);
+    is_filled(cell, steps, heap, 900, 400)
+        && arrives_at_last(cell, steps, heap, nth)
+        && catches_up_at_last(cell, steps.len() as u64)
+        && is_fold_unarmed(cell, steps.as_slice(), heap)
+}
+
+// The fold takes memory as well: what is left to be refused then is no matter.
+fn is_fold_unarmed<'a>(cell: &Cell<'a>, steps: &[Step<Heap<'a>>], heap: Heap<'a>) -> bool {
     let armed = heap.is_armed();
     heap.arm(0);
-    let made = first_wrong(heap, piece, cell, &kept) == 0 && is_fold(heap, piece, cell, rows);
-    heap.arm(u64::from(armed));
-    stays && made
+    let same = is_fold(cell, steps, heap);
+    heap.arm(armed as u64);
+    same
 }
 
-fn is_queued_at_last<'a>(
-    heap: Heap<'a>,
-    piece: &Payload<Heap<'a>>,
-    cell: &mut Cell<'a>,
-    rows: &[Row<'_>],
-    nth: u64,
-) -> bool {
-    let end = rows.len().saturating_sub(1);
-    let (Some(last), Some(before)) = (rows.last(), rows.get(..end)) else {
-        return false;
-    };
-    first_wrong(heap, piece, cell, before) == 0
-        && cell.live().waiting() == 0
-        && arrives_at_last(heap, piece, cell, last, nth)
-        && ends_as_fold(heap, piece, cell, rows)
-}
-
-fn queue_grows(heap: Heap, rows: &[Row<'_>], nth: u64) -> bool {
-    heap.arm(0);
-    match (piece_of(heap), opened(heap, WIDE, 0)) {
-        (Some(piece), Some(mut cell)) => is_queued_at_last(heap, &piece, &mut cell, rows, nth),
-        _ => false,
-    }
-}
-
-// How many growths there are, each of which was refused in turn. 0 where something was wrong, or there is no end.
-fn growths_of(heap: Heap, rows: &[Row<'_>]) -> u64 {
-    for nth in 1..1000u64 {
-        if !queue_grows(heap, rows, nth) {
-            return 0;
-        }
-        if heap.is_armed() {
-            return nth - 1;
-        }
-    }
-    0
-}
-
-// From the arrival on that queues a thousand steps. They want memory too: the READs among them are performed beside others, so that
-// their data are read.
 #[test]
 fn each_growth_of_the_queue_is_refused_in_turn(rt: HostRuntime) {
-    let heap = Refusing::new(rt.alloc(), 0);
-    let mut rows = Vec::new(rt.alloc());
-    assert!(rt; is_filled(&mut rows, 900, 400) && arrives(&mut rows, 1300));
-    assert!(rt; growths_of(&heap, rows.as_slice()) >= 10);
+    let wrong = first_wrong(rt.alloc(), &settings(), &Queueing::Grows, false, 10);
+    assert!(rt; wrong == 0, "at {wrong}");
+}
+
+// Whether requests of such a kind and length are so much work.
+fn are_work(cases: &[(u16, u32, usize)]) -> bool {
+    for case in cases {
+        let (kind, length, work) = *case;
+        if work_of(head_of(kind, length)) != work {
+            return false;
+        }
+    }
+    true
+}
+
+// What each kind of request is, and what its arrival works off.
+#[test]
+fn work_is_counted_in_pages(rt: HostRuntime) {
+    let cases: [(u16, u32, usize); 6] = [
+        (READ, 33_554_432, 0),
+        (FLUSH, 0, 0),
+        (CACHE, u32::MAX, 0),
+        (WRITE, 33_554_432, 8193),
+        (TRIM, 268_435_456, 65),
+        (WRITE_ZEROES, 4095, 1),
+    ];
+    assert!(rt; are_work(&cases));
+    assert!(rt; allowance_of(head_of(READ, 4096)) == 72);
+    assert!(rt; allowance_of(head_of(WRITE, 4096)) == 76);
 }

@@ -87,10 +87,13 @@ pub fn is_replayed<'a>(
     }
 }
 
-fn is_replayed_whole<'a>(heap: Heap<'a>, lone: &mut Alone<'a>, plain: Global) -> bool {
-    let replayed = is_replayed(heap, lone, plain, GONE_BEFORE_ITS_WRITE, 16, 0);
+#[test]
+fn a_list_of_steps_is_replayed(rt: HostRuntime) {
+    let heap = Refusing::new(rt.alloc(), 0);
+    let mut lone = opened(&heap, PLAIN, 0).expect(&rt, "memory");
+    let replayed = is_replayed(&heap, &mut lone, rt.alloc(), GONE_BEFORE_ITS_WRITE, 16, 0);
+    assert!(rt; replayed && lone.steps() == 12);
     lone.laws();
-    replayed && lone.steps() == 12
 }
 
 // As many are in service as may be.
@@ -104,30 +107,12 @@ const ONE_IN_SERVICE: [Row; 6] = [
 ];
 
 // A replay stops before a pick where as many are in service as may be.
-fn stops_before_a_pick<'a>(heap: Heap<'a>, lone: &mut Alone<'a>, plain: Global) -> bool {
-    let replayed = is_replayed(heap, lone, plain, &ONE_IN_SERVICE, 4, 0);
-    replayed && lone.waiting() == 1 && !lone.may_pick() && !lone.may_replay(&Step::Pick)
-}
-
-// The first of an export in whose service 32 may be, the second of one with one.
-fn are_replayed_so(plain: Global) -> (bool, bool) {
-    let heap = Refusing::new(plain, 0);
-    let whole = match opened(&heap, PLAIN, 0) {
-        Some(mut lone) => is_replayed_whole(&heap, &mut lone, plain),
-        None => false,
-    };
-    let stops = match opened(&heap, (4096, 0, 1024, 256, 1), 0) {
-        Some(mut lone) => stops_before_a_pick(&heap, &mut lone, plain),
-        None => false,
-    };
-    (whole, stops)
-}
-
 #[test]
-fn a_list_of_steps_is_replayed(rt: HostRuntime) {
-    let (whole, stops) = are_replayed_so(rt.alloc());
-    assert!(rt; whole, "all of it");
-    assert!(rt; stops, "no more are picked than may be");
+fn no_more_are_picked_than_may_be(rt: HostRuntime) {
+    let heap = Refusing::new(rt.alloc(), 0);
+    let mut lone = opened(&heap, (4096, 0, 1024, 256, 1), 0).expect(&rt, "memory");
+    assert!(rt; is_replayed(&heap, &mut lone, rt.alloc(), &ONE_IN_SERVICE, 4, 0));
+    assert!(rt; lone.waiting() == 1 && !lone.may_pick() && !lone.may_replay(&Step::Pick));
 }
 
 #[test]

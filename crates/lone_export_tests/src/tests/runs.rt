@@ -26,7 +26,7 @@ pub const GONE_BEFORE_ITS_WRITE: &[Row] = &[
     (Call::Gone(1), ("gone", 0, 0, 0)),
 ];
 
-const RUNS: [Run; 15] = [
+const RUNS: [Run; 14] = [
     (
         "with ten requests a second, three at one moment get tags a tenth of a second apart",
         (4096, 10, 1024, 256, 32),
@@ -259,23 +259,24 @@ const RUNS: [Run; 15] = [
             (Call::Take(0), ("empty", 0, 0, 0)),
         ],
     ),
-    // The FLUSH was done before: its reply is taken first.
-    (
-        "no READ is skipped behind a reply",
-        SMALL,
-        &[
-            (Call::Attach, ("session", 0, 0, 0)),
-            (Call::Read(0, 0, 7, 8), ("accepted", 0, 0, 0)),
-            (Call::Flush(8), ("accepted", 1, 0, 0)),
-            (Call::Pick, ("request", 0, 0, 0)),
-            (Call::Pick, ("request", 1, 0, 0)),
-            (Call::Perform(1), ("performed", 1, 0, 0)),
-            (Call::IsReading(0), ("reading", 1, 0, 0)),
-            (Call::Skip(0, 0), ("skipped", 0, 0, 0)),
-            (Call::Steps, ("steps", 6, 0, 0)),
-        ],
-    ),
 ];
+
+// The FLUSH was done before: its reply is taken first.
+const NONE_BEHIND_A_REPLY: Run = (
+    "no READ is skipped behind a reply",
+    SMALL,
+    &[
+        (Call::Attach, ("session", 0, 0, 0)),
+        (Call::Read(0, 0, 7, 8), ("accepted", 0, 0, 0)),
+        (Call::Flush(8), ("accepted", 1, 0, 0)),
+        (Call::Pick, ("request", 0, 0, 0)),
+        (Call::Pick, ("request", 1, 0, 0)),
+        (Call::Perform(1), ("performed", 1, 0, 0)),
+        (Call::IsReading(0), ("reading", 1, 0, 0)),
+        (Call::Skip(0, 0), ("skipped", 0, 0, 0)),
+        (Call::Steps, ("steps", 6, 0, 0)),
+    ],
+);
 
 // A mark that tells of no memory is kept: a READ and a WRITE are told so, and a FLUSH, which wants none, is done.
 const KEEPS_ITS_MARK: Run = (
@@ -313,32 +314,21 @@ fn first_wrong_of(heap: Heap, run: &Run, by_replay: bool) -> usize {
     }
 }
 
-// By calls, where it goes by these too, and by replays.
-fn wrong_of(alloc: Global, run: &Run, by_calls: bool) -> usize {
-    let heap = Refusing::new(alloc, 0);
-    let wrong = if by_calls {
-        first_wrong_of(&heap, run, false)
-    } else {
-        0
-    };
-    if wrong != 0 {
-        return wrong;
-    }
-    first_wrong_of(&heap, run, true)
-}
-
 #[test]
 fn runs_go_as_they_say(rt: HostRuntime) {
+    let heap = Refusing::new(rt.alloc(), 0);
     for run in &RUNS {
-        let wrong = wrong_of(rt.alloc(), run, true);
-        assert!(rt; wrong == 0, "{}: call {wrong}", run.0);
+        let made = first_wrong_of(&heap, run, false);
+        let remade = first_wrong_of(&heap, run, true);
+        assert!(rt;
+            made == 0 && remade == 0,
+            "{}: call {made}, by replay {remade}",
+            run.0
+        );
     }
-}
-
-#[test]
-fn a_replay_keeps_its_mark(rt: HostRuntime) {
-    let wrong = wrong_of(rt.alloc(), &KEEPS_ITS_MARK, false);
-    assert!(rt; wrong == 0, "call {wrong}");
+    assert!(rt; first_wrong_of(&heap, &NONE_BEHIND_A_REPLY, false) == 0);
+    assert!(rt; first_wrong_of(&heap, &NONE_BEHIND_A_REPLY, true) == 0);
+    assert!(rt; first_wrong_of(&heap, &KEEPS_ITS_MARK, true) == 0);
 }
 
 // The calls behind 64 sessions.
@@ -360,17 +350,9 @@ fn attaches_64(lone: &mut Alone) -> bool {
     true
 }
 
-fn finds_no_65th(alloc: Global) -> bool {
-    let heap = Refusing::new(alloc, 0);
-    match opened(&heap, PLAIN, 0) {
-        Some(mut lone) => {
-            attaches_64(&mut lone) && first_wrong(&heap, &mut lone, &FULL, false) == 0
-        }
-        None => false,
-    }
-}
-
 #[test]
 fn the_65th_session_finds_no_place(rt: HostRuntime) {
-    assert!(rt; finds_no_65th(rt.alloc()));
+    let heap = Refusing::new(rt.alloc(), 0);
+    let mut lone = opened(&heap, PLAIN, 0).expect(&rt, "memory");
+    assert!(rt; attaches_64(&mut lone) && first_wrong(&heap, &mut lone, &FULL, false) == 0);
 }
