@@ -5,12 +5,13 @@ cd "$(dirname "$0")/.." || exit 2
 tick=$(printf '\140')
 words=$(mktemp) && trap 'rm -f "$words"' EXIT
 find crates \( -name '*.antt' -o -name '*.rt' \) -exec cat {} + | grep -oE '[A-Za-z_][A-Za-z_0-9]*' | sort -u > "$words"
-awk '
+# Each item of a list on one line.
+awk '/^  [^ -]/ && line ~ /^- / { line = line " " substr($0, 3); next } NR > 1 { print line } { line = $0 } END { print line }' docs/MODEL.md | awk '
     /^## / { crate = $2 }
     /^- \**`/ { print "line", crate, $0 }
     { rest = $0
       while (match(rest, /`[A-Za-z_:]+`/)) { print "name", substr(rest, RSTART + 1, RLENGTH - 2); rest = substr(rest, RSTART + RLENGTH) } }
-' docs/MODEL.md | sort -u | (
+' | sort -u | (
     bad=0 seen=0
     while read -r kind crate rest; do
         seen=$((seen + 1))
