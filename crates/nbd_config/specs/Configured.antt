@@ -37,18 +37,18 @@ module _ {A E B : Type 0} where
 abbrev pub allowed : List Export → Export → Result Export Reason
 allowed earlier export = when_some (first_refusal earlier export) (λ refusal. Err (Value refusal)) (Ok export)
 
--- the export that a value says, or why it says none
-abbrev pub said_by : Data → Result Export Reason
-said_by (table members) =
+-- the export that a value asks for, or why it asks for none
+abbrev pub export_asked : Data → Result Export Reason
+export_asked (table members) =
     if not (all_members fits_export members) then Err BadEntry
     else when_some (export_in members) Ok (Err MissingKey)
-said_by value = Err BadEntry
+export_asked value = Err BadEntry
 
 -- behind earlier exports
 abbrev pub next_export : List Export → Data → Result Export Reason
-next_export earlier value = by_result (said_by value) (allowed earlier) Err
+next_export earlier value = by_result (export_asked value) (allowed earlier) Err
 
--- earlier exports and those that these values say, or the first refusal
+-- earlier exports and those that these values ask for, or the first refusal
 abbrev pub exports_behind : List Export → List Data → Result (List Export) FileRefusal
 exports_behind earlier [] = Ok earlier
 exports_behind earlier (value ∷ more) =

@@ -6,7 +6,7 @@ ghost use Rattle.toml.specs.Errors.{IsMemory};
 ghost use Rattle.toml.specs.View.{view, table_view};
 ghost use Rattle.nbd_commands.specs.Refusals.{asked, is_outside};
 ghost use Rattle.nbd_config.specs.Entries.{values_of};
-ghost use Rattle.nbd_config.specs.Configured.{configured_by, configured, top_refusal, exports_behind, next_export, said_by, IsNext, IfRefused, refused};
+ghost use Rattle.nbd_config.specs.Configured.{configured_by, configured, top_refusal, exports_behind, next_export, export_asked, IsNext, IfRefused, refused};
 
 use crate::entries::{export_in, exports_at, inflight_at, is_fit};
 use crate::refusals::{FileError, FileRefusal, Place, Reason};
@@ -102,7 +102,7 @@ fn exports_of<A: Allocator + Copy>(alloc: A, values: &[Value]) -> Result<ExportL
     Ok(list)
 }
 
-/// Adds the export that a value says.
+/// Adds the export that a value asks for.
 fn add_export<A: Allocator + Copy>(
     at: usize,
     value: &Value,
@@ -113,7 +113,7 @@ fn add_export<A: Allocator + Copy>(
         ≡ Err refusal.reason) × (refusal.place ≡ Place.Export at))) }
 {
     let place = Place::Export(at);
-    let settings = match said_by(at, value) {
+    let settings = match export_asked(at, value) {
         Ok(settings) => settings,
         Err(reason) => return Err(refused(place, reason)),
     };
@@ -124,9 +124,9 @@ fn add_export<A: Allocator + Copy>(
     }
 }
 
-/// The settings that a value says, or why it says none.
-fn said_by(at: usize, value: &Value) -> Result<ExportSettings<'_>, Reason>
-    ensures { result_map_both asked (λ reason. reason) result ≡ said_by (view value.now) }
+/// The settings that a value asks for, or why it asks for none.
+fn export_asked(at: usize, value: &Value) -> Result<ExportSettings<'_>, Reason>
+    ensures { result_map_both asked (λ reason. reason) result ≡ export_asked (view value.now) }
 {
     let Some(table) = value.as_table() else {
         return Err(Reason::BadEntry);

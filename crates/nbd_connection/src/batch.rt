@@ -1,4 +1,4 @@
-//! What a reader hands in under one hold of the server.
+//! What a reader hands in under one hold.
 
 use crate::feed::Feed;
 use crate::outlet::Outlet;
@@ -21,20 +21,20 @@ use std::sync::{MutexGuard, Wait};
 use std::time;
 use tag_clock::Clock;
 
-/// Where a reader has its requests from, and what it keeps for its holds of the server.
+/// Where a reader gets its requests, and what it keeps from hold to hold.
 #[derive(Drop)]
 pub struct RequestSource<'a, 'b, R: Wait + time::Clock> {
     pub frames: FrameReader<Feed<'a, 'b, R>, Global>,
     pub wakeups: Wakeups,
-    /// Empty but while the server is let go.
+    /// What a hold took out of the images, to be let go behind it. Empty otherwise.
     pub outdated: Outdated<Global>,
 }
 
-/// What is offered first.
+/// What a reader offers first under a hold.
 #[derive(Drop)]
 pub enum Offer {
     Read(Frame<Global>),
-    /// What was held before.
+    /// A request that was handed back before, since its session's window was full.
     Again(Request<Global>),
 }
 
@@ -48,12 +48,12 @@ impl Offer {
     }
 }
 
-/// What a reader's hold of the server came to.
+/// What a reader's hold came to.
 #[derive(Drop)]
 pub struct BatchOutcome {
     /// The last of its turns.
     pub turn: Turn<Global>,
-    /// The size of what each of its turns handed in. Nothing where that isn't the same.
+    /// The size of all requests that it handed in. Nothing where they differ.
     pub size: RequestSize,
     /// Why no more replies were taken after it. None where the writer takes them.
     pub stop: Option<Stop>,
@@ -131,8 +131,8 @@ impl<'a, 'b, R: Wait + time::Clock> RequestSource<'a, 'b, R> {
         })
     }
 
-    /// Hands in what is offered and the requests that were read besides, so many at most, until requests of two sizes meet, a long
-    /// range was made zeros, or another session's request was performed.
+    /// Hands in what is offered and the requests that are ready behind it, so many at most. It ends sooner where requests of two sizes
+    /// meet, behind a long range of zeros, once it performed another session's request, or where many bytes are under way.
     pub fn hand_in_batch<L: Ledger, C: Clock>(
         &mut self,
         disks: &mut Disks<L>,
@@ -177,9 +177,10 @@ impl<'a, 'b, R: Wait + time::Clock> RequestSource<'a, 'b, R> {
         batch
     }
 
-    /// What follows a turn under the same hold: a request other than a READ of long data is performed, and its reply taken,
+    /// What follows a turn under the same hold: it performs the request, unless that is a READ of long data, and takes its reply,
     /// where the outlet is at hand. So the steps of a request stand side by side in its export's log, and those of a READ go into
-    /// the base without its data. Who asked is noted only where the request stays: whoever performs it has to know.
+    /// the base without its data. It notes who asked only where the request stays: whoever performs it later has to know. False
+    /// where it stays.
     fn follow<L: Ledger, C: Clock>(
         &mut self,
         disks: &mut Disks<L>,

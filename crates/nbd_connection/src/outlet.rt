@@ -1,6 +1,6 @@
 //! Where a session's replies go out.
 
-use crate::port::{Port, is_late};
+use crate::port::{Port, is_timeout};
 use crate::under_way::BytesUnderWay;
 use nbd_base::NoMemory;
 use nbd_service::policy::{OUTLET_BYTES, TAKEN_REPLIES, may_keep, suits_reader};
@@ -163,7 +163,7 @@ impl<'a> Outlet<'a> {
                 self.stuck = false;
                 FlushOutcome::All
             }
-            Err(error) if is_late(&error) => {
+            Err(error) if is_timeout(&error) => {
                 self.stuck = true;
                 FlushOutcome::Part
             }

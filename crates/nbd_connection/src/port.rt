@@ -17,7 +17,7 @@ pub struct Port<'a> {
     patient: &'a AtomicBool,
     interactive: &'a InteractiveLoad,
     under_way: &'a BytesUnderWay<'a>,
-    // Rung where the client doesn't read, and what its writer would have chosen is left to the workers.
+    // Rung where the client doesn't read, so that the workers choose what its writer would have chosen.
     work: &'a Bell,
 }
 
@@ -46,7 +46,7 @@ impl Write for Port<'_> {
             match peer.write(buf) {
                 Err(error)
                     if self.patient.load(Ordering::SeqCst)
-                        && is_late(&error)
+                        && is_timeout(&error)
                         && !is_stalled(waits) => {
                     self.under_way.note_unread(true);
                     self.work.ring_one();
@@ -67,6 +67,6 @@ impl Write for Port<'_> {
 }
 
 /// Whether a write failed since the client didn't read in time.
-pub fn is_late(error: &io::Error) -> bool {
+pub fn is_timeout(error: &io::Error) -> bool {
     error.kind() == ErrorKind::WouldBlock
 }

@@ -35,7 +35,7 @@ pub fn make_ready<L: Ledger, R: Wait + time::Clock>(
     link.replies.ring();
 }
 
-/// One hold of the server: the reply that is there, or that of a request performed under it.
+/// One hold: it takes the reply that is there, or that of a request which it performs.
 fn take_or_serve<L: Ledger, R: Wait + time::Clock>(
     rt: &R,
     service: &Service<L>,

@@ -19,9 +19,9 @@ use std::time;
 use std::time::Duration;
 use tag_clock::{Clock, Moment};
 
-/// Reads requests until there are no more. Each goes in under one hold of the server, with others that are at hand, and is
-/// performed under it where the server chooses it first or second; READs of long data are left to the writer. Replies that
-/// are there by then and short the reader writes itself; others it leaves to the writer.
+/// Reads requests until the client sends no more. One hold hands in a request and those that are ready behind it, and performs
+/// each that the scheduler chooses first or second, but for long READs, which are the writer's. The reader writes short replies
+/// itself, and leaves others to the writer.
 pub fn read_requests<'s, E, L: Ledger, R: Wait + Sync + time::Clock>(
     rt: &'s R,
     scope: &Scope<'s, E>,
@@ -84,7 +84,8 @@ fn wait_for_retune<R: Wait + time::Clock>(rt: &R, link: &SessionLink<'_>) {
     }
 }
 
-/// The reader is about to wait for something else than its client: no export waits for this one, and what it wrote is sent.
+/// Before the reader waits for something else than its client: nobody waits for this session in the order of turns from now on,
+/// and the writer sends what the reader wrote.
 fn rest<R: Wait + time::Clock>(rt: &R, link: &SessionLink<'_>) {
     link.seat.leave(rt, false);
     link.replies.ring();
@@ -112,8 +113,8 @@ fn set_reading_ahead<'s, E, R: Wait + Sync>(
     link.ahead.start();
 }
 
-/// One hold of the server, and what follows from it. Tells its last turn, and whether the client's bytes are to be read ahead: it
-/// sends long WRITEs, and no other does.
+/// Makes one hold, and does what follows from it. Answers the hold's last turn, and whether the client's bytes are to be read ahead:
+/// this session sends long WRITEs, and no other does.
 fn read_on<L: Ledger, R: Wait + time::Clock>(
     rt: &R,
     service: &Service<L>,
@@ -160,7 +161,7 @@ fn read_on<L: Ledger, R: Wait + time::Clock>(
     (batch.turn, ahead)
 }
 
-/// Hands in what is offered, and requests that were read besides, under one hold of the server.
+/// Hands in what is offered, and requests that are ready behind it, under one hold.
 fn hold_once<L: Ledger, R: Wait + time::Clock>(
     rt: &R,
     service: &Service<L>,

@@ -22,15 +22,15 @@ use std::time::Duration;
 pub struct SessionLink<'a> {
     pub(crate) session: SessionId,
     pub peer: &'a TcpStream,
-    /// Whoever holds the server as well has locked this first, and nobody waits for it while it holds the server.
+    /// Whoever has the server's lock as well took this one first, and nobody waits for this one under the server's.
     pub(crate) outlet: Mutex<Outlet<'a>>,
-    /// Nobody waits for it while it holds the server.
+    /// Nobody waits for its lock under the server's.
     pub(crate) ready: ReadyReplies,
-    /// Nobody waits for it while it holds the server.
+    /// Nobody waits for its lock under the server's.
     pub ahead: ReadAhead,
     /// Rung where the session has a reply, or has left.
     pub(crate) replies: &'a Bell,
-    /// The sessions that ask for little.
+    /// The interactive sessions.
     pub(crate) interactive: &'a InteractiveLoad,
     pub(crate) seat: TurnSeat<'a>,
     pub(crate) bytes: &'a BytesUnderWay<'a>,
@@ -38,7 +38,7 @@ pub struct SessionLink<'a> {
     pub(crate) gate: &'a RetuneGate,
     /// Rung where a reply was taken.
     pub(crate) room: Bell,
-    /// Whether its holds of the server are long.
+    /// Whether its holds are long.
     bulk: AtomicBool,
     /// Whether the reader wrote replies and didn't send them.
     kept: AtomicBool,
@@ -97,7 +97,7 @@ impl<'a> SessionLink<'a> {
         }
     }
 
-    /// The session asks for so much.
+    /// Notes how much the session asks for.
     pub fn note_load(&self, load: Load) {
         let bulk = load == Load::Bulk;
         if self.is_bulk() != bulk {
@@ -128,7 +128,7 @@ impl<'a> SessionLink<'a> {
         }
     }
 
-    /// Whether it asked for much when that was noted last.
+    /// Whether it is a bulk session, as noted last.
     pub fn is_bulk(&self) -> bool {
         self.bulk.load(Ordering::SeqCst)
     }

@@ -11,7 +11,7 @@ use std::time;
 use std::time::Instant;
 use tag_clock::Clock;
 
-/// A session's place in the order of turns. Its reader waits there before it hands requests in, while no lock is held.
+/// A session's place in the order of turns. Its reader waits there before it hands requests in, and has no lock meanwhile.
 #[derive(Drop)]
 pub struct TurnSeat<'a> {
     turns: &'a Turns,
@@ -52,10 +52,10 @@ impl<'a> TurnSeat<'a> {
         }
     }
 
-    /// Waits for the turn of a request and of those that are ready behind it, so many at most in all, while so many of the session are
-    /// under way. Some go on without it, and are charged with the next that asks. A session that mostly has one request at a time
-    /// doesn't count as one that has something at hand: others needn't stop for it, whom it would have to wake behind each of its
-    /// requests. Long READs mostly come one at a time, one behind each reply, so those that are under way tell.
+    /// Waits for the turn of a request and of those that are ready behind it, `most` at most in all, while `under_way` of the session
+    /// are under way. Some requests go on without asking; the next that asks is charged with them. A session that mostly has one
+    /// request at a time doesn't count as one that has something at hand: others would stop for it, and it would have to wake them
+    /// behind each of its requests. A client of long READs mostly sends one behind each reply, so those that are under way count.
     pub fn wait_for_turn<R: Wait + time::Clock>(
         &self,
         rt: &R,
@@ -99,8 +99,8 @@ impl<'a> TurnSeat<'a> {
             .store(clock.now().nanoseconds(), Ordering::SeqCst);
     }
 
-    /// The next request is a long WRITE or not, others are ready behind it or not, and so many are under way. Tells for how many holds
-    /// the session counts as one that mostly has several.
+    /// Notes whether the next request is a long WRITE, whether others are ready behind it, and how many are under way. Tells for how
+    /// many more holds the session counts as one that mostly has several.
     fn note_at_hand(&self, long_write: bool, ready: bool, under_way: u64) -> u32 {
         let behind = long_write && self.had_input.load(Ordering::SeqCst);
         let keeps_up = self.keeps_up.load(Ordering::SeqCst);
@@ -113,7 +113,7 @@ impl<'a> TurnSeat<'a> {
         backlog
     }
 
-    /// Behind a hold: a session that mostly has one request at a time has nothing at hand.
+    /// After a hold: a session that mostly has one request at a time counts as one that has nothing at hand.
     pub fn end_turn<R: Wait + time::Clock>(&self, rt: &R) {
         let more = self.backlog.load(Ordering::SeqCst) > 0;
         if !more && !self.writes_long.load(Ordering::SeqCst) {
@@ -133,7 +133,7 @@ impl<'a> TurnSeat<'a> {
         }
     }
 
-    /// The same where nothing has come, as is known.
+    /// The same where it is known that nothing has come.
     pub fn wait_for_pieces<R: Wait + time::Clock>(&self, rt: &R, under_way: u64) {
         if !self.is_waited_for() {
             return;

@@ -27,7 +27,7 @@ enum Round {
     Over,
 }
 
-/// What a writer's hold of the server came to.
+/// What a writer's hold came to.
 #[derive(Clone, Copy, Debug, PartialEq, Eq, Drop)]
 struct DrainOutcome {
     /// Why no more replies were taken.
@@ -40,8 +40,8 @@ struct DrainOutcome {
     performed: bool,
 }
 
-/// Writes replies until the session is over, and ends the connection. In between it serves what waits, so that a long reply
-/// is written by who has just made it.
+/// Writes replies until the session is over, and ends the connection. In between it serves what waits, so that the thread which
+/// has just made a long reply writes it.
 pub fn write_replies<L: Ledger, R: Wait + time::Clock>(
     rt: &R,
     service: &Service<L>,
@@ -77,7 +77,7 @@ fn write_all<L: Ledger, R: Wait + time::Clock>(
     }
 }
 
-/// Takes the replies that are there, under one hold of the server, and writes them.
+/// Takes the replies that are there, under one hold, and writes them.
 fn write_on<L: Ledger, R: Wait + time::Clock>(
     rt: &R,
     service: &Service<L>,
@@ -103,7 +103,7 @@ fn write_on<L: Ledger, R: Wait + time::Clock>(
     end_round(rt, service, link, outlet, pass, times, drained, wrote)
 }
 
-/// What a round came to behind whose hold something was written or nothing. Where no more is there, what was written is sent.
+/// What a round came to, in which something was written or nothing. Where no reply is left, it sends what was written.
 fn end_round<L: Ledger, R: Wait + time::Clock>(
     rt: &R,
     service: &Service<L>,
@@ -212,7 +212,7 @@ fn send_ready<L: Ledger, R: Wait + time::Clock>(
     Round::Going
 }
 
-/// Sends what was written. Where nothing more is to be done here, what waits is left to the workers.
+/// Sends what was written. Where the writer has nothing more to do, it leaves what waits to the workers.
 fn send<L: Ledger, R: Wait + time::Clock>(
     rt: &R,
     service: &Service<L>,

@@ -88,17 +88,11 @@ spelled_session (digits ∷ []) = spelled_number digits
 spelled_session _ = Err why.FieldCount
 
 module _ {A : Type 0} where
-  -- with these fields behind the verb `stats`
-  abbrev pub stats_command : List (List ℕ) → Result (Command A) Refused
-  stats_command [] = Ok Stats
-  stats_command (form ∷ []) = if bytes_eq form (codes "prometheus") then Ok Metrics else Err why.UnknownCommand
-  stats_command _ = Err why.FieldCount
-
-  -- with these fields behind the verb `stop`
-  abbrev pub stop_command : List (List ℕ) → Result (Command A) Refused
-  stop_command [] = Ok Stop
-  stop_command (when ∷ []) = if bytes_eq when (codes "now") then Ok StopNow else Err why.UnknownCommand
-  stop_command _ = Err why.FieldCount
+  -- the one command where nothing stands behind its verb, the other where this word does
+  abbrev pub worded_command : List ℕ → Command A → Command A → List (List ℕ) → Result (Command A) Refused
+  worded_command word bare worded [] = Ok bare
+  worded_command word bare worded (field ∷ []) = if bytes_eq field word then Ok worded else Err why.UnknownCommand
+  worded_command word bare worded _ = Err why.FieldCount
 
   -- with these fields behind the verb `sessions`
   abbrev pub sessions_command : List (List ℕ) → Result (Command A) Refused
@@ -121,11 +115,11 @@ module _ {A : Type 0} where
 
   -- what a verb asks for with this text behind it
   abbrev pub asked_by : Option Verb → List ℕ → Result (Command A) Refused
-  asked_by (Some verbs.Stats) text = stats_command (fields_in text)
+  asked_by (Some verbs.Stats) text = worded_command (codes "prometheus") Stats Metrics (fields_in text)
   asked_by (Some verbs.Retune) text = retune_command (trimmed text)
   asked_by (Some verbs.Sessions) text = sessions_command (fields_in text)
   asked_by (Some verbs.Drop) text = drop_command (trimmed text)
-  asked_by (Some verbs.Stop) text = stop_command (fields_in text)
+  asked_by (Some verbs.Stop) text = worded_command (codes "now") Stop StopNow (fields_in text)
   asked_by None text = Err why.UnknownCommand
 
   -- of a text: its first word, and what stands behind that

@@ -4,7 +4,7 @@ ghost use Rattle.std.specs.Prelude.{◌≡◌, ◌≤◌, true, length, IfOk, If
 ghost use Rattle.std.specs.List.{prefix_len};
 ghost use Rattle.toml_parser.specs.Strings.{starts_string, quoted};
 ghost use Rattle.nbd_text.specs.Fields.{fields_in, is_space, texts_of};
-ghost use Rattle.nbd_control.specs.Commands.{allowed_rates, asked_by, command_of, drop_command, ends_field, front_name, front_word, spelled_number, quoted_name, rates_refusal, spelled_rates, retune_command, spelled_session, sessions_command, stats_command, stop_command, spelled_command, trimmed, IfRefused};
+ghost use Rattle.nbd_control.specs.Commands.{allowed_rates, asked_by, command_of, drop_command, ends_field, front_name, front_word, spelled_number, quoted_name, rates_refusal, spelled_rates, retune_command, spelled_session, sessions_command, spelled_command, trimmed, worded_command, IfRefused};
 
 use crate::command::{Command, Rates};
 use crate::name::Name;
@@ -54,11 +54,11 @@ fn read_text<A: Allocator + Copy>(
 {
     let (verb, rest) = front_word(trimmed(text));
     match verb_of(verb.as_bytes()) {
-        Some(Verb::Stats) => stats(alloc, rest),
+        Some(Verb::Stats) => worded(alloc, rest, b"prometheus", Command::Stats, Command::Metrics),
         Some(Verb::Retune) => retune(heap, alloc, trimmed(rest)),
         Some(Verb::Sessions) => sessions(alloc, rest),
         Some(Verb::Drop) => drop_session(heap, alloc, trimmed(rest)),
-        Some(Verb::Stop) => stop(alloc, rest),
+        Some(Verb::Stop) => worded(alloc, rest, b"now", Command::Stop, Command::StopNow),
         None => Err(CommandError::Refused(Refused::UnknownCommand)),
     }
 }
@@ -88,31 +88,23 @@ fn front_word(text: &str) -> (&str, &str)
     }
 }
 
-/// With this text behind the verb `stats`.
-fn stats<A: Allocator + Copy>(alloc: A, text: &str) -> Result<Command<A>, CommandError>
-    ensures read { IfOk result (λ command. stats_command (fields_in text.now) ≡ Ok command) }
+/// The one command where nothing stands behind its verb, the other where this word does.
+fn worded<A: Allocator + Copy>(
+    alloc: A,
+    text: &str,
+    word: &[u8],
+    bare: Command<A>,
+    worded: Command<A>,
+) -> Result<Command<A>, CommandError>
+    ensures read { IfOk result (λ command.
+        worded_command word.now bare worded (fields_in text.now) ≡ Ok command) }
     ensures refused { IfErr result (IfRefused (λ cause.
-        stats_command {A = A} (fields_in text.now) ≡ Err cause)) }
+        worded_command word.now bare worded (fields_in text.now) ≡ Err cause)) }
 {
     let fields = fields_of(alloc, text.as_bytes())?;
     match fields.as_slice() {
-        [] => Ok(Command::Stats),
-        [form] if *form == b"prometheus".as_slice() => Ok(Command::Metrics),
-        [_] => Err(CommandError::Refused(Refused::UnknownCommand)),
-        _ => Err(CommandError::Refused(Refused::FieldCount)),
-    }
-}
-
-/// With this text behind the verb `stop`.
-fn stop<A: Allocator + Copy>(alloc: A, text: &str) -> Result<Command<A>, CommandError>
-    ensures read { IfOk result (λ command. stop_command (fields_in text.now) ≡ Ok command) }
-    ensures refused { IfErr result (IfRefused (λ cause.
-        stop_command {A = A} (fields_in text.now) ≡ Err cause)) }
-{
-    let fields = fields_of(alloc, text.as_bytes())?;
-    match fields.as_slice() {
-        [] => Ok(Command::Stop),
-        [when] if *when == b"now".as_slice() => Ok(Command::StopNow),
+        [] => Ok(bare),
+        [field] if *field == word => Ok(worded),
         [_] => Err(CommandError::Refused(Refused::UnknownCommand)),
         _ => Err(CommandError::Refused(Refused::FieldCount)),
     }

@@ -46,7 +46,7 @@ impl Bells {
         })
     }
 
-    /// A worker looks for work from now on: who rings meanwhile has it look once more.
+    /// A worker looks for work from now on. A ring meanwhile has it look once more.
     pub fn note_looking(&self) {
         self.looks_at.store(LAST_MOMENT_NS, Ordering::SeqCst);
     }
@@ -60,7 +60,7 @@ impl Bells {
         self.looks_at.store(until, Ordering::SeqCst);
     }
 
-    /// Wakes a worker for what waits, unless one looks by then, or a writer chooses it.
+    /// Wakes a worker for what waits, unless a worker looks by the time that it is due, or a writer chooses it.
     pub fn ring_for(&self, waiting: Waiting, writer_chooses: bool) {
         if wakes_worker(
             waiting,
@@ -92,7 +92,7 @@ impl Bells {
         }
     }
 
-    /// A session asked for a request. It is told in time only where the session looks for replies afterwards.
+    /// Notes which session asked for a request. Who performs it wakes that session in time only where it looks for replies after this.
     pub fn note_asker(&self, session: SessionId, request: u64) {
         if let Some(desk) = self.desks.get(session.export as usize) {
             if let Some(asker) = desk.asker(request) {

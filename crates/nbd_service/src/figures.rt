@@ -60,7 +60,7 @@ pub fn tally_of(alloc: Global, config: &Config<Global>) -> Result<Tally<Global>,
 }
 
 impl<L: Ledger> Service<L> {
-    /// How often the server was held by the threads of sessions, and how long.
+    /// How often threads of sessions had the lock, and how long.
     pub fn holds<R: Wait>(&self, rt: &R) -> HoldCount {
         self.shared.hold(rt).tally().holds()
     }

@@ -1,4 +1,4 @@
-//! The clock of one hold of the server.
+//! The clock of one hold.
 
 use tag_clock::{Clock, Moment};
 

@@ -10,7 +10,7 @@ use tag_clock::Moment;
 /// What the threads of a server know of the interactive sessions.
 #[derive(Drop)]
 pub struct InteractiveLoad {
-    // How many of them ask for the server.
+    // How many of them ask for the lock.
     asking: AtomicUsize,
     // When one asked last, in nanoseconds, and whether that was lately, more or less: this is what threads look at all the time.
     latest: AtomicU64,
@@ -27,7 +27,7 @@ impl InteractiveLoad {
         }
     }
 
-    /// One asks for the server, until `end`.
+    /// One asks for the lock, until `end`.
     pub fn begin(&self) {
         self.asking.fetch_add(1, Ordering::SeqCst);
     }
@@ -37,12 +37,12 @@ impl InteractiveLoad {
         self.asking.fetch_sub(1, Ordering::SeqCst);
     }
 
-    /// Whether one asks for the server.
+    /// Whether one asks for the lock.
     pub fn is_asking(&self) -> bool {
         self.asking.load(Ordering::SeqCst) > 0
     }
 
-    /// A session asks for so much.
+    /// Notes how much a session asks for.
     pub fn note(&self, load: Load, now: Moment) {
         match load {
             Load::Interactive => self.expect(now),
@@ -50,7 +50,7 @@ impl InteractiveLoad {
         }
     }
 
-    /// One that asked for little may ask again.
+    /// An interactive session may ask again.
     fn expect(&self, now: Moment) {
         self.latest.store(now.nanoseconds(), Ordering::SeqCst);
         if !self.is_expected() {
@@ -66,7 +66,7 @@ impl InteractiveLoad {
         }
     }
 
-    /// Whether a session asked for little lately.
+    /// Whether an interactive session asked lately.
     pub fn is_expected(&self) -> bool {
         self.expected.load(Ordering::SeqCst)
     }

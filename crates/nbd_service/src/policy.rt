@@ -31,7 +31,7 @@ pub const KEPT_BLOCK_BYTES: usize = 33_550_000;
 /// How many bells the sessions of one export have: as many as may be open at a time.
 pub const SESSION_BELLS: u64 = 64;
 
-/// How many sessions are noted under one hold, to be woken behind it; those that are more are woken at once.
+/// How many sessions a thread notes under one hold, to wake them behind it; it wakes those beyond these at once.
 pub const NOTED_SESSIONS: usize = 16;
 
 /// The last moment that there is, in nanoseconds: some 146 years.
@@ -95,23 +95,23 @@ pub const SHORT_WRITE_BYTES: u32 = 65_535;
 /// a millisecond in all (docs/PERFORMANCE.md), and 1 MiB is 1/256 of that.
 pub const SHORT_ZERO_BYTES: u32 = 1_048_576;
 
-/// How many requests a reader mostly hands in under one hold of the server: what a hold costs is shared by them, and whoever
-/// waits for it waits for no more than these.
+/// How many requests a reader mostly hands in under one hold: they share what a hold costs, and whoever waits for the lock
+/// waits for no more than these.
 pub const BATCH: usize = 8;
 
-/// How many it hands in where it waited long for the server: then each hold is dear.
+/// How many it hands in where it waited long for the lock: then each hold is dear.
 pub const BATCH_AFTER_WAIT: usize = 16;
 
-/// How many nanoseconds are a long wait for the server.
+/// How many nanoseconds are a long wait for the lock.
 pub const LONG_WAIT_NS: u128 = 1_000_000;
 
-/// How many requests are performed at most under the hold in which one was handed in, for that one to be served.
+/// How many requests a reader performs at most behind one that it handed in, under the same hold, for that one to be served.
 pub const PERFORMED_FOR_ONE: usize = 2;
 
 /// How many steps a request has in its export's log.
 pub const STEPS_OF_A_REQUEST: usize = 4;
 
-/// How many pages that writes put others in place of are let go once the server isn't held any more, in the export and in its base.
+/// How many pages that writes replaced a reader lets go behind a hold, of the export and of its base.
 pub const OUTDATED_PAGES: usize = 256;
 
 /// How much work is done at a hold's end on the base of its export, where steps are queued for that: in pages that are written, and one for
@@ -126,7 +126,7 @@ pub const WAITING_WRITE_BYTES: u64 = 268_435_456;
 
 // ---- Who goes first
 
-/// For how many nanoseconds a session that asked for little is expected to ask again.
+/// For how many nanoseconds an interactive session is expected to ask again.
 pub const EXPECTED_NS: u64 = 1_000_000_000;
 
 /// So many bytes of one read of a socket are many: behind it the thread lets others run.
@@ -135,8 +135,8 @@ pub const MUCH_READ_BYTES: usize = 65_536;
 /// So many bytes of one write to a socket are many: behind it the thread lets others run.
 pub const MUCH_WRITTEN_BYTES: usize = 196_608;
 
-/// How often a thread looks for the server before it waits like all others, and how often in a row before other threads run.
-/// `Shared::hold`, which is left then, tries the lock itself at each look.
+/// How often a session's thread looks for the lock before it waits in `Shared::hold`, which tries the lock itself at each look; and
+/// how often in a row before other threads run.
 pub const LOCK_LOOKS: usize = 16_384;
 
 pub const LOCK_LOOKS_IN_A_ROW: usize = 32;
@@ -169,7 +169,7 @@ pub const UNITS_A_TURN: u32 = 64;
 
 pub const TURN_NS: u64 = 1_000_000;
 
-/// For how many nanoseconds a bulk session lets interactive ones go first to the server. Without end, eight clients that send one
+/// For how many nanoseconds a bulk session lets interactive ones go first to the lock. Without end, eight clients that send one
 /// request at a time came to 60,000 a second, and eight that flood another export to 3,700 (docs/notes/tries.md).
 pub const DEFERENCE_NS: u64 = 200_000;
 
@@ -346,7 +346,7 @@ pub fn is_due(waiting: Waiting, now: Moment) -> bool
     }
 }
 
-/// Whether a bulk session that looks for the server for so many nanoseconds still lets interactive ones go first.
+/// Whether a bulk session that has looked for the lock for so many nanoseconds still lets interactive ones go first.
 pub fn still_defers(passed: u64) -> bool
     ensures { result ≡ still_defers_by passed }
 {
@@ -456,7 +456,7 @@ pub fn performs_itself(size: RequestSize) -> bool
     }
 }
 
-/// How many requests a reader hands in under a hold for which it waited so long.
+/// How many requests a reader hands in under a hold, where it waited so long for the lock.
 pub fn batch_after(wait: Duration) -> usize
     ensures { result ≡ batch_by (as_nanos wait) }
 {
@@ -494,7 +494,7 @@ pub fn yields_behind(bytes: usize, many: usize) -> bool
     bytes >= many
 }
 
-/// Whether a session that asked for little then, in nanoseconds, isn't expected any more.
+/// Whether an interactive session that asked last at that moment, in nanoseconds, isn't expected any more.
 pub fn is_forgotten(latest: u64, now: Moment) -> bool
     ensures { result ≡ is_forgotten_by latest now }
 {

@@ -26,7 +26,7 @@ use std::time;
 use std::time::Instant;
 use tag_clock::{Clock, Moment};
 
-/// A server of disks in pages, while it is held.
+/// A server of disks in pages, as who has the lock sees it.
 pub type Disks<L> = Booked<L, Paged<Global>, Heaped<Global>>;
 
 /// The latest long WRITE.
@@ -65,10 +65,10 @@ pub struct Service<L: Ledger> {
     /// Whether that was asked for.
     pub stopping: AtomicBool,
     pub connections: Connections,
-    /// Whether the server is held, more or less. Who looks for it reads this, which disturbs nobody; each try to hold it takes a part of
-    /// the server out of the cache of the processor that holds it.
+    /// Whether a thread has the lock, more or less. Who looks for the lock reads this, which disturbs nobody; each try of the lock itself
+    /// takes a part of the server out of the cache of the processor that has it.
     pub taken: AtomicBool,
-    /// The sessions that ask for little.
+    /// The interactive sessions.
     pub interactive: InteractiveLoad,
     /// Whose turn it is.
     pub turns: Turns,
@@ -123,7 +123,7 @@ impl<L: Ledger> Service<L> {
         RunningClock::since(rt, self.start)
     }
 
-    /// Holds the server, until `let_go`. Who has much to do there lets interactive sessions go first, for a while.
+    /// Takes the lock, until `let_go`. A bulk session lets interactive ones go first, for a while.
     pub fn hold<R: Wait + time::Clock>(&self, rt: &R, is_bulk: bool) -> MutexGuard<'_, Disks<L>> {
         if is_bulk {
             return self.look_or_wait(rt, true);
@@ -134,7 +134,7 @@ impl<L: Ledger> Service<L> {
         held
     }
 
-    /// Lets others hold the server, which was held since a moment.
+    /// Gives the lock back, and notes the hold, which began at a moment.
     pub fn let_go<R: time::Clock>(
         &self,
         rt: &R,
@@ -147,7 +147,7 @@ impl<L: Ledger> Service<L> {
         drop(held);
     }
 
-    /// Holds the server, however long it takes.
+    /// Takes the lock, however long that takes.
     fn look_or_wait<R: Wait + time::Clock>(
         &self,
         rt: &R,
@@ -161,7 +161,7 @@ impl<L: Ledger> Service<L> {
         held
     }
 
-    /// The server, where it is free at one of many looks. Where that is asked for, interactive sessions go first for a while.
+    /// The server, where the lock is free at one of many looks. A bulk session lets interactive ones go first for a while.
     fn look_long<R: Wait + time::Clock>(
         &self,
         rt: &R,
@@ -184,7 +184,7 @@ impl<L: Ledger> Service<L> {
         None
     }
 
-    /// The server, where it is free now, and, where that is asked for, no interactive session asks for it.
+    /// The server, where the lock is free now. A bulk session doesn't take it while an interactive one asks for it.
     fn look(&self, is_bulk: bool) -> Option<MutexGuard<'_, Disks<L>>> {
         let yields = is_bulk && self.interactive.is_asking();
         if yields || self.taken.load(Ordering::SeqCst) {
@@ -193,7 +193,7 @@ impl<L: Ledger> Service<L> {
         self.shared.try_hold()
     }
 
-    /// A session sends a long WRITE. Tells whether no other did so lately.
+    /// Notes that a session sends a long WRITE. Tells whether no other did so lately.
     pub fn note_long_write<R: Wait>(&self, rt: &R, session: SessionId, now: Moment) -> bool {
         let mut latest = self.latest_long.lock(rt);
         let other = match &*latest {
@@ -209,7 +209,7 @@ impl<L: Ledger> Service<L> {
         alone
     }
 
-    /// The session is dropped. Where it is gone already, all stays.
+    /// Drops the session. Where it is gone already, all stays.
     pub fn give_up<R: Wait>(&self, rt: &R, session: SessionId, pass: &mut Pass<L>) {
         let _ = self.shared.turn_gone(rt, pass, session);
     }

@@ -14,7 +14,7 @@ pub struct SpinLadder {
 }
 
 impl SpinLadder {
-    /// The looks for the server.
+    /// The looks of a session's thread for the lock.
     pub const LOCK: SpinLadder = SpinLadder {
         looks: LOCK_LOOKS,
         in_a_row: LOCK_LOOKS_IN_A_ROW,

@@ -71,7 +71,8 @@ impl Turns {
         self.busy.load(Ordering::SeqCst) & !bit_of(export as usize) != 0
     }
 
-    /// Waits for the export's turn with requests of this cost. Where the session `enters`, it counts from now on as one that has something at hand.
+    /// Waits for the export's turn with requests of this cost, in units. Where the session `enters`, it counts from now on as one that
+    /// has something at hand.
     pub fn wait_for_turn<R: Wait, C: Clock>(
         &self,
         rt: &R,

@@ -1,4 +1,4 @@
-//! What a session's thread does for all sessions while it holds the server, and whom it wakes afterwards.
+//! What a session's thread does for all sessions while it has the lock, and whom it wakes afterwards.
 
 use crate::bells::Bells;
 use crate::policy::{NOTED_SESSIONS, PERFORMED_FOR_ONE};
@@ -23,7 +23,7 @@ impl Asked {
     }
 }
 
-/// The sessions that are to be woken once the server is let go.
+/// The sessions that a thread wakes once it has given the lock back.
 #[derive(Drop)]
 pub struct Wakeups {
     // Other sessions than the thread's own, whose requests were performed.
@@ -101,7 +101,7 @@ impl Wakeups {
         false
     }
 
-    /// Wakes who waits for what was performed. The server isn't held any more. Tells whether anything was performed.
+    /// Wakes who waits for what was performed, once the lock was given back. Tells whether anything was performed.
     pub fn wake(&mut self, bells: &Bells) -> bool {
         let performed = self.performed;
         if performed {

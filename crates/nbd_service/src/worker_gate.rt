@@ -15,7 +15,7 @@ use tag_clock::{Clock, Moment};
 pub struct WorkerGate<'a, L: Ledger, R: Wait + time::Clock> {
     rt: &'a R,
     service: &'a Service<L>,
-    // What the bell for work had told just before the latest dispatch.
+    // How often the bell for work had rung just before the latest dispatch.
     heard: Cell<u64>,
 }
 

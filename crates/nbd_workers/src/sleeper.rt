@@ -19,7 +19,7 @@ pub struct Sleeper<'a, C: Clock, R: Wait> {
     clock: &'a C,
     work: &'a Bell,
     replies: &'a Bell,
-    // What the bell had told just before the latest dispatch.
+    // How often the bell had rung just before the latest dispatch.
     heard: Cell<u64>,
 }
 

@@ -7,9 +7,9 @@ use std::io::{BufRead, BufReader, BufWriter, Read, Write};
 use std::net::Net;
 use std::os::unix::net::UnixStream;
 
-/// What came of a line.
+/// How a line was answered.
 #[derive(Clone, Copy, Debug, PartialEq, Eq)]
-enum Told {
+enum LineOutcome {
     Answered,
     /// The line was refused.
     Refused,
@@ -63,10 +63,10 @@ fn converse<I: Read + Drop, A: Read + Drop, S: Write + Drop, O: Write + Drop>(
             return Ending::SocketFailed;
         }
         match copy_answer(&mut answers, &mut line, &mut output) {
-            Told::Answered => {}
-            Told::Refused => refused = true,
-            Told::Cut => return Ending::SocketFailed,
-            Told::NoOutput => return Ending::Ran(Outcome::WriteFailed),
+            LineOutcome::Answered => {}
+            LineOutcome::Refused => refused = true,
+            LineOutcome::Cut => return Ending::SocketFailed,
+            LineOutcome::NoOutput => return Ending::Ran(Outcome::WriteFailed),
         }
     }
     match refused {
@@ -80,16 +80,16 @@ fn copy_answer<A: Read + Drop, O: Write + Drop>(
     answers: &mut BufReader<A>,
     line: &mut Vec<u8>,
     output: &mut BufWriter<O>,
-) -> Told {
+) -> LineOutcome {
     let mut refused = false;
     for _ in 0..u64::MAX {
         line.clear();
         match answers.read_until(b'\n', line) {
-            Ok(0) | Err(_) => return Told::Cut,
+            Ok(0) | Err(_) => return LineOutcome::Cut,
             Ok(_) => {}
         }
         if output.write_all(line.as_slice()).is_err() {
-            return Told::NoOutput;
+            return LineOutcome::NoOutput;
         }
         if line.as_slice() == b"\n".as_slice() {
             break;
@@ -97,9 +97,9 @@ fn copy_answer<A: Read + Drop, O: Write + Drop>(
         refused = refused || is_refused(line.as_slice());
     }
     match output.flush() {
-        Err(_) => Told::NoOutput,
-        Ok(()) if refused => Told::Refused,
-        Ok(()) => Told::Answered,
+        Err(_) => LineOutcome::NoOutput,
+        Ok(()) if refused => LineOutcome::Refused,
+        Ok(()) => LineOutcome::Answered,
     }
 }
 

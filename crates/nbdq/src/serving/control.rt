@@ -147,7 +147,7 @@ fn answer_line<L: Ledger, R: Wait + time::Clock>(
     }
 }
 
-/// Does what is asked for, and tells the answer, where it isn't put behind the text.
+/// Does what is asked for. Answers what to tell the client, or none where it has put that behind the text.
 fn do_command<L: Ledger, R: Wait + time::Clock>(
     rt: &R,
     service: &Service<L>,

@@ -86,7 +86,7 @@ impl<'a> Lines<'a> {
             match peer.write(rest) {
                 Ok(0) => return false,
                 Ok(count) => rest = rest.get(count..).unwrap_or(b""),
-                Err(error) if is_late(&error) && !control.is_ended() => {}
+                Err(error) if is_timeout(&error) && !control.is_ended() => {}
                 Err(_) => return false,
             }
         }
@@ -118,13 +118,13 @@ impl<'a> Lines<'a> {
                 self.count = count;
                 count > 0
             }
-            Err(error) => is_late(&error),
+            Err(error) => is_timeout(&error),
         }
     }
 }
 
-/// Whether nothing came or went for a while, and may still.
-fn is_late(error: &io::Error) -> bool {
+/// Whether a read or a write ended since nothing came or went for a while: something may still.
+fn is_timeout(error: &io::Error) -> bool {
     match error.kind() {
         ErrorKind::WouldBlock | ErrorKind::TimedOut | ErrorKind::Interrupted => true,
         _ => false,

@@ -8,8 +8,8 @@ use std::net::TcpStream;
 use std::sync::atomic::{AtomicBool, Ordering};
 use std::sync::{Mutex, Wait};
 
-/// The threads of one listener's connections that wait for a client. The one that came last goes first: what it gave back of its
-/// memory is used again by itself, since the C library keeps memory apart for each thread.
+/// The threads of one listener's connections that wait for a client. The thread that began to wait last gets the next client, so that
+/// it uses the memory again that it gave back: the C library keeps memory apart for each thread.
 #[derive(Drop)]
 pub struct IdleThreads {
     seats: Vec<Seat, Global>,
@@ -80,7 +80,7 @@ impl IdleThreads {
         unreachable!()
     }
 
-    /// No more clients come: whoever waits is told.
+    /// No more clients come: each thread that waits ends.
     pub fn close(&self) {
         self.closed.store(true, Ordering::SeqCst);
         for seat in self.seats.as_slice() {
