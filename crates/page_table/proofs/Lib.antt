@@ -3,7 +3,8 @@ pub mod RangeLemmas
 pub mod BitsLemmas
 pub mod PlacesLemmas
 pub mod ShownLemmas
-pub mod ChunkLemmas
+pub mod HolesLemmas
+pub mod ChunksLemmas
 pub mod TableLemmas
 pub mod MarksLemmas
 pub mod LeastLemmas

@@ -1,4 +1,4 @@
-ghost use Rattle.std.specs.Prelude.{◌≡◌, ◌<◌, ◌≤◌, ◌==◌, None, Some, IfSome, IfOk, IsOk, OnOk, OnErr, is_some, true, length, get_or, set, replicate};
+ghost use Rattle.std.specs.Prelude.{◌≡◌, ◌<◌, ◌≤◌, ◌==◌, None, Some, IfSome, IfOk, IfErr, OnOk, OnErr, is_some, length, get_or, set, replicate};
 ghost use Rattle.std.specs.List.{filter};
 
 use crate::bits;
@@ -62,23 +62,30 @@ impl<T: Drop, A: Allocator + Copy> Places<T, A> {
         Some(&self.items[bits::count_below(&self.marks, place)])
     }
 
-    // Puts an item in the place of one.
-    fn exchange(&mut self, place: usize, item: T) -> T
-        requires place { place < 256 }
-        requires there { is_some (get_or self.old place None) ≡ true }
-        ensures before { get_or self.old place None ≡ Some result }
-        ensures after { self.new ≡ set self.old place (Some item) }
+    /// Puts an item in the place of one, which is the answer. Where there is none, the item is handed back.
+    pub(crate) fn exchange(&mut self, place: usize, item: T) -> Result<T, T>
+        requires { place < 256 }
+        ensures before { IfOk result (λ before. get_or self.old place None ≡ Some before) }
+        ensures after { OnOk result (self.new ≡ set self.old place (Some item)) }
+        ensures none { OnErr result (get_or self.old place None ≡ None) }
+        ensures back { IfErr result (λ back. back ≡ item) }
+        ensures same { OnErr result (self.new ≡ self.old) }
+        ensures long { length self.old ≡ 256 }
     {
+        if !bits::has(&self.marks, place) {
+            return Err(item);
+        }
         let at = bits::count_below(&self.marks, place);
-        mem::replace(&mut self.items[at], item)
+        Ok(mem::replace(&mut self.items[at], item))
     }
 
-    // Puts an item where there is none.
-    fn add(&mut self, place: usize, item: T) -> Result<(), NoMemory>
+    /// Puts an item where there is none.
+    pub(crate) fn add(&mut self, place: usize, item: T) -> Result<(), NoMemory>
         requires place { place < 256 }
         requires none { get_or self.old place None ≡ None }
         ensures added { OnOk result (self.new ≡ set self.old place (Some item)) }
         ensures no_memory { OnErr result (self.new ≡ self.old) }
+        ensures long { length self.old ≡ 256 }
     {
         let at = bits::count_below(&self.marks, place);
         let Ok(()) = self.items.insert(at, item) else {
@@ -86,23 +93,6 @@ impl<T: Drop, A: Allocator + Copy> Places<T, A> {
         };
         bits::put_one(&mut self.marks, place, true);
         Ok(())
-    }
-
-    /// Puts an item in a place. The answer is the one before it. It takes no memory where there is one.
-    pub(crate) fn put(&mut self, place: usize, item: T) -> Result<Option<T>, NoMemory>
-        requires { place < 256 }
-        ensures before { IfOk result (λ before. before ≡ get_or self.old place None) }
-        ensures after { OnOk result (self.new ≡ set self.old place (Some item)) }
-        ensures there { is_some (get_or self.old place None) ≡ true → IsOk result }
-        ensures no_memory { OnErr result (self.new ≡ self.old) }
-        ensures long { length self.old ≡ 256 }
-    {
-        if self.get(place).is_some() {
-            let before = self.exchange(place, item);
-            return Ok(Some(before));
-        }
-        self.add(place, item)?;
-        Ok(None)
     }
 
     /// Takes the item out of a place.

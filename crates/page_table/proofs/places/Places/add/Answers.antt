@@ -1,8 +1,8 @@
-use Rattle.std.proofs.Common.{◌≡◌, ◌∙◌, Some, None, false, length, get_or, set, ap}
+use Rattle.std.proofs.Common.{◌≡◌, ◌∙◌, Some, None, false, length, get_or, set, sym, ap}
 use Rattle.std.proofs.lemmas.List.Edits.{length-insert}
 use Rattle.page_table.specs.Bits.{is_set}
 use Rattle.page_table.specs.Places.{in_places}
-use Rattle.page_table.proofs.PlacesLemmas.{place_absent, place_added, place_upto, marks_added}
+use Rattle.page_table.proofs.PlacesLemmas.{places-length, place_absent, place_added, place_upto, marks_added}
 use Rattle.page_table.proofs.places.Places.add.Goals as goal
 
 pub insert-requires : goal.insert-requires
@@ -25,3 +25,9 @@ returns-clause-added g c =
     ap (in_places c.put_one.new.words) c.in-Ok.ensures.items
     ∙ place_added i.marks c.put_one.new.words i.items.items c.args.place c.count_below-at.result c.args.item c.requires.place absent c.put_one.ensures.here c.put_one.ensures.others c.self.invariant c.count_below-at.ensures
     ∙ ap (λ all. set all c.args.place (Some c.args.item)) c.self.view_is
+
+pub returns-clause-long : goal.returns-clause-long
+returns-clause-long g c = ap length (sym c.self.view_is) ∙ places-length c.self.inside.marks c.self.inside.items.items
+
+pub returns-in_default-clause-long : goal.returns-in_default-clause-long
+returns-in_default-clause-long g c = ap length (sym c.self.view_is) ∙ places-length c.self.inside.marks c.self.inside.items.items
