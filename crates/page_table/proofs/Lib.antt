@@ -1,6 +1,7 @@
 pub mod CountLemmas
 pub mod RangeLemmas
 pub mod BitsLemmas
+pub mod ItemsLemmas
 pub mod PlacesLemmas
 pub mod ShownLemmas
 pub mod HolesLemmas

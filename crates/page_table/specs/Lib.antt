@@ -1,4 +1,5 @@
 pub mod Bits
+pub mod Items
 pub mod Places
 pub mod Holes
 pub mod Table

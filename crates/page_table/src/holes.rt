@@ -7,9 +7,6 @@ use nbd_base::NoMemory;
 use std::alloc::Allocator;
 use std::marker::Model;
 
-// How many words a row has: a bit for each byte of a page.
-const WORDS: usize = 64;
-
 // Room grows by this and an eighth.
 const FIRST_ROOM: usize = 32;
 

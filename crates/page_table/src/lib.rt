@@ -8,6 +8,7 @@ mod bits;
 mod chunks;
 mod held_zeros;
 mod holes;
+mod items;
 mod least;
 mod places;
 mod swept;

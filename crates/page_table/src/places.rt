@@ -2,10 +2,10 @@ ghost use Rattle.std.specs.Prelude.{◌≡◌, ◌<◌, ◌≤◌, ◌==◌, Non
 ghost use Rattle.std.specs.List.{filter};
 
 use crate::bits;
+use crate::items::Items;
 use nbd_base::NoMemory;
 use std::alloc::Allocator;
 use std::marker::Model;
-use std::mem;
 
 /// Places for 256 items in a row. The items that are there lie side by side, so a place without one takes a bit.
 #[derive(Drop)]
@@ -13,7 +13,7 @@ pub(crate) struct Places<T: Drop, A: Allocator + Copy> {
     // In which places there is an item, a bit for each.
     marks: [u64; 4],
     // In the order of their places.
-    items: Vec<T, A>,
+    items: Items<T, A>,
 }
 
 impl<T: Drop, A: Allocator + Copy> Model for Places<T, A> {
@@ -23,10 +23,10 @@ impl<T: Drop, A: Allocator + Copy> Model for Places<T, A> {
 
     ghost Value = { List (Option T) };
 
-    ghost view = { λ places. in_places places.marks places.items.items };
+    ghost view = { λ places. in_places places.marks places.items };
 
     ghost invariant = { λ places.
-        length places.items.items ≡ count_of (is_set places.marks) 0 256 };
+        length places.items ≡ count_of (is_set places.marks) 0 256 };
 }
 
 impl<T: Drop, A: Allocator + Copy> Places<T, A> {
@@ -36,7 +36,7 @@ impl<T: Drop, A: Allocator + Copy> Places<T, A> {
     {
         Places {
             marks: [0; 4],
-            items: Vec::new(alloc),
+            items: Items::new(alloc),
         }
     }
 
@@ -59,7 +59,7 @@ impl<T: Drop, A: Allocator + Copy> Places<T, A> {
         if !bits::has(&self.marks, place) {
             return None;
         }
-        Some(&self.items[bits::count_below(&self.marks, place)])
+        Some(self.items.get(bits::count_below(&self.marks, place)))
     }
 
     /// Puts an item in the place of one, which is the answer. Where there is none, the item is handed back.
@@ -76,7 +76,7 @@ impl<T: Drop, A: Allocator + Copy> Places<T, A> {
             return Err(item);
         }
         let at = bits::count_below(&self.marks, place);
-        Ok(mem::replace(&mut self.items[at], item))
+        Ok(self.items.exchange(at, item))
     }
 
     /// Puts an item where there is none.
