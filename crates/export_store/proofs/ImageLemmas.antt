@@ -7,7 +7,7 @@ use Rattle.payload.specs.Bytes.{range_of, overwritten}
 use Rattle.payload.specs.Rows.{zero_page}
 use Rattle.payload.proofs.Overwriting.{take-overwritten, range_of-take}
 use Rattle.page_table.specs.Bits.{is_between}
-use Rattle.page_table.specs.Table.{Chunk, in_table}
+use Rattle.page_table.specs.Table.{Stored, in_table}
 use Rattle.page_table.specs.Marks.{is_marked}
 use Rattle.page_table.proofs.RangeLemmas.{between_yes}
 use Rattle.export_store.specs.Pages.{Pages, stored_page, is_stored, is_held_zeros, is_held, page_of, in_a_row, image_of, IsPaged}
@@ -37,7 +37,7 @@ pub record Changes (old new : Pages) (number : ℕ) (page : List ℕ) : Type 0 w
   pub others : (k : ℕ) → k ≢ number → stored_page new k ≡ stored_page old k
   pub zeros : (k : ℕ) → is_held_zeros new k ≡ (if is_between number (number + 1) k then false else is_held_zeros old k)
 
-pub changes : (size : ℕ) (m n : List (ℕ × Chunk)) (y z : List (ℕ × List ℕ)) (number : ℕ) (page : List ℕ) → in_table n number ≡ Some page
+pub changes : (size : ℕ) (m n : Stored) (y z : List (ℕ × List ℕ)) (number : ℕ) (page : List ℕ) → in_table n number ≡ Some page
     → ((k : ℕ) → k ≢ number → in_table n k ≡ in_table m k) → ((k : ℕ) → is_marked z k ≡ (if is_between number (number + 1) k then false else is_marked y k))
     → Changes (record { size = size; chunks = m; zeros = y }) (record { size = size; chunks = n; zeros = z }) number page
 changes size m n y z number page here others zeros = record { size = refl; here = here; others = others; zeros = zeros }

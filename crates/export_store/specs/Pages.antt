@@ -4,14 +4,14 @@ use Rattle.std.specs.Int.{div_ceil}
 use Rattle.std.specs.List.{filter, range_with_len}
 use Rattle.payload.specs.Bytes.{range_of, overwritten}
 use Rattle.payload.specs.Rows.{zero_page}
-use Rattle.page_table.specs.Table.{Chunk, in_table, cleared}
+use Rattle.page_table.specs.Table.{Stored, in_table, cleared}
 use Rattle.page_table.specs.Marks.{is_marked}
 
 -- how many bytes an image has, the pages that are stored, in chunks, and which others are held zeros, in bitmaps: each page has
 -- its number, from 0
 pub record Pages : Type 0 where
   pub size : ℕ
-  pub chunks : List (ℕ × Chunk)
+  pub chunks : Stored
   pub zeros : List (ℕ × List ℕ)
 
 -- the page that is stored under a number

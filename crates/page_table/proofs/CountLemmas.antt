@@ -20,7 +20,7 @@ pub count-cons : (p : ℕ → Bool) (from n : ℕ) → count_of p from (suc n) �
 unfolding count_of
 count-cons p from n = length-cond (p from) from (filter p (range_with_len (from + 1) n))
 
-cond_le : (b : Bool) → cond b 1 0 ≤ 1
+pub cond_le : (b : Bool) → cond b 1 0 ≤ 1
 cond_le true = omega arith
 cond_le false = omega arith
 

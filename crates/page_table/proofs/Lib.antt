@@ -1,9 +1,11 @@
 pub mod CountLemmas
 pub mod RangeLemmas
 pub mod BitsLemmas
+pub mod ItemsLemmas
 pub mod PlacesLemmas
 pub mod ShownLemmas
-pub mod ChunkLemmas
+pub mod HolesLemmas
+pub mod ChunksLemmas
 pub mod TableLemmas
 pub mod MarksLemmas
 pub mod LeastLemmas

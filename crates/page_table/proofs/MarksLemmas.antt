@@ -9,7 +9,7 @@ use Rattle.page_table.specs.Marks.{bitmap_of, is_marked, AreUsed}
 use Rattle.page_table.proofs.CountLemmas.{count_of, count-none, count-shift}
 use Rattle.page_table.proofs.RangeLemmas.{between_yes, between_before, between_behind, between_part}
 use Rattle.page_table.proofs.BitsLemmas.{empty_set, not_any}
-use Rattle.page_table.proofs.TableLemmas.{updates_others, if_none}
+use Rattle.page_table.proofs.ChunksLemmas.{updates_others, if_none}
 
 abbrev pub Bitmaps : Type 0
 Bitmaps = List (ℕ × List ℕ)

@@ -37,7 +37,7 @@ count_upto p from zero (suc i) below = absurd (omega arith)
 count_upto p from (suc n) (suc i) below = omega (arith, count-cons p from n, count-cons p from i, count_upto p (from + 1) n i (omega arith))
 
 -- of two tests that say the same but for one place
-count_same : (p q : ℕ → Bool) (from n : ℕ) → ((k : ℕ) → from ≤ k → q k ≡ p k) → count_of q from n ≡ count_of p from n
+pub count_same : (p q : ℕ → Bool) (from n : ℕ) → ((k : ℕ) → from ≤ k → q k ≡ p k) → count_of q from n ≡ count_of p from n
 count_same p q from zero same = count-zero q from ∙ sym (count-zero p from)
 count_same p q from (suc n) same =
     omega (arith, count-cons p from n, count-cons q from n, ap {B = ℕ} (λ (b : Bool). cond b 1 0) (same from (omega arith)), count_same p q (from + 1) n (λ k above. same k (omega arith)))

@@ -1,168 +1,254 @@
--- A table after one of its chunks has changed.
-use Rattle.std.proofs.Common.{◌≡◌, ◌≢◌, ℕ, ◌+◌, ◌-◌, ◌*◌, ◌/◌, ◌%◌, ◌<◌, ◌≤◌, inl, inr, Bool, true, false, min, is_some, IfSome, Result, Ok, Err, OnOk, OnErr, Option, None, Some, List, [], length, if◌then◌else◌, refl, sym, ap, subst, ◌∙◌, arith}
-use Rattle.std.specs.Ordering.{nat_cmp, is_eq}
-use Rattle.std.specs.Cmp.{nat_cmp_is}
-use Rattle.std.specs.declared.cmp.Ordering.TheVariants.{Less, Greater}
-use Rattle.std.specs.BTreeMap.{BTreeMap, is_at, get, UpdatesBy}
-use Rattle.std.proofs.lemmas.Bool.{cases_lt, cases_eq}
+-- A table after its chunks or its holes have changed.
+use Rattle.std.proofs.Common.{◌≡◌, ◌≢◌, ℕ, ◌+◌, ◌-◌, ◌*◌, ◌/◌, ◌<◌, ◌≤◌, ◌^◌, Bool, true, false, not, ◌||◌, ◌&&◌, ◌==◌, nat_eq, is_some, IfOk, OnOk, OnErr, Result, Ok, Err, inl, inr, Option, Some, None, List, [], length, replicate, take, if◌then◌else◌, refl, sym, ap, ◌∙◌, arith}
+use Rattle.std.proofs.lemmas.Bool.{cases_lt, cases_eq, cases_Bool}
+use Rattle.std.proofs.lemmas.Bool.Decides.{nat_tests}
+use Rattle.std.proofs.lemmas.List.{take-replicate}
+use Rattle.payload.specs.Rows.{zero_page}
 use Rattle.page_table.specs.Bits.{is_between}
-use Rattle.page_table.specs.Table.{Chunk, in_place, in_chunk, chunk_of, in_table, taken, AreTaken}
-use Rattle.page_table.proofs.ChunkLemmas.{some_place, none_taken_place}
-use Rattle.page_table.proofs.CountLemmas.{count_of, count-none, count_list}
-use Rattle.page_table.proofs.RangeLemmas.{between_yes, between_part}
+use Rattle.page_table.specs.Holes.{Holes, is_hole, is_noted, AreOrdered}
+use Rattle.page_table.specs.Table.{Chunk, Stored, chunk_of, in_chunks, in_table, is_kept, kept, shown, shown_page, cleared, HaveRoom}
+use Rattle.page_table.proofs.CountLemmas.{count_of, count-none, count-append, count-shift}
+use Rattle.page_table.proofs.PlacesLemmas.{count_added, count_same}
+use Rattle.page_table.proofs.ChunksLemmas.{other_chunk}
+use Rattle.page_table.proofs.HolesLemmas.{Rows, no_hole, rows_fewer}
+use Rattle.page_table.proofs.ShownLemmas.{shown_none, shown_same, page_none, page_same, page_dug}
 
--- what holds anyhow holds after a failure
-pub on_err : {T E : Type 0} (r : Result T E) (P : Type 0) → P → OnErr r P
-on_err (Ok x) P p = tt
-on_err (Err e) P p = p
+abbrev pub Chunks : Type 0
+Chunks = List (ℕ × Chunk)
 
--- what follows from what is told of a result
-pub then_ok : {T E : Type 0} (r : Result T E) (P Q : Type 0) → (P → Q) → OnOk r P → OnOk r Q
-then_ok (Ok x) P Q so p = so p
-then_ok (Err e) P Q so p = tt
+-- what holds of a result by what is told of it
+pub if_ok : {T E : Type 0} (r : Result T E) (P Q : T → Type 0) → ((x : T) → P x → Q x) → IfOk r P → IfOk r Q
+if_ok (Ok x) P Q so p = so x p
+if_ok (Err e) P Q so p = tt
 
-pub then_err : {T E : Type 0} (r : Result T E) (P Q : Type 0) → (P → Q) → OnErr r P → OnErr r Q
-then_err (Ok x) P Q so p = tt
-then_err (Err e) P Q so p = so p
+-- the page of a number
+pub page_is : (table : Stored) (k : ℕ) → in_table table k ≡ shown_page (is_hole table.holes k) (in_chunks table.chunks k)
+unfolding in_table
+page_is table k = refl
 
-at_other : (k q : ℕ) → q ≢ k → is_at (nat_cmp k) q ≡ false
-at_other k q apart =
-    elim (cases_lt k q) [
-      | inl lt ↦ ap is_eq (sym (nat_cmp_is k q Less lt))
-      | inr le ↦ let lt : q < k = omega arith in ap is_eq (sym (nat_cmp_is k q Greater lt))
+some_shown : (hole : ℕ → Bool) (page : Option (List ℕ)) → is_some (shown_page hole page) ≡ is_some page
+some_shown hole None = refl
+some_shown hole (Some page) = refl
+
+none_shown : (hole : ℕ → Bool) (page : Option (List ℕ)) → shown_page hole page ≡ None → page ≡ None
+none_shown hole None none = refl
+none_shown hole (Some page) none = absurd (cc)
+
+pub is_stored : (table : Stored) (k : ℕ) → is_some (in_table table k) ≡ is_kept table.chunks k
+is_stored table k = ap is_some (page_is table k) ∙ some_shown (is_hole table.holes k) (in_chunks table.chunks k)
+
+pub none_is : (table : Stored) (k : ℕ) → in_chunks table.chunks k ≡ None → in_table table k ≡ None
+none_is table k none = page_is table k ∙ ap (shown_page (is_hole table.holes k)) none
+
+pub none_back : (table : Stored) (k : ℕ) → in_table table k ≡ None → in_chunks table.chunks k ≡ None
+none_back table k none = none_shown (is_hole table.holes k) (in_chunks table.chunks k) (sym (page_is table k) ∙ none)
+
+pub shown_is : (table : Stored) (k : ℕ) (page : List ℕ) → in_chunks table.chunks k ≡ Some page → in_table table k ≡ Some (shown (is_hole table.holes k) 0 page)
+shown_is table k page there = page_is table k ∙ ap (shown_page (is_hole table.holes k)) there
+
+pub whole_is : (table : Stored) (k : ℕ) (page : List ℕ) → in_chunks table.chunks k ≡ Some page → ((j : ℕ) → is_hole table.holes k j ≡ false) → in_table table k ≡ Some page
+whole_is table k page there none = page_is table k ∙ ap (shown_page (is_hole table.holes k)) there ∙ page_none (is_hole table.holes k) (Some page) none
+
+pub same_is : (old new : Stored) (k : ℕ) → in_chunks new.chunks k ≡ in_chunks old.chunks k → ((j : ℕ) → is_hole new.holes k j ≡ is_hole old.holes k j) → in_table new k ≡ in_table old k
+same_is old new k same holes =
+    page_is new k ∙ ap (shown_page (is_hole new.holes k)) same ∙ page_same (is_hole old.holes k) (is_hole new.holes k) (in_chunks old.chunks k) holes ∙ sym (page_is old k)
+
+-- no byte of a page is noted any more
+eq_self : (k : ℕ) → nat_eq k k ≡ true
+eq_self k = grind (arith, nat_tests)
+
+eq_other : (p q : ℕ) → p ≢ q → nat_eq p q ≡ false
+eq_other p q apart = grind (arith, nat_tests)
+
+filled_bit : (b a : Bool) → a ≡ true → (b && not a) ≡ false
+filled_bit true true e = refl
+filled_bit false true e = refl
+filled_bit b false e = absurd (cc)
+
+kept_bit : (b a : Bool) → a ≡ false → (b && not a) ≡ b
+kept_bit true false e = refl
+kept_bit false false e = refl
+kept_bit b true e = absurd (cc)
+
+pub filled_here : (old new : Rows) (page : ℕ) → ((p k : ℕ) → is_hole new p k ≡ (is_hole old p k && not (p == page))) → (k : ℕ) → is_hole new page k ≡ false
+filled_here old new page filled k = filled page k ∙ filled_bit (is_hole old page k) (nat_eq page page) (eq_self page)
+
+pub filled_others : (old new : Rows) (page : ℕ) → ((p k : ℕ) → is_hole new p k ≡ (is_hole old p k && not (p == page))) → (p : ℕ) → p ≢ page → (k : ℕ) → is_hole new p k ≡ is_hole old p k
+filled_others old new page filled p apart k = filled p k ∙ kept_bit (is_hole old p k) (nat_eq p page) (eq_other p page apart)
+
+left_bit : (a b : Bool) → (a && b) ≡ true → a ≡ true
+left_bit true b both = refl
+left_bit false b both = absurd (cc)
+
+-- A range of a page is noted as zeros.
+or_and_true : (a b c : Bool) → b ≡ true → (a || (b && c)) ≡ (a || c)
+or_and_true a true c e = refl
+or_and_true a false c e = absurd (cc)
+
+or_and_false : (a b c : Bool) → b ≡ false → (a || (b && c)) ≡ a
+or_and_false true false c e = refl
+or_and_false false false c e = refl
+or_and_false a true c e = absurd (cc)
+
+module _ (old new : Stored) (page start count : ℕ) (same : new.chunks ≡ old.chunks)
+    (dug : (p k : ℕ) → is_hole new.holes p k ≡ (is_hole old.holes p k || ((p == page) && is_between start (start + count) k))) where
+  pub dug_here : ((bytes : List ℕ) → in_chunks old.chunks page ≡ Some bytes → start + count ≤ length bytes) → in_table new page ≡ cleared start count (in_table old page)
+  dug_here within =
+      page_is new page
+      ∙ ap (λ (all : Chunks). shown_page (is_hole new.holes page) (in_chunks all page)) same
+      ∙ page_dug (is_hole old.holes page) (is_hole new.holes page) (in_chunks old.chunks page) start count within
+      (λ k. dug page k ∙ or_and_true (is_hole old.holes page k) (nat_eq page page) (is_between start (start + count) k) (eq_self page))
+      ∙ ap (cleared start count) (sym (page_is old page))
+
+  pub dug_others : (k : ℕ) → k ≢ page → in_table new k ≡ in_table old k
+  dug_others k apart =
+      same_is old new k (ap (λ (all : Chunks). in_chunks all k) same)
+      (λ j. dug k j ∙ or_and_false (is_hole old.holes k j) (nat_eq k page) (is_between start (start + count) j) (eq_other k page apart))
+
+-- a page that isn't there has no row
+pub no_holes : (chunks : Chunks) (holes : Holes) (number : ℕ) → HaveRoom chunks holes → in_chunks chunks number ≡ None → (k : ℕ) → is_hole holes.rows number k ≡ false
+no_holes chunks holes number have none k =
+    no_hole holes.rows number k (elim (cases_Bool (is_noted holes.rows number)) [
+      | inl noted ↦ let bad : false ≡ true = sym (ap is_some none) ∙ have.rows number noted in absurd (cc)
+      | inr absent ↦ absent
+    ])
+
+-- There is room for rows.
+pub room_none : (chunks : Chunks) (holes : Holes) → ((k : ℕ) → in_chunks chunks k ≡ None) → holes.rows ≡ [] → holes.pages ≡ 0 → HaveRoom chunks holes
+room_none chunks holes none rows pages = record {
+  pages = count-none (is_kept chunks) 0 (2 ^ 64) (λ k above below. ap is_some (none k)) ∙ sym pages;
+  rows = λ k noted. (let bad : false ≡ true = sym (ap (λ (all : Rows). is_noted all k) rows) ∙ noted in absurd (cc));
+}
+
+-- where the same pages are kept, and no more rows
+pub room_same : (old new : Chunks) (before after : Holes) → HaveRoom old before → ((k : ℕ) → is_kept new k ≡ is_kept old k) → after.pages ≡ before.pages
+    → ((k : ℕ) → is_noted after.rows k ≡ true → is_noted before.rows k ≡ true) → HaveRoom new after
+room_same old new before after was same pages fewer = record {
+  pages = count_same (is_kept old) (is_kept new) 0 (2 ^ 64) (λ k above. same k) ∙ was.pages ∙ sym pages;
+  rows = λ k noted. same k ∙ was.rows k (fewer k noted);
+}
+
+-- where a page comes
+module _ (old new : Chunks) (before after : Holes) (number : ℕ) (below : number < 2 ^ 64) (was : HaveRoom old before) (none : in_chunks old number ≡ None)
+    (others : (k : ℕ) → k ≢ number → in_chunks new k ≡ in_chunks old k) (rows : after.rows ≡ before.rows) where
+  zero_more : (k : ℕ) → k ≡ 0 + k
+  zero_more k = omega arith
+
+  first : (test : ℕ → Bool) (k : ℕ) → test (0 + k) ≡ test k
+  first test k = ap test (sym (zero_more k))
+
+  pub room_added : (page : List ℕ) → in_chunks new number ≡ Some page → after.pages ≡ before.pages + 1 → HaveRoom new after
+  room_added page here pages = record {
+    pages = omega (
+      arith,
+      was.pages,
+      pages,
+      count_added (is_kept old) (is_kept new) 0 (2 ^ 64) number below (first (is_kept old) number ∙ ap is_some none) (first (is_kept new) number ∙ ap is_some here)
+          (λ k apart. ap is_some (others k (λ same. apart (same ∙ zero_more number)))),
+    );
+    rows = λ k noted. elim (cases_eq k number) [
+      | inl e ↦ ap (is_kept new) e ∙ ap is_some here
+      | inr apart ↦ ap is_some (others k apart) ∙ was.rows k (sym (ap (λ (all : Rows). is_noted all k) rows) ∙ noted)
+    ];
+  }
+
+  pub room_unchanged : in_chunks new number ≡ None → after.pages ≡ before.pages → HaveRoom new after
+  room_unchanged here pages =
+      room_same old new before after was (λ k. elim (cases_eq k number) [
+        | inl e ↦ ap (is_kept new) e ∙ ap is_some (here ∙ sym none) ∙ ap (is_kept old) (sym e)
+        | inr apart ↦ ap is_some (others k apart)
+      ]) pages (λ k noted. sym (ap (λ (all : Rows). is_noted all k) rows) ∙ noted)
+
+-- where one takes the place of another
+pub kept_same : (old new : Chunks) (number : ℕ) → is_kept old number ≡ is_kept new number → ((k : ℕ) → k ≢ number → in_chunks new k ≡ in_chunks old k) → (k : ℕ) → is_kept new k ≡ is_kept old k
+kept_same old new number here others k =
+    elim (cases_eq k number) [
+      | inl e ↦ ap (is_kept new) e ∙ sym here ∙ ap (is_kept old) (sym e)
+      | inr apart ↦ ap is_some (others k apart)
     ]
 
--- the other entries of a map once one was put, changed or taken out
-pub updates_others : {X : Type 0} (m n : BTreeMap ℕ X) (q : ℕ) (w : Option X) → UpdatesBy nat_cmp (nat_cmp q) m n w → (p : ℕ) → p ≢ q → get nat_cmp n p ≡ get nat_cmp m p
-updates_others m n q w updates p apart = updates.2 p (at_other q p apart)
+is_eq : (p q : ℕ) → nat_eq p q ≡ true → p ≡ q
+is_eq p q same = grind (arith, nat_tests, same)
 
--- what is under a number
-pub table_is : (chunks : List (ℕ × Chunk)) (k q : ℕ) → k / 256 ≡ q → in_table chunks k ≡ in_chunk (chunk_of chunks q) (k % 256)
-unfolding in_table
-table_is chunks k q is = ap (λ (p : ℕ). in_chunk (chunk_of chunks p) (k % 256)) is
+either : (a b c : Bool) → (a || b) ≡ true → (a ≡ true → c ≡ true) → (b ≡ true → c ≡ true) → c ≡ true
+either true b c some left right = left refl
+either false b c some left right = right some
 
-pub found_is : (chunks : List (ℕ × Chunk)) (k q : ℕ) (chunk : Chunk) → k / 256 ≡ q → Some chunk ≡ chunk_of chunks q → in_place chunk (k % 256) ≡ in_table chunks k
-found_is chunks k q chunk is found = ap (λ (c : Option Chunk). in_chunk c (k % 256)) found ∙ sym (table_is chunks k q is)
+-- where bytes of one are noted
+pub room_dug : (chunks : Chunks) (before after : Holes) (page : ℕ) → HaveRoom chunks before → is_kept chunks page ≡ true → after.pages ≡ before.pages
+    → ((p : ℕ) → is_noted after.rows p ≡ (is_noted before.rows p || (p == page))) → HaveRoom chunks after
+room_dug chunks before after page was here pages noted = record {
+  pages = was.pages ∙ sym pages;
+  rows = λ k is. either (is_noted before.rows k) (k == page) (is_kept chunks k) (sym (noted k) ∙ is) (was.rows k) (λ same. ap (is_kept chunks) (is_eq k page same) ∙ here);
+}
 
-pub absent_is : (chunks : List (ℕ × Chunk)) (k q : ℕ) → k / 256 ≡ q → chunk_of chunks q ≡ None → in_table chunks k ≡ None
-absent_is chunks k q is absent = table_is chunks k q is ∙ ap (λ (c : Option Chunk). in_chunk c (k % 256)) absent
+-- so there is room for the row of a page that has none
+pub room_for : (chunks : Chunks) (holes : Holes) (page : ℕ) → HaveRoom chunks holes → is_kept chunks page ≡ true → page < 2 ^ 64 → AreOrdered 0 holes.rows → is_noted holes.rows page ≡ false → length holes.rows < holes.pages
+room_for chunks holes page have here below ordered none = rows_fewer (is_kept chunks) holes.rows page holes.pages have.pages ordered have.rows here below none
 
-pub not_stored : (chunks : List (ℕ × Chunk)) (k q : ℕ) → k / 256 ≡ q → chunk_of chunks q ≡ None → is_some (in_table chunks k) ≡ true → ⊥
-not_stored chunks k q is absent stored = let bad : false ≡ true = ap is_some (sym (absent_is chunks k q is absent)) ∙ stored in cc
+-- where pages of a chunk go
+pub split : (test : ℕ → Bool) (q : ℕ) → 256 * q < 2 ^ 64 → count_of test 0 (2 ^ 64) ≡ count_of test 0 (256 * q) + (count_of test (256 * q) 256 + count_of test (256 * q + 256) (2 ^ 64 - (256 * q + 256)))
+split test q below =
+    count-append test 0 (256 * q) (2 ^ 64 - 256 * q) (2 ^ 64) (256 * q) (omega (arith, below)) (omega arith)
+    ∙ ap (λ (n : ℕ). count_of test 0 (256 * q) + n)
+    (count-append test (256 * q) 256 (2 ^ 64 - (256 * q + 256)) (2 ^ 64 - 256 * q) (256 * q + 256) (omega (arith, below)) refl)
 
-pub none_in_table : (chunks : List (ℕ × Chunk)) → chunks ≡ [] → (k : ℕ) → in_table chunks k ≡ None
-none_in_table chunks none k = absent_is chunks k (k / 256) refl (ap (λ (all : List (ℕ × Chunk)). chunk_of all (k / 256)) none)
+module _ (old new : Chunks) (before after : Holes) (q from end count : ℕ) (below : 256 * q < 2 ^ 64) (was : HaveRoom old before)
+    (here : (k : ℕ) → k / 256 ≡ q → in_chunks new k ≡ (if is_between from end k then None else in_chunks old k)) (others : (p : ℕ) → p ≢ q → chunk_of new p ≡ chunk_of old p) where
+  outside : (begin n : ℕ) → ((k : ℕ) → begin ≤ k → k < begin + n → k / 256 ≢ q) → count_of (is_kept new) begin n ≡ count_of (is_kept old) begin n
+  outside begin n apart =
+      count-shift (is_kept old) (is_kept new) begin begin n (λ i j above less at.
+      let same : j ≡ i = omega (arith, at) in ap (is_kept new) same ∙ ap is_some (other_chunk old new q others i (apart i above less)))
 
--- no chunk is there, so each that is has a place that is taken
-pub none_taken : (chunks : List (ℕ × Chunk)) → chunks ≡ [] → AreTaken chunks
-none_taken chunks none number = subst (λ (all : List (ℕ × Chunk)). IfSome (chunk_of all number) (λ chunk. 0 < taken chunk)) (sym none) tt
-
-pub if_none : {X : Type 0} (o : Option X) (P : X → Type 0) → o ≡ None → IfSome o P
-if_none o P none = subst (λ (p : Option _). IfSome p P) (sym none) tt
-
--- a chunk that is there
-pub taken_found : (chunks : List (ℕ × Chunk)) (q : ℕ) (chunk : Chunk) → AreTaken chunks → Some chunk ≡ chunk_of chunks q → 0 < taken chunk
-taken_found chunks q chunk all found = subst (λ (c : Option Chunk). IfSome c (λ chunk. 0 < taken chunk)) (sym found) (all q)
-
--- One chunk has changed.
-module _ (old new : List (ℕ × Chunk)) (q : ℕ) (others : (p : ℕ) → p ≢ q → chunk_of new p ≡ chunk_of old p) where
-  pub other_chunk : (k : ℕ) → k / 256 ≢ q → in_table new k ≡ in_table old k
-  other_chunk k apart =
-      table_is new k (k / 256) refl ∙ ap (λ (chunk : Option Chunk). in_chunk chunk (k % 256)) (others (k / 256) apart) ∙ sym (table_is old k (k / 256) refl)
-
-  pub same_place : (k : ℕ) → k / 256 ≡ q → in_chunk (chunk_of new q) (k % 256) ≡ in_chunk (chunk_of old q) (k % 256) → in_table new k ≡ in_table old k
-  same_place k is same = table_is new k q is ∙ same ∙ sym (table_is old k q is)
-
-  pub other_places : (number : ℕ) → number / 256 ≡ q → ((k : ℕ) → k ≢ number % 256 → in_chunk (chunk_of new q) k ≡ in_chunk (chunk_of old q) k) → (k : ℕ) → k ≢ number → in_table new k ≡ in_table old k
-  other_places number is same k apart =
+  stays : ((k : ℕ) → is_between from end k ≡ true → is_noted before.rows k ≡ false) → (k : ℕ) → is_noted before.rows k ≡ true → is_kept new k ≡ true
+  stays filled k noted =
       elim (cases_eq (k / 256) q) [
-        | inl e ↦ same_place k e (same (k % 256) (λ place. apart (omega arith)))
-        | inr other ↦ other_chunk k other
+        | inl e ↦ elim (cases_Bool (is_between from end k)) [
+          | inl within ↦ let bad : false ≡ true = sym (filled k within) ∙ noted in absurd (cc)
+          | inr beyond ↦ ap is_some (here k e ∙ ap (λ (b : Bool). if b then None else in_chunks old k) beyond) ∙ was.rows k noted
+        ]
+        | inr apart ↦ ap is_some (other_chunk old new q others k apart) ∙ was.rows k noted
       ]
 
-  pub same_table : ((k : ℕ) → in_chunk (chunk_of new q) k ≡ in_chunk (chunk_of old q) k) → (k : ℕ) → in_table new k ≡ in_table old k
-  same_table same k =
-      elim (cases_eq (k / 256) q) [
-        | inl e ↦ same_place k e (same (k % 256))
-        | inr other ↦ other_chunk k other
-      ]
+  pub room_removed : count_of (is_kept new) (256 * q) 256 + count ≡ count_of (is_kept old) (256 * q) 256 → after.rows ≡ before.rows → after.pages + count ≡ before.pages
+      → ((k : ℕ) → is_between from end k ≡ true → is_noted before.rows k ≡ false) → HaveRoom new after
+  room_removed counted rows pages filled = record {
+    pages = omega (
+      arith,
+      split (is_kept old) q below,
+      split (is_kept new) q below,
+      counted,
+      pages,
+      was.pages,
+      outside 0 (256 * q) (λ k above less same. absurd (omega (arith, less, same))),
+      outside (256 * q + 256) (2 ^ 64 - (256 * q + 256)) (λ k above less same. absurd (omega (arith, above, same))),
+    );
+    rows = λ k noted. stays filled k (sym (ap (λ (all : Rows). is_noted all k) rows) ∙ noted);
+  }
 
-  pub taken_after : AreTaken old → IfSome (chunk_of new q) (λ chunk. 0 < taken chunk) → AreTaken new
-  taken_after was here p =
-      elim (cases_eq p q) [
-        | inl e ↦ subst (λ (n : ℕ). IfSome (chunk_of new n) (λ chunk. 0 < taken chunk)) (sym e) here
-        | inr apart ↦ subst (λ (c : Option Chunk). IfSome c (λ chunk. 0 < taken chunk)) (sym (others p apart)) (was p)
-      ]
+pub filled_noted : (old new : Rows) (first end p : ℕ) → is_noted new p ≡ (is_noted old p && not (is_between first end p)) → is_between first end p ≡ true → is_noted new p ≡ false
+filled_noted old new first end p filled inside = filled ∙ filled_bit (is_noted old p) (is_between first end p) inside
 
-  pub taken_gone : AreTaken old → chunk_of new q ≡ None → AreTaken new
-  taken_gone was gone = taken_after was (if_none (chunk_of new q) (λ chunk. 0 < taken chunk) gone)
+-- a table once pages of a range are gone
+pub gone_is : (old new : Stored) (first end k : ℕ) → in_chunks new.chunks k ≡ (if is_between first end k then None else in_chunks old.chunks k)
+    → ((j : ℕ) → is_hole new.holes k j ≡ (is_hole old.holes k j && not (is_between first end k))) → in_table new k ≡ (if is_between first end k then None else in_table old k)
+gone_is old new first end k pages holes =
+    elim (cases_Bool (is_between first end k)) [
+      | inl inside ↦ none_is new k (pages ∙ ap (λ (b : Bool). if b then None else in_chunks old.chunks k) inside) ∙ ap (λ (b : Bool). if b then None else in_table old k) (sym inside)
+      | inr outside ↦ same_is old new k (pages ∙ ap (λ (b : Bool). if b then None else in_chunks old.chunks k) outside) (λ j. holes j ∙ kept_bit (is_hole old.holes k j) (is_between first end k) outside)
+          ∙ ap (λ (b : Bool). if b then None else in_table old k) (sym outside)
+    ]
 
--- Where the chunks are those of a map that has changed at one number.
-module _ (m n : BTreeMap ℕ Chunk) (q : ℕ) (after : Chunk) (updates : UpdatesBy nat_cmp (nat_cmp q) m n (Some after)) where
-  pub map_here : (k : ℕ) (page : Option (List ℕ)) → k / 256 ≡ q → in_place after (k % 256) ≡ page → in_table n.entries k ≡ page
-  map_here k page is here = sym (found_is n.entries k q after is (sym updates.1)) ∙ here
+-- a part of a page of zeros
+zero_page_is : (n : ℕ) → n ≡ 4096 → zero_page ≡ replicate n 0
+unfolding zero_page
+zero_page_is n e = ap (λ (k : ℕ). replicate k 0) (sym e)
 
-  pub map_others : (before : Option Chunk) (number : ℕ) → number / 256 ≡ q → before ≡ get nat_cmp m q → ((k : ℕ) → k ≢ number % 256 → in_place after k ≡ in_chunk before k)
-      → (k : ℕ) → k ≢ number → in_table n.entries k ≡ in_table m.entries k
-  map_others before number is found same =
-      other_places m.entries n.entries q (updates_others m n q (Some after) updates) number is
-      (λ k apart. ap (λ (c : Option Chunk). in_chunk c k) updates.1 ∙ same k apart ∙ ap (λ (c : Option Chunk). in_chunk c k) found)
+zeros_part : (n count : ℕ) → n ≡ 4096 → count ≤ 4096 → take count zero_page ≡ replicate count 0
+zeros_part n count all within = ap (take count) (zero_page_is n all) ∙ take-replicate count n 0 (omega arith)
 
-  pub map_same : (before : Chunk) → Some before ≡ get nat_cmp m q → after ≡ before → (k : ℕ) → in_table n.entries k ≡ in_table m.entries k
-  map_same before found same =
-      same_table m.entries n.entries q (updates_others m n q (Some after) updates)
-      (λ k. ap (λ (c : Option Chunk). in_chunk c k) updates.1 ∙ ap (λ (chunk : Chunk). in_place chunk k) same ∙ ap (λ (c : Option Chunk). in_chunk c k) found)
+pub zeros_of : (zeros : List ℕ) (count : ℕ) → zeros ≡ zero_page → count ≤ 4096 → take count zeros ≡ replicate count 0
+zeros_of zeros count is within = ap (take count) is ∙ zeros_part 4096 count refl within
 
-  pub map_taken : AreTaken m.entries → 0 < taken after → AreTaken n.entries
-  map_taken was here =
-      taken_after m.entries n.entries q (updates_others m n q (Some after) updates) was (subst (λ (c : Option Chunk). IfSome c (λ chunk. 0 < taken chunk)) (sym updates.1) here)
-
--- how many pages of a chunk are stored
-pub count_chunk : (chunks : List (ℕ × Chunk)) (q n begin : ℕ) (chunk : Chunk) → n ≡ 256 → begin ≡ 256 * q → length chunk.pages ≡ n → Some chunk ≡ chunk_of chunks q
-    → taken chunk ≡ count_of (λ k. is_some (in_table chunks k)) begin n
-count_chunk chunks q n begin chunk all begins long found =
-    sym (count_list is_some chunk.pages (λ k. is_some (in_table chunks k)) begin n (sym long) (λ i j below at.
-    let block : j / 256 ≡ q = omega arith in
-    let place : j % 256 ≡ i = omega arith in
-    ap is_some (sym (found_is chunks j q chunk block found)) ∙ ap (λ (p : ℕ). is_some (in_place chunk p)) place ∙ some_place chunk i))
-
-pub count_absent : (chunks : List (ℕ × Chunk)) (q n begin : ℕ) → n ≡ 256 → begin ≡ 256 * q → chunk_of chunks q ≡ None → count_of (λ k. is_some (in_table chunks k)) begin n ≡ 0
-count_absent chunks q n begin all begins absent =
-    count-none (λ k. is_some (in_table chunks k)) begin n (λ k above below. ap is_some (absent_is chunks k q (omega arith) absent))
-
--- between two chunks where there is none
-pub none_between : (chunks : List (ℕ × Chunk)) (from to : ℕ) → ((q : ℕ) → from ≤ q → q < to → chunk_of chunks q ≡ None) → (k : ℕ) → 256 * from ≤ k → k < 256 * to → in_table chunks k ≡ None
-none_between chunks from to none k above below = absent_is chunks k (k / 256) refl (none (k / 256) (omega arith) (omega arith))
-
--- Pages of a chunk are stored no longer, and the chunk goes, or stays as long as a place is taken.
-module _ (old new : List (ℕ × Chunk)) (q first end : ℕ) (others : (p : ℕ) → p ≢ q → chunk_of new p ≡ chunk_of old p) where
-  pub whole_gone : first ≤ q * 256 → q * 256 + 256 ≤ end → chunk_of new q ≡ None → (k : ℕ) → k / 256 ≡ q → in_table new k ≡ (if is_between first end k then None else in_table old k)
-  whole_gone above below gone k is =
-      let inside : is_between first end k ≡ true = between_yes first end k (omega arith) (omega arith) in
-      absent_is new k q is gone ∙ ap (λ (b : Bool). if b then None else in_table old k) (sym inside)
-
-  pub places_gone : (from to : ℕ) → from ≡ first - q * 256 → to ≡ min (end - q * 256) 256 → ((k : ℕ) → in_chunk (chunk_of new q) k ≡ (if is_between from to k then None else in_chunk (chunk_of old q) k))
-      → (k : ℕ) → k / 256 ≡ q → in_table new k ≡ (if is_between first end k then None else in_table old k)
-  places_gone from to begins ends here k is =
-      table_is new k q is ∙ here (k % 256)
-      ∙ ap (λ (b : Bool). if b then None else in_chunk (chunk_of old q) (k % 256)) (between_part first end (q * 256) 256 from to k (k % 256) begins ends (omega arith) (omega arith))
-      ∙ ap (λ (page : Option (List ℕ)). if is_between first end k then None else page) (sym (table_is old k q is))
-
--- of a chunk in which no place is taken nothing is stored
-none_in_chunk : (chunk : Option Chunk) (n k : ℕ) → IfSome chunk (λ c. n ≡ taken c) → n ≡ 0 → in_chunk chunk k ≡ None
-none_in_chunk None n k left none = refl
-none_in_chunk (Some chunk) n k left none = none_taken_place chunk k (sym left ∙ none)
-
-some_in_chunk : (chunk : Option Chunk) (n : ℕ) → IfSome chunk (λ c. n ≡ taken c) → 0 < n → IfSome chunk (λ c. 0 < taken c)
-some_in_chunk None n left some = tt
-some_in_chunk (Some chunk) n left some = omega (arith, left)
-
--- the same where it is empty and goes
-pub places_all_gone : (old mid new : List (ℕ × Chunk)) (q first end from to n : ℕ) → from ≡ first - q * 256 → to ≡ min (end - q * 256) 256 → ((p : ℕ) → p ≢ q → chunk_of mid p ≡ chunk_of old p)
-    → ((k : ℕ) → in_chunk (chunk_of mid q) k ≡ (if is_between from to k then None else in_chunk (chunk_of old q) k))
-    → IfSome (chunk_of mid q) (λ c. n ≡ taken c) → n ≡ 0 → chunk_of new q ≡ None → (k : ℕ) → k / 256 ≡ q → in_table new k ≡ (if is_between first end k then None else in_table old k)
-places_all_gone old mid new q first end from to n begins ends others here left none gone k is =
-    absent_is new k q is gone ∙ sym (table_is mid k q is ∙ none_in_chunk (chunk_of mid q) n (k % 256) left none) ∙ places_gone old mid q first end others from to begins ends here k is
-
-pub taken_left : (old mid : List (ℕ × Chunk)) (q n : ℕ) → ((p : ℕ) → p ≢ q → chunk_of mid p ≡ chunk_of old p) → AreTaken old → IfSome (chunk_of mid q) (λ c. n ≡ taken c) → (n ≡ 0 → ⊥) → AreTaken mid
-taken_left old mid q n others was left some = taken_after old mid q others was (some_in_chunk (chunk_of mid q) n left (omega arith))
+pub some_is : (a b : List ℕ) → ◌≡◌ {A = Option (List ℕ)} (Some a) (Some b) → a ≡ b
+some_is a b same = cc

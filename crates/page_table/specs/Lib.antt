@@ -1,5 +1,7 @@
 pub mod Bits
+pub mod Items
 pub mod Places
+pub mod Holes
 pub mod Table
 pub mod Marks
 pub mod Swept

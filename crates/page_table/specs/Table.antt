@@ -1,25 +1,34 @@
 -- Pages by their numbers, in chunks of 256 in a row, each of which is known by its number.
-use Rattle.std.specs.Prelude.{ℕ, suc, ◌+◌, ◌*◌, ◌/◌, ◌%◌, ◌<◌, Bool, ◌&&◌, nat_lt, Option, None, Some, is_some, IfSome, List, [], ◌∷◌, length, replicate, get_or, if◌then◌else◌}
+use Rattle.std.specs.Prelude.{◌≡◌, ℕ, suc, ◌/◌, ◌%◌, ◌<◌, ◌^◌, Bool, true, Option, None, Some, is_some, IfSome, List, [], ◌∷◌, length, replicate, get_or, if◌then◌else◌}
 use Rattle.std.specs.Ordering.{nat_cmp}
 use Rattle.std.specs.List.{filter}
 use Rattle.std.specs.BTreeMap.{is_at}
 use Rattle.std.specs.Map.{lookup}
 use Rattle.payload.specs.Bytes.{overwritten}
-use Rattle.page_table.specs.Bits.{is_set}
+use Rattle.page_table.specs.Bits.{count_of}
+use Rattle.page_table.specs.Holes.{Holes, is_hole, is_noted}
 
--- the pages in the places of a chunk, and a bit for each of their bytes, 4,096 for each place: those that are set are zeros,
--- whatever stands there
-pub record Chunk : Type 0 where
-  pub pages : List (Option (List ℕ))
-  pub holes : List ℕ
+-- what is in the places of a chunk
+abbrev pub Chunk : Type 0
+Chunk = List (Option (List ℕ))
 
--- no pages at all
-abbrev pub no_chunk : Chunk
-no_chunk = record { pages = []; holes = [] }
+-- chunks, and which bytes of their pages are zeros, whatever stands there
+pub record Stored : Type 0 where
+  pub chunks : List (ℕ × Chunk)
+  pub holes : List (ℕ × List ℕ)
 
--- whether a byte of the page in a place is such a zero
-abbrev pub is_hole : List ℕ → ℕ → ℕ → Bool
-is_hole holes place number = nat_lt number 4096 && is_set holes (4096 * place + number)
+-- the chunk of a number
+abbrev pub chunk_of : List (ℕ × Chunk) → ℕ → Option Chunk
+chunk_of chunks number = lookup (is_at (nat_cmp number)) chunks
+
+-- what is in a place, where there is the chunk
+abbrev pub in_chunk : Option Chunk → ℕ → Option (List ℕ)
+in_chunk None place = None
+in_chunk (Some chunk) place = get_or chunk place None
+
+-- what lies in the chunks for a number
+unfoldable pub in_chunks : List (ℕ × Chunk) → ℕ → Option (List ℕ)
+in_chunks chunks number = in_chunk (chunk_of chunks (number / 256)) (number % 256)
 
 -- bytes, the first of which has a number, with zeros for those that are such
 abbrev pub shown : (ℕ → Bool) → ℕ → List ℕ → List ℕ
@@ -30,30 +39,29 @@ abbrev pub shown_page : (ℕ → Bool) → Option (List ℕ) → Option (List �
 shown_page hole None = None
 shown_page hole (Some page) = Some (shown hole 0 page)
 
--- the page in a place of a chunk, or in one that it doesn't have
-unfoldable pub in_place : Chunk → ℕ → Option (List ℕ)
-in_place chunk place = shown_page (is_hole chunk.holes place) (get_or chunk.pages place None)
+-- the page of a number
+unfoldable pub in_table : Stored → ℕ → Option (List ℕ)
+in_table table number = shown_page (is_hole table.holes number) (in_chunks table.chunks number)
 
 -- how many places are taken
 abbrev pub taken : Chunk → ℕ
-taken chunk = length (filter is_some chunk.pages)
-
--- the chunk of a number
-abbrev pub chunk_of : List (ℕ × Chunk) → ℕ → Option Chunk
-chunk_of chunks number = lookup (is_at (nat_cmp number)) chunks
-
--- the page in a place, where there is the chunk
-abbrev pub in_chunk : Option Chunk → ℕ → Option (List ℕ)
-in_chunk None place = None
-in_chunk (Some chunk) place = in_place chunk place
-
--- the page of a number
-unfoldable pub in_table : List (ℕ × Chunk) → ℕ → Option (List ℕ)
-in_table chunks number = in_chunk (chunk_of chunks (number / 256)) (number % 256)
+taken chunk = length (filter is_some chunk)
 
 -- of each chunk that is there a place is taken
 abbrev pub AreTaken : List (ℕ × Chunk) → Type 0
 AreTaken chunks = (number : ℕ) → IfSome (chunk_of chunks number) (λ chunk. 0 < taken chunk)
+
+-- whether something lies in the chunks for a number, and for how many
+abbrev pub is_kept : List (ℕ × Chunk) → ℕ → Bool
+is_kept chunks number = is_some (in_chunks chunks number)
+
+abbrev pub kept : List (ℕ × Chunk) → ℕ
+kept chunks = count_of (is_kept chunks) 0 (2 ^ 64)
+
+-- there is room for as many rows as pages lie in chunks, and rows are of such pages alone
+pub record HaveRoom (chunks : List (ℕ × Chunk)) (holes : Holes) : Type 0 where
+  pub pages : kept chunks ≡ holes.pages
+  pub rows : (number : ℕ) → is_noted holes.rows number ≡ true → is_kept chunks number ≡ true
 
 -- a page with a range of it made zero, where it is stored
 abbrev pub cleared : ℕ → ℕ → Option (List ℕ) → Option (List ℕ)

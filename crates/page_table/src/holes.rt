@@ -1,115 +1,189 @@
-ghost use Rattle.std.specs.Prelude.{◌≡◌, ℕ, ◌+◌, ◌<◌, ◌≤◌, ◌||◌, ◌&&◌, ◌==◌, not, length, if◌then◌else◌, false, IfOk};
+ghost use Rattle.std.specs.Prelude.{◌≡◌, ℕ, ◌+◌, ◌-◌, ◌<◌, ◌≤◌, ◌||◌, ◌&&◌, ◌==◌, [], not, length, get_or, vec_capacity, if◌then◌else◌, true, false, None, IfSome, IfOk, OnOk, OnErr};
 ghost use Rattle.page_table.specs.Bits.{is_set, is_between};
-ghost use Rattle.page_table.specs.Table.{is_hole, shown};
+ghost use Rattle.page_table.specs.Holes.{is_hole, is_noted, rows_before, AreOrdered};
 
 use crate::bits;
 use nbd_base::NoMemory;
-use payload::PAGE;
 use std::alloc::Allocator;
 use std::marker::Model;
 
-// How many words there are for 256 pages, and for one.
-const ALL_WORDS: usize = 16_384;
+// Room grows by this and an eighth.
+const FIRST_ROOM: usize = 32;
 
-const PAGE_WORDS: usize = 64;
+/// The number of a page, and a bit for each of its bytes.
+type Row = (usize, [u64; 64]);
 
-/// Which bytes of 256 pages are zeros, whatever else stands there. They have memory from the start, which isn't touched before there
-/// is one.
+/// Which bytes of pages are zeros, whatever else stands there. It has memory for as many pages as are counted in (`add_page`), and
+/// doesn't touch it before there is such a byte.
 #[derive(Drop)]
 pub(crate) struct Holes<A: Allocator + Copy> {
-    // A bit for each byte, or no words yet.
-    words: Vec<u64, A>,
+    // In the order of the pages' numbers.
+    rows: Vec<Row, A>,
+    pages: usize,
 }
 
 impl<A: Allocator + Copy> Model for Holes<A> {
-    ghost use Rattle.std.specs.Prelude.{◌≡◌, ◌≤◌, ◌⊎◌, ℕ, List, length, vec_capacity};
+    ghost use Rattle.std.specs.Prelude.{◌≡◌, ◌≤◌, vec_capacity};
+    ghost use Rattle.page_table.specs.Holes.{Holes as Seen, AreOrdered};
 
-    ghost Value = { List ℕ };
+    ghost Value = { Seen };
 
-    ghost view = { λ holes. holes.words.items };
+    ghost view = { λ holes. record { rows = holes.rows.items; pages = holes.pages } };
 
-    ghost invariant = { λ holes. ((length holes.words.items ≡ 0)
-        ⊎ (length holes.words.items ≡ 16384)) × (16384 ≤ vec_capacity holes.words) };
+    ghost invariant = { λ holes. AreOrdered 0 holes.rows.items
+        × (holes.pages ≤ vec_capacity holes.rows) };
+}
+
+// Puts a vector with room for more in the place of one. The old one's memory isn't copied beyond its rows, so what was never touched
+// stays so.
+fn make_room<A: Allocator + Copy>(alloc: A, rows: &mut Vec<Row, A>) -> Result<(), NoMemory>
+    ensures rows { rows.new.items ≡ rows.old.items }
+    ensures room { OnOk result (vec_capacity rows.old < vec_capacity rows.new) }
+    ensures no_memory { OnErr result (rows.new ≡ rows.old) }
+{
+    let room = rows.capacity();
+    let mut more = Vec::with_capacity(alloc, room + room / 8 + FIRST_ROOM)?;
+    let Ok(()) = more.append(rows) else {
+        unreachable!();
+    };
+    *rows = more;
+    Ok(())
 }
 
 impl<A: Allocator + Copy> Holes<A> {
-    /// None yet.
-    pub(crate) fn none(alloc: A) -> Result<Holes<A>, NoMemory>
-        ensures { IfOk result (λ holes. (place k : ℕ) → is_hole holes place k ≡ false) }
+    /// None, and room for none. It takes no memory.
+    pub(crate) fn none(alloc: A) -> Holes<A>
+        ensures rows { result.rows ≡ [] }
+        ensures pages { result.pages ≡ 0 }
     {
-        let words = Vec::with_capacity(alloc, ALL_WORDS)?;
-        Ok(Holes { words })
+        Holes {
+            rows: Vec::new(alloc),
+            pages: 0,
+        }
     }
 
-    /// Whether there may be any in a page.
-    pub(crate) fn any(&self, place: usize) -> bool
-        requires { place < 256 }
-        ensures { result ≡ false → (k : ℕ) → is_hole self.now place k ≡ false }
+    /// There is room for one more page.
+    pub(crate) fn add_page(&mut self, alloc: A) -> Result<(), NoMemory>
+        ensures rows { self.new.rows ≡ self.old.rows }
+        ensures pages { OnOk result (self.new.pages ≡ self.old.pages + 1) }
+        ensures no_memory { OnErr result (self.new ≡ self.old) }
     {
-        if self.words.is_empty() {
+        if self.pages == self.rows.capacity() {
+            make_room(alloc, &mut self.rows)?;
+        }
+        self.pages += 1;
+        Ok(())
+    }
+
+    /// So many pages are there no longer.
+    pub(crate) fn remove_pages(&mut self, count: usize)
+        requires { count ≤ self.old.pages }
+        ensures rows { self.new.rows ≡ self.old.rows }
+        ensures pages { self.new.pages + count ≡ self.old.pages }
+    {
+        self.pages -= count;
+    }
+
+    // How many rows are of pages before one.
+    fn find(&self, page: usize) -> usize
+        ensures place { result ≡ rows_before self.now.rows page }
+        ensures within { result ≤ length self.now.rows }
+        ensures ordered { AreOrdered 0 self.now.rows }
+    {
+        let mut from = 0;
+        let mut to = self.rows.len();
+        while from < to {
+            let middle = from + (to - from) / 2;
+            if self.rows[middle].0 < page {
+                from = middle + 1;
+            } else {
+                to = middle;
+            }
+        }
+        from
+    }
+
+    // Whether the row of a page is the one before which there are so many.
+    fn has(&self, at: usize, page: usize) -> bool
+        requires { at ≡ rows_before self.now.rows page }
+        ensures { result ≡ is_noted self.now.rows page }
+    {
+        if at >= self.rows.len() {
             return false;
         }
-        let first = place * PAGE_WORDS;
-        bits::any(&self.words[first..first + PAGE_WORDS])
+        self.rows[at].0 == page
     }
 
-    // A byte of a page, or zero where it is one.
-    fn show_one(&self, place: usize, number: usize, byte: u8) -> u8
-        requires place { place < 256 }
-        requires number { number < 4096 }
-        ensures { result ≡ (if is_hole self.now place number then 0 else byte) }
+    /// A bit for each byte of a page, where there may be any.
+    pub(crate) fn of(&self, page: usize) -> Option<&[u64]>
+        ensures some { IfSome result (λ words. (k : ℕ)
+            → is_hole self.now.rows page k ≡ is_set words.now k) }
+        ensures none { result ≡ None → (k : ℕ) → is_hole self.now.rows page k ≡ false }
     {
-        if bits::has(self.words.as_slice(), place * PAGE + number) {
-            0
-        } else {
-            byte
+        let at = self.find(page);
+        if !self.has(at, page) {
+            return None;
         }
+        Some(self.rows[at].1.as_slice())
     }
 
-    /// The bytes of a page, with zeros for those that are such.
-    pub(crate) fn show(&self, place: usize, mut bytes: [u8; 4096]) -> [u8; 4096]
-        requires { place < 256 }
-        ensures { result ≡ shown (is_hole self.now place) 0 bytes }
+    // A page has a row from now on. It takes no memory.
+    fn open(&mut self, at: usize, page: usize)
+        requires place { at ≡ rows_before self.old.rows page }
+        requires room { is_noted self.old.rows page ≡ false
+            → length self.old.rows < self.old.pages }
+        ensures pages { self.new.pages ≡ self.old.pages }
+        ensures place { at ≡ rows_before self.new.rows page }
+        ensures noted { (p : ℕ) → is_noted self.new.rows p ≡ (is_noted self.old.rows p || (p == page)) }
+        ensures holes { (p k : ℕ) → is_hole self.new.rows p k ≡ is_hole self.old.rows p k }
     {
-        for number in 0..PAGE {
-            bytes[number] = self.show_one(place, number, bytes[number]);
+        if self.has(at, page) {
+            return;
         }
-        bytes
-    }
-
-    // There are words for all of them from now on. It takes no memory.
-    fn open(&mut self)
-        ensures long { length self.new ≡ 16384 }
-        ensures same { (k : ℕ) → is_set self.new k ≡ is_set self.old k }
-    {
-        if self.words.is_empty() {
-            let Ok(()) = self.words.resize(ALL_WORDS, 0) else {
-                unreachable!();
-            };
-        }
+        let Ok(()) = self.rows.insert(at, (page, [0; 64])) else {
+            unreachable!();
+        };
     }
 
     /// The bytes of a range of a page are such from now on. It takes no memory.
-    pub(crate) fn dig(&mut self, place: usize, start: usize, count: usize)
-        requires place { place < 256 }
+    pub(crate) fn dig(&mut self, page: usize, start: usize, count: usize)
         requires within { start + count ≤ 4096 }
-        ensures { (p k : ℕ) → is_hole self.new p k
-            ≡ (is_hole self.old p k || ((p == place) && is_between start (start + count) k)) }
+        requires room { AreOrdered 0 self.old.rows → is_noted self.old.rows page ≡ false
+            → length self.old.rows < self.old.pages }
+        ensures pages { self.new.pages ≡ self.old.pages }
+        ensures noted { (p : ℕ) → is_noted self.new.rows p ≡ (is_noted self.old.rows p || (p == page)) }
+        ensures holes { (p k : ℕ) → is_hole self.new.rows p k
+            ≡ (is_hole self.old.rows p k || ((p == page) && is_between start (start + count) k)) }
     {
-        self.open();
-        let first = place * PAGE + start;
-        bits::put(self.words.as_mut_slice(), first, first + count, true);
+        let at = self.find(page);
+        self.open(at, page);
+        bits::put(&mut self.rows[at].1, start, start + count, true);
     }
 
     /// No byte of a page is one any more.
-    pub(crate) fn fill(&mut self, place: usize)
-        requires { place < 256 }
-        ensures { (p k : ℕ) → is_hole self.new p k ≡ (is_hole self.old p k && not (p == place)) }
+    pub(crate) fn fill(&mut self, page: usize)
+        ensures pages { self.new.pages ≡ self.old.pages }
+        ensures noted { (p : ℕ) → is_noted self.new.rows p ≡ (is_noted self.old.rows p && not (p == page)) }
+        ensures holes { (p k : ℕ) → is_hole self.new.rows p k
+            ≡ (is_hole self.old.rows p k && not (p == page)) }
     {
-        if self.words.is_empty() {
-            return;
+        let at = self.find(page);
+        if self.has(at, page) {
+            self.rows.remove(at);
         }
-        let first = place * PAGE;
-        bits::put(self.words.as_mut_slice(), first, first + PAGE, false);
+    }
+
+    /// No byte of the pages from one on before an end is one any more.
+    pub(crate) fn fill_all(&mut self, first: usize, end: usize)
+        requires { first ≤ end }
+        ensures pages { self.new.pages ≡ self.old.pages }
+        ensures noted { (p : ℕ) → is_noted self.new.rows p
+            ≡ (is_noted self.old.rows p && not (is_between first end p)) }
+        ensures holes { (p k : ℕ) → is_hole self.new.rows p k
+            ≡ (is_hole self.old.rows p k && not (is_between first end p)) }
+    {
+        let from = self.find(first);
+        let to = self.find(end);
+        self.rows.drain(from..to);
     }
 }

@@ -5,16 +5,17 @@
 
 mod bitmap;
 mod bits;
-mod chunk;
+mod chunks;
 mod held_zeros;
 mod holes;
+mod items;
 mod least;
 mod places;
 mod swept;
 mod table;
 
 pub use bitmap::BITMAP;
-pub use chunk::CHUNK;
+pub use chunks::CHUNK;
 pub use held_zeros::HeldZeros;
 pub use swept::Swept;
 pub use table::Table;

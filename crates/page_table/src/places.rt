@@ -1,11 +1,11 @@
-ghost use Rattle.std.specs.Prelude.{◌≡◌, ◌<◌, ◌≤◌, ◌==◌, None, Some, IfSome, IfOk, IsOk, OnOk, OnErr, is_some, true, length, get_or, set, replicate};
+ghost use Rattle.std.specs.Prelude.{◌≡◌, ◌<◌, ◌≤◌, ◌==◌, None, Some, IfSome, IfOk, IfErr, OnOk, OnErr, is_some, length, get_or, set, replicate};
 ghost use Rattle.std.specs.List.{filter};
 
 use crate::bits;
+use crate::items::Items;
 use nbd_base::NoMemory;
 use std::alloc::Allocator;
 use std::marker::Model;
-use std::mem;
 
 /// Places for 256 items in a row. The items that are there lie side by side, so a place without one takes a bit.
 #[derive(Drop)]
@@ -13,7 +13,7 @@ pub(crate) struct Places<T: Drop, A: Allocator + Copy> {
     // In which places there is an item, a bit for each.
     marks: [u64; 4],
     // In the order of their places.
-    items: Vec<T, A>,
+    items: Items<T, A>,
 }
 
 impl<T: Drop, A: Allocator + Copy> Model for Places<T, A> {
@@ -23,10 +23,10 @@ impl<T: Drop, A: Allocator + Copy> Model for Places<T, A> {
 
     ghost Value = { List (Option T) };
 
-    ghost view = { λ places. in_places places.marks places.items.items };
+    ghost view = { λ places. in_places places.marks places.items };
 
     ghost invariant = { λ places.
-        length places.items.items ≡ count_of (is_set places.marks) 0 256 };
+        length places.items ≡ count_of (is_set places.marks) 0 256 };
 }
 
 impl<T: Drop, A: Allocator + Copy> Places<T, A> {
@@ -36,7 +36,7 @@ impl<T: Drop, A: Allocator + Copy> Places<T, A> {
     {
         Places {
             marks: [0; 4],
-            items: Vec::new(alloc),
+            items: Items::new(alloc),
         }
     }
 
@@ -59,26 +59,33 @@ impl<T: Drop, A: Allocator + Copy> Places<T, A> {
         if !bits::has(&self.marks, place) {
             return None;
         }
-        Some(&self.items[bits::count_below(&self.marks, place)])
+        Some(self.items.get(bits::count_below(&self.marks, place)))
     }
 
-    // Puts an item in the place of one.
-    fn exchange(&mut self, place: usize, item: T) -> T
-        requires place { place < 256 }
-        requires there { is_some (get_or self.old place None) ≡ true }
-        ensures before { get_or self.old place None ≡ Some result }
-        ensures after { self.new ≡ set self.old place (Some item) }
+    /// Puts an item in the place of one, which is the answer. Where there is none, the item is handed back.
+    pub(crate) fn exchange(&mut self, place: usize, item: T) -> Result<T, T>
+        requires { place < 256 }
+        ensures before { IfOk result (λ before. get_or self.old place None ≡ Some before) }
+        ensures after { OnOk result (self.new ≡ set self.old place (Some item)) }
+        ensures none { OnErr result (get_or self.old place None ≡ None) }
+        ensures back { IfErr result (λ back. back ≡ item) }
+        ensures same { OnErr result (self.new ≡ self.old) }
+        ensures long { length self.old ≡ 256 }
     {
+        if !bits::has(&self.marks, place) {
+            return Err(item);
+        }
         let at = bits::count_below(&self.marks, place);
-        mem::replace(&mut self.items[at], item)
+        Ok(self.items.exchange(at, item))
     }
 
-    // Puts an item where there is none.
-    fn add(&mut self, place: usize, item: T) -> Result<(), NoMemory>
+    /// Puts an item where there is none.
+    pub(crate) fn add(&mut self, place: usize, item: T) -> Result<(), NoMemory>
         requires place { place < 256 }
         requires none { get_or self.old place None ≡ None }
         ensures added { OnOk result (self.new ≡ set self.old place (Some item)) }
         ensures no_memory { OnErr result (self.new ≡ self.old) }
+        ensures long { length self.old ≡ 256 }
     {
         let at = bits::count_below(&self.marks, place);
         let Ok(()) = self.items.insert(at, item) else {
@@ -86,23 +93,6 @@ impl<T: Drop, A: Allocator + Copy> Places<T, A> {
         };
         bits::put_one(&mut self.marks, place, true);
         Ok(())
-    }
-
-    /// Puts an item in a place. The answer is the one before it. It takes no memory where there is one.
-    pub(crate) fn put(&mut self, place: usize, item: T) -> Result<Option<T>, NoMemory>
-        requires { place < 256 }
-        ensures before { IfOk result (λ before. before ≡ get_or self.old place None) }
-        ensures after { OnOk result (self.new ≡ set self.old place (Some item)) }
-        ensures there { is_some (get_or self.old place None) ≡ true → IsOk result }
-        ensures no_memory { OnErr result (self.new ≡ self.old) }
-        ensures long { length self.old ≡ 256 }
-    {
-        if self.get(place).is_some() {
-            let before = self.exchange(place, item);
-            return Ok(Some(before));
-        }
-        self.add(place, item)?;
-        Ok(None)
     }
 
     /// Takes the item out of a place.

@@ -1,71 +1,60 @@
-ghost use Rattle.std.specs.Prelude.{◌≡◌, ℕ, ◌+◌, ◌*◌, ◌/◌, ◌%◌, ◌<◌, ◌≤◌, ◌^◌, ◌≢◌, None, Some, IfOk, IsOk, IsSome, IfSome, OnOk, OnErr, is_some, true, if◌then◌else◌};
-ghost use Rattle.page_table.specs.Bits.{is_between, count_of};
-ghost use Rattle.page_table.specs.Table.{in_table, cleared, chunk_of, in_chunk, taken};
+ghost use Rattle.std.specs.Prelude.{◌≡◌, ℕ, ◌+◌, ◌*◌, ◌/◌, ◌<◌, ◌≤◌, ◌^◌, ◌≢◌, None, Some, IfOk, IsOk, IsSome, IfSome, OnOk, OnErr, is_some, true, false, if◌then◌else◌};
+ghost use Rattle.page_table.specs.Bits.{is_set, is_between, count_of};
+ghost use Rattle.page_table.specs.Table.{in_table, in_chunks, shown, cleared, chunk_of};
+ghost use Rattle.page_table.specs.Holes.{is_noted};
 
-use crate::chunk::{CHUNK, Chunk};
-use crate::least::least_from;
+use crate::bits;
+use crate::chunks::{CHUNK, Chunks};
+use crate::holes::Holes;
 use crate::swept::Swept;
 use nbd_base::NoMemory;
-use payload::Page;
+use payload::{PAGE, Page};
 use std::alloc::Allocator;
-use std::collections::BTreeMap;
 use std::marker::Model;
 
-/// Pages by their numbers, in chunks of 256 in a row. A page is found by a look-up in the map of the chunks, which is small,
-/// and a count of the pages before it in its chunk. A chunk in which no page is stored isn't there.
+/// Pages by their numbers. Where a range of one can't be made zero in a copy for want of memory, it is noted which bytes are zeros.
 #[derive(Drop)]
 pub struct Table<A: Allocator + Copy> {
-    chunks: BTreeMap<usize, Chunk<A>, A>,
+    chunks: Chunks<A>,
+    // Of pages that are stored, and with room for each of them.
+    holes: Holes<A>,
 }
 
 impl<A: Allocator + Copy> Model for Table<A> {
-    ghost use Rattle.std.specs.Prelude.{ℕ, List};
-    ghost use Rattle.page_table.specs.Table.{Chunk as Seen, AreTaken};
+    ghost use Rattle.page_table.specs.Table.{Stored, HaveRoom};
 
-    ghost Value = { List (ℕ × Seen) };
+    ghost Value = { Stored };
 
-    ghost view = { λ table. table.chunks.entries };
+    ghost view = { λ table. record { chunks = table.chunks; holes = table.holes.rows } };
 
-    ghost invariant = { λ table. AreTaken table.chunks.entries };
+    ghost invariant = { λ table. HaveRoom table.chunks table.holes };
 }
 
-// Pages of a chunk that is there are stored no longer, from a place on before an end. The answer is how many are stored then.
-fn remove_places<A: Allocator + Copy>(
-    chunks: &mut BTreeMap<usize, Chunk<A>, A>,
-    number: usize,
-    first: usize,
-    end: usize,
-    swept: &mut Swept<A>,
-) -> usize
-    requires there { IsSome (chunk_of chunks.old.entries number) }
-    requires end { end ≤ 256 }
-    ensures here { (k : ℕ) → in_chunk (chunk_of chunks.new.entries number) k
-        ≡ (if is_between first end k then None else in_chunk
-        (chunk_of chunks.old.entries number) k) }
-    ensures left { IfSome (chunk_of chunks.new.entries number) (λ chunk. result ≡ taken chunk) }
-    ensures others { (q : ℕ) → q ≢ number
-        → chunk_of chunks.new.entries q ≡ chunk_of chunks.old.entries q }
+// A byte, or zero where it is one.
+fn show_one(holes: &[u64], number: usize, byte: u8) -> u8
+    ensures { result ≡ (if is_set holes.now number then 0 else byte) }
 {
-    let Some(chunk) = chunks.get_mut(&number) else {
-        unreachable!();
-    };
-    chunk.remove(first, end, swept);
-    chunk.taken()
+    if bits::has(holes, number) { 0 } else { byte }
 }
 
-// A chunk is there no longer.
-fn remove_chunk<A: Allocator + Copy>(
-    chunks: &mut BTreeMap<usize, Chunk<A>, A>,
-    number: usize,
-    swept: &mut Swept<A>,
-)
-    ensures here { chunk_of chunks.new.entries number ≡ None }
-    ensures others { (q : ℕ) → q ≢ number
-        → chunk_of chunks.new.entries q ≡ chunk_of chunks.old.entries q }
+// The bytes of a page, with zeros for those that are such.
+fn show(holes: &[u64], mut bytes: [u8; 4096]) -> [u8; 4096]
+    ensures { result ≡ shown (is_set holes.now) 0 bytes }
 {
-    if let Some(chunk) = chunks.remove(&number) {
-        swept.take_chunk(chunk);
+    for number in 0..PAGE {
+        bytes[number] = show_one(holes, number, bytes[number]);
     }
+    bytes
+}
+
+// A copy of a page, with zeros for the bytes that are such. It isn't made a part of its caller, which would zero its bytes even where
+// none are copied.
+#[inline(never)]
+fn copied<A: Allocator + Copy>(alloc: A, holes: &[u64], page: &Page<A>) -> Result<Page<A>, NoMemory>
+    ensures { IfOk result (λ copy. copy ≡ shown (is_set holes.now) 0 page.now) }
+{
+    let bytes = show(holes, page.copy());
+    Page::holding(alloc, bytes)
 }
 
 impl<A: Allocator + Copy> Table<A> {
@@ -73,17 +62,33 @@ impl<A: Allocator + Copy> Table<A> {
     pub fn new(alloc: A) -> Table<A>
         ensures { (k : ℕ) → in_table result k ≡ None }
     {
-        let chunks = BTreeMap::new(alloc);
-        Table { chunks }
+        Table {
+            chunks: Chunks::new(alloc),
+            holes: Holes::none(alloc),
+        }
     }
 
-    /// Whether a page is stored.
+    /// Whether a page is stored. It looks at what is kept of that page, so whoever asks has it in a cache then.
     pub fn stores(&self, number: usize) -> bool
         ensures { result ≡ is_some (in_table self.now number) }
     {
-        match self.chunks.get(&(number / CHUNK)) {
-            Some(chunk) => chunk.stores(number % CHUNK),
+        match self.chunks.get(number) {
+            Some(page) => page.as_slice().len() == PAGE,
             None => false,
+        }
+    }
+
+    // The page of a number: the one that is stored, or a copy where some of its bytes were made zero since.
+    fn current(&self, alloc: A, number: usize, page: &Page<A>) -> Result<Page<A>, NoMemory>
+        requires { in_chunks self.now.chunks number ≡ Some page.now }
+        ensures { IfOk result (λ current. Some current ≡ in_table self.now number) }
+    {
+        match self.holes.of(number) {
+            Some(holes) => copied(alloc, holes, page),
+            None => {
+                let page = page.clone()?;
+                Ok(page)
+            }
         }
     }
 
@@ -91,10 +96,26 @@ impl<A: Allocator + Copy> Table<A> {
     pub fn page(&self, alloc: A, number: usize) -> Result<Option<Page<A>>, NoMemory>
         ensures { IfOk result (λ page. page ≡ in_table self.now number) }
     {
-        match self.chunks.get(&(number / CHUNK)) {
-            Some(chunk) => chunk.page(alloc, number % CHUNK),
-            None => Ok(None),
+        let Some(page) = self.chunks.get(number) else {
+            return Ok(None);
+        };
+        let page = self.current(alloc, number, page)?;
+        Ok(Some(page))
+    }
+
+    // Stores a page of whose number none is.
+    fn add(&mut self, alloc: A, number: usize, page: Page<A>) -> Result<(), NoMemory>
+        requires none { in_table self.old number ≡ None }
+        ensures here { OnOk result (in_table self.new number ≡ Some page) }
+        ensures others { (k : ℕ) → k ≢ number → in_table self.new k ≡ in_table self.old k }
+        ensures no_memory { OnErr result (in_table self.new number ≡ None) }
+    {
+        self.holes.add_page(alloc)?;
+        if let Err(NoMemory) = self.chunks.add(alloc, number, page) {
+            self.holes.remove_pages(1);
+            return Err(NoMemory);
         }
+        Ok(())
     }
 
     /// A page is stored from now on. It takes no memory where one was. The one before it is swept out.
@@ -110,13 +131,34 @@ impl<A: Allocator + Copy> Table<A> {
         ensures stored { is_some (in_table self.old number) ≡ true → IsOk result }
         ensures no_memory { OnErr result ((k : ℕ) → in_table self.new k ≡ in_table self.old k) }
     {
-        if let Some(chunk) = self.chunks.get_mut(&(number / CHUNK)) {
-            return chunk.put(number % CHUNK, page, swept);
+        match self.chunks.exchange(number, page, swept) {
+            Ok(()) => {
+                self.holes.fill(number);
+                Ok(())
+            }
+            Err(page) => self.add(alloc, number, page),
         }
-        let mut made = Chunk::new(alloc)?;
-        made.put(number % CHUNK, page, swept)?;
-        self.chunks.insert(number / CHUNK, made)?;
-        Ok(())
+    }
+
+    // The page of a number, with a range of it made zero.
+    fn cleared(
+        &self,
+        alloc: A,
+        number: usize,
+        page: &Page<A>,
+        start: usize,
+        count: usize,
+    ) -> Result<Page<A>, NoMemory>
+        requires there { in_chunks self.now.chunks number ≡ Some page.now }
+        requires within { start + count ≤ 4096 }
+        ensures { IfOk result (λ after.
+            Some after ≡ cleared start count (in_table self.now number)) }
+    {
+        let zeros: Page<A> = Page::zeros();
+        let part = &zeros.as_slice()[..count];
+        let current = self.current(alloc, number, page)?;
+        let after = current.with(alloc, start, part)?;
+        Ok(after)
     }
 
     /// Makes a range of a page zero, where it is stored.
@@ -132,10 +174,18 @@ impl<A: Allocator + Copy> Table<A> {
         ensures here { in_table self.new number ≡ cleared start count (in_table self.old number) }
         ensures others { (k : ℕ) → k ≢ number → in_table self.new k ≡ in_table self.old k }
     {
-        let Some(chunk) = self.chunks.get_mut(&(number / CHUNK)) else {
+        let Some(page) = self.chunks.get(number) else {
             return;
         };
-        chunk.clear(alloc, number % CHUNK, start, count, swept);
+        let _whole = page.as_slice();
+        match self.cleared(alloc, number, page, start, count) {
+            Ok(after) => {
+                let Ok(()) = self.put(alloc, number, after, swept) else {
+                    unreachable!();
+                };
+            }
+            Err(NoMemory) => self.holes.dig(number, start, count),
+        }
     }
 
     // The first chunk that is there, from one on before an end.
@@ -143,34 +193,29 @@ impl<A: Allocator + Copy> Table<A> {
         requires { from ≤ end }
         ensures begins { IfSome result (λ number. from ≤ number) }
         ensures ends { IfSome result (λ number. number < end) }
-        ensures there { IfSome result (λ number. IsSome (chunk_of self.now number)) }
+        ensures there { IfSome result (λ number. IsSome (chunk_of self.now.chunks number)) }
         ensures first { IfSome result (λ number. (q : ℕ) → from ≤ q → q < number
-            → chunk_of self.now q ≡ None) }
-        ensures none { result ≡ None → (q : ℕ) → from ≤ q → q < end → chunk_of self.now q ≡ None }
+            → chunk_of self.now.chunks q ≡ None) }
+        ensures none { result ≡ None → (q : ℕ) → from ≤ q → q < end
+            → chunk_of self.now.chunks q ≡ None }
     {
-        least_from(&self.chunks, from, end)
+        self.chunks.next_chunk(from, end)
     }
 
-    // Pages of a chunk that is there are stored no longer, from a number on before an end. Where that is the whole chunk, it isn't
-    // looked into; it goes once none of its pages is stored.
+    // Pages of a chunk that is there, none of which has a row, are stored no longer, from a number on before an end.
     fn remove_in(&mut self, chunk: usize, first: usize, end: usize, swept: &mut Swept<A>)
-        requires there { IsSome (chunk_of self.old chunk) }
+        requires there { IsSome (chunk_of self.old.chunks chunk) }
         requires before { 256 * chunk < end }
-        ensures here { (k : ℕ) → k / 256 ≡ chunk
-            → in_table self.new k ≡ (if is_between first end k then None else in_table self.old k) }
-        ensures others { (q : ℕ) → q ≢ chunk → chunk_of self.new q ≡ chunk_of self.old q }
+        requires filled { (k : ℕ) → is_between first end k ≡ true
+            → is_noted self.old.holes k ≡ false }
+        ensures holes { self.new.holes ≡ self.old.holes }
+        ensures here { (k : ℕ) → k / 256 ≡ chunk → in_chunks self.new.chunks k
+            ≡ (if is_between first end k then None else in_chunks self.old.chunks k) }
+        ensures others { (q : ℕ) → q ≢ chunk
+            → chunk_of self.new.chunks q ≡ chunk_of self.old.chunks q }
     {
-        let begin = chunk * CHUNK;
-        let upto = (end - begin).min(CHUNK);
-        if first <= begin && upto == CHUNK {
-            remove_chunk(&mut self.chunks, chunk, swept);
-            return;
-        }
-        let from = first.saturating_sub(begin);
-        let left = remove_places(&mut self.chunks, chunk, from, upto, swept);
-        if left == 0 {
-            remove_chunk(&mut self.chunks, chunk, swept);
-        }
+        let count = self.chunks.remove_in(chunk, first, end, swept);
+        self.holes.remove_pages(count);
     }
 
     /// Pages are stored no longer from a number on before an end, and are swept out. It looks at the chunks that are there alone.
@@ -181,6 +226,7 @@ impl<A: Allocator + Copy> Table<A> {
         if first >= end {
             return;
         }
+        self.holes.fill_all(first, end);
         let last = end.div_ceil(CHUNK);
         let mut next = first / CHUNK;
         while let Some(chunk) = self.next_chunk(next, last) {
@@ -194,10 +240,7 @@ impl<A: Allocator + Copy> Table<A> {
         ensures count { result ≡ count_of (λ k. is_some (in_table self.now k)) (256 * chunk) 256 }
         ensures few { result ≤ 256 }
     {
-        match self.chunks.get(&chunk) {
-            Some(found) => found.taken(),
-            None => 0,
-        }
+        self.chunks.stored_in(chunk)
     }
 
     /// How many pages are stored in the first chunks. It looks at those that are there alone.

@@ -141,3 +141,131 @@ fn a_range_is_made_zero_without_memory(rt: HostRuntime) {
     assert!(rt; puts(&mut image, 0, &piece));
     assert!(rt; is_but(&heap, &image, 7, 0, 0));
 }
+
+// The byte at a place, where memory to read it is there.
+fn byte_at<A: Allocator + Copy>(alloc: A, image: &Paged<A>, place: usize) -> Option<u8> {
+    if place >= image.size() {
+        return None;
+    }
+    match image.read(place, 1) {
+        Ok(payload) => match bytes_of(alloc, &payload) {
+            Ok(bytes) => bytes.get(0).copied(),
+            Err(NoMemory) => None,
+        },
+        Err(NoMemory) => None,
+    }
+}
+
+// Whether so many pages are held, of which the one before a place has a seven there, and the one at it zeros.
+fn has_come_to<'a>(heap: &'a Refusing<Global>, image: &Kept<'a>, pages: usize) -> bool {
+    let place = pages.saturating_mul(4096);
+    image.held() == pages
+        && byte_at(heap, image, place) == Some(0)
+        && (pages == 0 || byte_at(heap, image, place.saturating_sub(4096)) == Some(7))
+}
+
+// How many growths a write of a seven into the next page takes, each of which is refused once and then changes nothing.
+fn growths_of_a_page<'a>(
+    heap: &'a Refusing<Global>,
+    image: &mut Kept<'a>,
+    pages: usize,
+) -> Option<u64> {
+    for nth in 1..20u64 {
+        heap.arm(nth);
+        let written = writes(heap, image, pages.saturating_mul(4096), &[7]);
+        if heap.is_armed() {
+            return if written { Some(nth - 1) } else { None };
+        }
+        if written || !has_come_to(heap, image, pages) {
+            return None;
+        }
+    }
+    None
+}
+
+// Whether pages come one by one, the first of a chunk and some others with more growths than the rest.
+fn come_one_by_one<'a>(heap: &'a Refusing<Global>, image: &mut Kept<'a>, count: usize) -> bool {
+    let mut more = 0;
+    for pages in 0..count {
+        match growths_of_a_page(heap, image, pages) {
+            Some(growths) => {
+                if growths > 3 {
+                    more += 1;
+                }
+            }
+            None => return false,
+        }
+        if image.held() != pages.saturating_add(1) {
+            return false;
+        }
+    }
+    more >= 3
+}
+
+// The pages of a chunk come one by one, each growth of what is kept of them refused in turn: the room for zeros noted without memory too.
+#[test]
+fn pages_come_one_by_one(rt: HostRuntime) {
+    let heap = Refusing::new(rt.alloc(), 0);
+    let mut image: Paged<&Refusing<Global>> = Paged::zeros(&heap, 409_600).expect(&rt, "memory");
+    assert!(rt; come_one_by_one(&heap, &mut image, 80));
+}
+
+// The bytes of a page, where memory to read them is there.
+fn bytes_of_page<'a>(
+    heap: &'a Refusing<Global>,
+    image: &Kept<'a>,
+    page: usize,
+) -> Result<Vec<u8, &'a Refusing<Global>>, NoMemory> {
+    if page >= image.size() / 4096 {
+        return Err(NoMemory);
+    }
+    let payload = image.read(page * 4096, 4096)?;
+    bytes_of(heap, &payload)
+}
+
+// Whether the bytes of a page from a start on before an end are zeros, and the others sevens.
+fn is_page_but<'a>(
+    heap: &'a Refusing<Global>,
+    image: &Kept<'a>,
+    page: usize,
+    start: usize,
+    end: usize,
+) -> bool {
+    let Ok(bytes) = bytes_of_page(heap, image, page) else {
+        return false;
+    };
+    let right = bytes.iter().enumerate().filter(|(at, found)| {
+        let zero = start <= *at && *at < end;
+        **found == if zero { 0 } else { 7 }
+    });
+    right.count() == 4096
+}
+
+// Writes a page of sevens.
+fn writes_page<'a>(heap: &'a Refusing<Global>, image: &mut Kept<'a>, page: usize) -> bool {
+    heap.arm(0);
+    match sevens(heap, 0, 4096) {
+        Ok(piece) => puts(image, page.saturating_mul(4096), &piece),
+        Err(NoMemory) => false,
+    }
+}
+
+// Bytes of two pages are noted as zeros. They stay so while other pages of their chunk come and go, and go with their own page.
+#[test]
+fn noted_zeros_stay_with_their_page(rt: HostRuntime) {
+    let heap = Refusing::new(rt.alloc(), 0);
+    let mut image: Paged<&Refusing<Global>> = Paged::zeros(&heap, 32768).expect(&rt, "memory");
+    assert!(rt; writes_page(&heap, &mut image, 4) && writes_page(&heap, &mut image, 2));
+    assert!(rt; zeroes_without_memory(&heap, &mut image, 16384 + 100, 50));
+    assert!(rt; zeroes_without_memory(&heap, &mut image, 8192 + 3000, 70));
+    assert!(rt; writes_page(&heap, &mut image, 3) && writes_page(&heap, &mut image, 0));
+    assert!(rt; writes_page(&heap, &mut image, 7));
+    assert!(rt; is_page_but(&heap, &image, 4, 100, 150));
+    assert!(rt; is_page_but(&heap, &image, 2, 3000, 3070));
+    assert!(rt; is_page_but(&heap, &image, 3, 0, 0) && is_page_but(&heap, &image, 7, 0, 0));
+    assert!(rt; zeroes(&mut image, 4096, 8192, false) && image.held() == 4);
+    assert!(rt; is_page_but(&heap, &image, 2, 0, 4096));
+    assert!(rt; is_page_but(&heap, &image, 4, 100, 150));
+    assert!(rt; writes_page(&heap, &mut image, 2) && is_page_but(&heap, &image, 2, 0, 0));
+    assert!(rt; writes_page(&heap, &mut image, 4) && is_page_but(&heap, &image, 4, 0, 0));
+}

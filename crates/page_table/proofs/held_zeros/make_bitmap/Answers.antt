@@ -1,5 +1,5 @@
 use Rattle.std.proofs.Common.{◌∙◌, sym}
-use Rattle.page_table.proofs.ChunkLemmas.{absent_page}
+use Rattle.page_table.proofs.ChunksLemmas.{absent_page}
 use Rattle.page_table.proofs.MarksLemmas.{made}
 use Rattle.page_table.proofs.held_zeros.make_bitmap.Goals as goal
 

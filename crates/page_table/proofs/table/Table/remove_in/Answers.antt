@@ -1,28 +1,17 @@
-use Rattle.std.proofs.Common.{◌≡◌, ◌≢◌, ◌∙◌, ℕ, List, None, if◌then◌else◌, ap, arith}
-use Rattle.page_table.specs.Bits.{is_between}
-use Rattle.page_table.specs.Table.{Chunk, chunk_of, in_table}
-use Rattle.page_table.proofs.TableLemmas.{whole_gone, places_gone, places_all_gone}
+use Rattle.std.proofs.Common.{◌∙◌, ◌*◌, ◌<◌, ◌^◌, ℕ, ap, arith}
+use Rattle.page_table.specs.Holes.{is_noted}
+use Rattle.page_table.specs.Table.{Stored, is_kept}
+use Rattle.page_table.proofs.TableLemmas.{split, room_removed}
 use Rattle.page_table.proofs.table.Table.remove_in.Goals as goal
 
-pub returns-then-upto-eq-CHUNK-clause-here : goal.returns-then-upto-eq-CHUNK-clause-here
-returns-then-upto-eq-CHUNK-clause-here g c =
-    let q : ℕ = c.args.chunk in
-    let others : (p : ℕ) → p ≢ q → chunk_of c.remove_chunk.new.chunks.entries p ≡ chunk_of c.args.self.now p =
-    λ p apart. c.remove_chunk.ensures.others p apart ∙ ap (λ (all : List (ℕ × Chunk)). chunk_of all p) c.self.view_is in
-    whole_gone c.args.self.now c.remove_chunk.new.chunks.entries q c.args.first c.args.end others (omega arith) (omega arith) c.remove_chunk.ensures.here
+pub remove_pages-requires : goal.remove_pages-requires
+remove_pages-requires g c =
+    let i = c.self.inside in
+    omega (arith, c.self.invariant.pages, c.remove_in-count.ensures.count, split (is_kept i.chunks) c.args.chunk (omega (arith, c.requires.before)))
 
-pub returns-then-left-eq0-clause-here : goal.returns-then-left-eq0-clause-here
-returns-then-left-eq0-clause-here g c = λ k is.
-    let q : ℕ = c.args.chunk in
-    let places = c.remove_places-left.ensures in
-    places_all_gone c.self.inside.chunks.entries c.remove_places-left.new.chunks.entries c.remove_chunk-then-left-eq0.new.chunks.entries q c.args.first c.args.end c.saturating_sub-from.result c.min-upto.result c.remove_places-left.result
-    c.saturating_sub-from.ensures c.min-upto.ensures places.others places.here places.left c.if-left-eq0.true c.remove_chunk-then-left-eq0.ensures.here k is
-    ∙ ap (λ (all : List (ℕ × Chunk)). if is_between c.args.first c.args.end k then None else in_table all k) c.self.view_is
-
-pub returns-else-left-eq0-clause-here : goal.returns-else-left-eq0-clause-here
-returns-else-left-eq0-clause-here g c = λ k is.
-    let q : ℕ = c.args.chunk in
-    let places = c.remove_places-left.ensures in
-    places_gone c.self.inside.chunks.entries c.remove_places-left.new.chunks.entries q c.args.first c.args.end places.others c.saturating_sub-from.result c.min-upto.result
-    c.saturating_sub-from.ensures c.min-upto.ensures places.here k is
-    ∙ ap (λ (all : List (ℕ × Chunk)). if is_between c.args.first c.args.end k then None else in_table all k) c.self.view_is
+pub invariant_of-self : goal.invariant_of-self
+invariant_of-self g c =
+    let i = c.self.inside in
+    room_removed i.chunks c.remove_in-count.new.self i.holes c.remove_pages.new.self c.args.chunk c.args.first c.args.end c.remove_in-count.result (omega (arith, c.requires.before)) c.self.invariant
+    c.remove_in-count.ensures.here c.remove_in-count.ensures.others c.remove_in-count.ensures.count c.remove_pages.ensures.rows c.remove_pages.ensures.pages
+    (λ k inside. ap (λ (table : Stored). is_noted table.holes k) c.self.view_is ∙ c.requires.filled k inside)

@@ -1,18 +1,12 @@
-use Rattle.std.proofs.Common.{◌∙◌, ◌*◌, ℕ, List, is_some, refl, sym, ap}
-use Rattle.page_table.specs.Table.{Chunk, in_table}
-use Rattle.page_table.proofs.CountLemmas.{count_of}
-use Rattle.page_table.proofs.TableLemmas.{count_chunk, count_absent}
+use Rattle.std.proofs.Common.{◌∙◌, ◌*◌, ℕ, is_some, sym, ap}
+use Rattle.page_table.specs.Table.{Stored, in_table, is_kept}
+use Rattle.page_table.proofs.PlacesLemmas.{count_same}
+use Rattle.page_table.proofs.TableLemmas.{is_stored}
 use Rattle.page_table.proofs.table.Table.stored_in.Goals as goal
 
-pub returns-in-Some-clause-count : goal.returns-in-Some-clause-count
-returns-in-Some-clause-count g c =
-    let q : ℕ = c.args.chunk in
-    c.taken.ensures.count
-    ∙ count_chunk c.self.inside.chunks.entries q 256 (256 * q) c.in-Some.found.now refl refl c.taken.ensures.long c.in-Some.ensures.value
-    ∙ ap (λ (all : List (ℕ × Chunk)). count_of (λ k. is_some (in_table all k)) (256 * q) 256) c.self.view_is
-
-pub returns-in-None-clause-count : goal.returns-in-None-clause-count
-returns-in-None-clause-count g c =
-    let q : ℕ = c.args.chunk in
-    sym (count_absent c.self.inside.chunks.entries q 256 (256 * q) refl refl (sym c.in-None.ensures.value))
-    ∙ ap (λ (all : List (ℕ × Chunk)). count_of (λ k. is_some (in_table all k)) (256 * q) 256) c.self.view_is
+pub returns-clause-count : goal.returns-clause-count
+returns-clause-count g c =
+    let i = c.self.inside in
+    let now : Stored = c.args.self.now in
+    c.stored_in.ensures.count
+    ∙ sym (count_same (is_kept i.chunks) (λ k. is_some (in_table now k)) (256 * c.args.chunk) 256 (λ k above. is_stored now k ∙ ap (λ (table : Stored). is_kept table.chunks k) (sym c.self.view_is)))

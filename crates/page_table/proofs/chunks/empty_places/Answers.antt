@@ -1,0 +1,30 @@
+use Rattle.std.proofs.Common.{◌∙◌, ◌+◌, ℕ, List, Option, None, get_or, ap, arith}
+use Rattle.page_table.specs.Table.{Chunk}
+use Rattle.page_table.proofs.ChunksLemmas.{set_here, set_others}
+use Rattle.page_table.proofs.RangeLemmas.{put_none, put_one, put_step, put_end}
+use Rattle.page_table.proofs.chunks.empty_places.Goals as goal
+
+abbrev at : Chunk → ℕ → Option (List ℕ)
+at chunk k = get_or chunk k None
+
+pub loop-place-init : goal.loop-place-init
+loop-place-init g c = record { begun = omega arith; upto = omega arith; gone = put_none None (at c.args.chunk.now) c.args.first }
+
+pub loop-place-preserved : goal.loop-place-preserved
+loop-place-preserved g c =
+    let before = c.loop-place.invariant in
+    let after = c.take.ensures in
+    let place : ℕ = c.loop-place.place in
+    record {
+      begun = omega (arith, before.begun);
+      upto = omega (arith, before.upto, c.loop-place-test.true);
+      gone = put_step None (at c.args.chunk.now) (at c.loop-place.chunk) (at c.take.new.self) c.args.first place (place + 1) before.begun (omega arith) before.gone
+          (put_one None (at c.loop-place.chunk) (at c.take.new.self) place
+          (ap (λ (chunk : Chunk). at chunk place) after.after ∙ set_here c.loop-place.chunk place None (omega (arith, after.long, before.upto, c.loop-place-test.true, c.requires)))
+          (λ k apart. ap (λ (chunk : Chunk). at chunk k) after.after ∙ set_others c.loop-place.chunk place None k apart));
+    }
+
+pub returns : goal.returns
+returns g c =
+    let before = c.loop-place.invariant in
+    put_end None (at c.args.chunk.now) (at c.loop-place.chunk) c.args.first c.loop-place.place c.args.end before.begun before.upto c.loop-place-test.false before.gone

@@ -1,0 +1,222 @@
+ghost use Rattle.std.specs.Prelude.{◌≡◌, ℕ, ◌+◌, ◌*◌, ◌/◌, ◌%◌, ◌<◌, ◌≤◌, ◌^◌, ◌≢◌, None, Some, IsSome, IfSome, IfErr, OnOk, OnErr, is_some, is_ok, if◌then◌else◌};
+ghost use Rattle.page_table.specs.Bits.{is_between, count_of};
+ghost use Rattle.page_table.specs.Table.{Chunk as Seen, chunk_of, in_chunk, in_chunks, is_kept, taken};
+
+use crate::least::least_from;
+use crate::places::Places;
+use crate::swept::Swept;
+use nbd_base::NoMemory;
+use payload::Page;
+use std::alloc::Allocator;
+use std::collections::BTreeMap;
+use std::marker::Model;
+
+/// How many pages a chunk has places for.
+pub const CHUNK: usize = 256;
+
+/// Places for 256 pages in a row, in some of which one is stored. Those lie side by side, so that the next page is found beside the
+/// one before it.
+pub(crate) type Chunk<A> = Places<Page<A>, A>;
+
+/// Pages by their numbers, in chunks of 256 in a row. A page is found by a look-up in the map of the chunks, which is small,
+/// and a count of the pages before it in its chunk. A chunk in which no page is stored isn't there.
+#[derive(Drop)]
+pub(crate) struct Chunks<A: Allocator + Copy> {
+    chunks: BTreeMap<usize, Chunk<A>, A>,
+}
+
+impl<A: Allocator + Copy> Model for Chunks<A> {
+    ghost use Rattle.std.specs.Prelude.{ℕ, List};
+    ghost use Rattle.page_table.specs.Table.{Chunk as Seen, AreTaken};
+
+    ghost Value = { List (ℕ × Seen) };
+
+    ghost view = { λ chunks. chunks.chunks.entries };
+
+    ghost invariant = { λ chunks. AreTaken chunks.chunks.entries };
+}
+
+// No page is stored from the first place on before an end from now on. The pages are swept out.
+fn empty_places<A: Allocator + Copy>(
+    chunk: &mut Chunk<A>,
+    first: usize,
+    end: usize,
+    swept: &mut Swept<A>,
+)
+    requires { end ≤ 256 }
+    ensures { (k : ℕ) → in_chunk (Some chunk.new) k
+        ≡ (if is_between first end k then None else in_chunk (Some chunk.old) k) }
+{
+    for place in first..end {
+        if let Some(page) = chunk.take(place) {
+            swept.take_page(page);
+        }
+    }
+}
+
+// Pages of a chunk that is there are stored no longer, from a place on before an end. The answer is how many are stored then.
+fn remove_places<A: Allocator + Copy>(
+    chunks: &mut BTreeMap<usize, Chunk<A>, A>,
+    number: usize,
+    first: usize,
+    end: usize,
+    swept: &mut Swept<A>,
+) -> usize
+    requires there { IsSome (chunk_of chunks.old.entries number) }
+    requires end { end ≤ 256 }
+    ensures here { (k : ℕ) → in_chunk (chunk_of chunks.new.entries number) k
+        ≡ (if is_between first end k then None else in_chunk
+        (chunk_of chunks.old.entries number) k) }
+    ensures left { IfSome (chunk_of chunks.new.entries number) (λ chunk. result ≡ taken chunk) }
+    ensures others { (q : ℕ) → q ≢ number
+        → chunk_of chunks.new.entries q ≡ chunk_of chunks.old.entries q }
+{
+    let Some(chunk) = chunks.get_mut(&number) else {
+        unreachable!();
+    };
+    empty_places(chunk, first, end, swept);
+    chunk.count()
+}
+
+// A chunk is there no longer.
+fn remove_chunk<A: Allocator + Copy>(
+    chunks: &mut BTreeMap<usize, Chunk<A>, A>,
+    number: usize,
+    swept: &mut Swept<A>,
+)
+    ensures here { chunk_of chunks.new.entries number ≡ None }
+    ensures others { (q : ℕ) → q ≢ number
+        → chunk_of chunks.new.entries q ≡ chunk_of chunks.old.entries q }
+{
+    if let Some(chunk) = chunks.remove(&number) {
+        swept.take_chunk(chunk);
+    }
+}
+
+impl<A: Allocator + Copy> Chunks<A> {
+    /// No page is stored.
+    pub(crate) fn new(alloc: A) -> Chunks<A>
+        ensures { (k : ℕ) → in_chunks result k ≡ None }
+    {
+        let chunks = BTreeMap::new(alloc);
+        Chunks { chunks }
+    }
+
+    /// The page of a number, where it is stored.
+    pub(crate) fn get(&self, number: usize) -> Option<&Page<A>>
+        ensures some { IfSome result (λ page. in_chunks self.now number ≡ Some page.now) }
+        ensures none { result ≡ None → in_chunks self.now number ≡ None }
+    {
+        match self.chunks.get(&(number / CHUNK)) {
+            Some(chunk) => chunk.get(number % CHUNK),
+            None => None,
+        }
+    }
+
+    /// Puts a page in the place of the one of its number, which is swept out. Where none is stored, the page is handed back.
+    pub(crate) fn exchange(
+        &mut self,
+        number: usize,
+        page: Page<A>,
+        swept: &mut Swept<A>,
+    ) -> Result<(), Page<A>>
+        ensures stored { is_ok result ≡ is_kept self.old number }
+        ensures here { OnOk result (in_chunks self.new number ≡ Some page) }
+        ensures others { (k : ℕ) → k ≢ number → in_chunks self.new k ≡ in_chunks self.old k }
+        ensures back { IfErr result (λ back. back ≡ page) }
+        ensures absent { OnErr result (in_chunks self.new number ≡ None) }
+    {
+        let Some(chunk) = self.chunks.get_mut(&(number / CHUNK)) else {
+            return Err(page);
+        };
+        let before = match chunk.exchange(number % CHUNK, page) {
+            Ok(before) => before,
+            Err(page) => return Err(page),
+        };
+        swept.take_page(before);
+        Ok(())
+    }
+
+    /// Stores a page of whose number none is.
+    pub(crate) fn add(&mut self, alloc: A, number: usize, page: Page<A>) -> Result<(), NoMemory>
+        requires none { in_chunks self.old number ≡ None }
+        ensures here { OnOk result (in_chunks self.new number ≡ Some page) }
+        ensures others { (k : ℕ) → k ≢ number → in_chunks self.new k ≡ in_chunks self.old k }
+        ensures no_memory { OnErr result (in_chunks self.new number ≡ None) }
+    {
+        if let Some(chunk) = self.chunks.get_mut(&(number / CHUNK)) {
+            return chunk.add(number % CHUNK, page);
+        }
+        let mut made = Places::new(alloc);
+        made.add(number % CHUNK, page)?;
+        self.chunks.insert(number / CHUNK, made)?;
+        Ok(())
+    }
+
+    /// The first chunk that is there, from one on before an end.
+    pub(crate) fn next_chunk(&self, from: usize, end: usize) -> Option<usize>
+        requires { from ≤ end }
+        ensures begins { IfSome result (λ number. from ≤ number) }
+        ensures ends { IfSome result (λ number. number < end) }
+        ensures there { IfSome result (λ number. IsSome (chunk_of self.now number)) }
+        ensures first { IfSome result (λ number. (q : ℕ) → from ≤ q → q < number
+            → chunk_of self.now q ≡ None) }
+        ensures none { result ≡ None → (q : ℕ) → from ≤ q → q < end → chunk_of self.now q ≡ None }
+    {
+        least_from(&self.chunks, from, end)
+    }
+
+    // Pages of a chunk that is there are stored no longer, from a number on before an end. Where that is the whole chunk, it isn't
+    // looked into; it goes once none of its pages is stored.
+    fn remove_part(&mut self, chunk: usize, first: usize, end: usize, swept: &mut Swept<A>)
+        requires there { IsSome (chunk_of self.old chunk) }
+        requires before { 256 * chunk < end }
+        ensures here { (k : ℕ) → k / 256 ≡ chunk → in_chunks self.new k
+            ≡ (if is_between first end k then None else in_chunks self.old k) }
+        ensures others { (q : ℕ) → q ≢ chunk → chunk_of self.new q ≡ chunk_of self.old q }
+    {
+        let begin = chunk * CHUNK;
+        let upto = (end - begin).min(CHUNK);
+        if first <= begin && upto == CHUNK {
+            remove_chunk(&mut self.chunks, chunk, swept);
+            return;
+        }
+        let from = first.saturating_sub(begin);
+        let left = remove_places(&mut self.chunks, chunk, from, upto, swept);
+        if left == 0 {
+            remove_chunk(&mut self.chunks, chunk, swept);
+        }
+    }
+
+    /// The same, and how many they are.
+    pub(crate) fn remove_in(
+        &mut self,
+        chunk: usize,
+        first: usize,
+        end: usize,
+        swept: &mut Swept<A>,
+    ) -> usize
+        requires there { IsSome (chunk_of self.old chunk) }
+        requires before { 256 * chunk < end }
+        ensures here { (k : ℕ) → k / 256 ≡ chunk → in_chunks self.new k
+            ≡ (if is_between first end k then None else in_chunks self.old k) }
+        ensures others { (q : ℕ) → q ≢ chunk → chunk_of self.new q ≡ chunk_of self.old q }
+        ensures count { count_of (is_kept self.new) (256 * chunk) 256 + result
+            ≡ count_of (is_kept self.old) (256 * chunk) 256 }
+    {
+        let before = self.stored_in(chunk);
+        self.remove_part(chunk, first, end, swept);
+        before - self.stored_in(chunk)
+    }
+
+    /// How many pages of a chunk are stored.
+    pub(crate) fn stored_in(&self, chunk: usize) -> usize
+        ensures count { result ≡ count_of (is_kept self.now) (256 * chunk) 256 }
+        ensures few { result ≤ 256 }
+    {
+        match self.chunks.get(&chunk) {
+            Some(found) => found.count(),
+            None => 0,
+        }
+    }
+}
