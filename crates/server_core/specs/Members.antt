@@ -7,10 +7,9 @@ use Rattle.tag_clock.specs.declared.Phase.{Phase}
 use Rattle.tag_clock.specs.Clocks.{Share}
 use Rattle.tag_clock.specs.Intervals.{Intervals}
 use Rattle.lone_export.specs.Alone.{Alone, Job, Moved, own_step, opening}
-use Rattle.lone_export.specs.Lone.{Whole, Admits, MayArrive, step_answer_of_refusal}
+use Rattle.lone_export.specs.Lone.{Whole, Admits, MayArrive}
 use Rattle.lone_export.specs.declared.refusal.Arrived.{Arrived}
 use Rattle.lone_export.specs.declared.refusal.Arrived.TheVariants.{Accepted, Answered}
-use Rattle.lone_export.specs.declared.refusal.NotArrived.{NotArrived}
 use Rattle.reply_box.specs.Sessions.{is_here}
 use Rattle.lone_export.specs.declared.refusal.NotAttached.{NotAttached}
 use Rattle.lone_export.specs.declared.refusal.NotAttached.TheVariants.{Refused, NoMemory}
