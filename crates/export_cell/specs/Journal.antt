@@ -4,7 +4,7 @@ use Rattle.nbd_wire.specs.Grammar.{RequestMessage}
 use Rattle.nbd_commands.specs.Terms.{Terms}
 use Rattle.lone_export.specs.Alone.{Alone, own_step, alone, opening}
 use Rattle.lone_export.specs.Calls.{is_counted, to_come}
-use Rattle.lone_export.specs.Lone.{Whole, MayArrive, opening_of, step_answer_of_refusal, step_answer_of_retune, step_answer_of_arrive as arrived_said_alone}
+use Rattle.lone_export.specs.Lone.{Whole, MayArrive, IsAdmission, opening_of, step_answer_of_refusal, step_answer_of_retune, step_answer_of_arrive as arrived_said_alone}
 use Rattle.lone_export.specs.declared.refusal.Arrived.{Arrived}
 use Rattle.lone_export.specs.declared.step.Step.{Step}
 use Rattle.lone_export.specs.declared.step.Step.TheVariants.{Attach, Arrive, Pick, Perform, Take, Leave, Gone, Retune}
@@ -12,6 +12,7 @@ use Rattle.lone_export.specs.declared.step.StepAnswer.{StepAnswer}
 use Rattle.export_cell.specs.declared.refusal.ArriveFault.{ArriveFault}
 use Rattle.export_cell.specs.declared.refusal.ArriveFault.TheVariants.{Refused, NoMemory}
 use Rattle.export_cell.specs.declared.refusal.NotArrived.{NotArrived}
+use Rattle.export_cell.specs.declared.place.Place.{Place}
 use Rattle.export_cell.specs.declared.refusal.NotRetuned.{NotRetuned}
 use Rattle.export_cell.specs.declared.refusal.NotRetuned.TheVariants as retuning
 
@@ -138,19 +139,17 @@ pub record HasRoom (bytes : ℕ) (cell : Cell) : Type 0 where
   pub few : payload_in cell.journal.log + bytes ≤ 67108864
   pub room : length cell.journal.log + to_come cell.live.state + 4 ≤ cell.room
 
--- a request of session s may arrive, there is room for it, and this copy of it will be kept; no copy where it is refused
-abbrev pub IsReserved : Cell → ℕ → RequestMessage → Option RequestMessage → Type 0
-IsReserved cell s q None = MayArrive cell.live s (Ok tt) → ⊥
-IsReserved cell s q (Some kept) = MayArrive cell.live s (Ok tt) × (kept ≡ q) × HasRoom (length q.payload) cell
+-- a request of session s has this place: what becomes of it is told, there is room for it, and a copy of it will be kept
+pub record IsReserved {A : Type 0} (cell : Cell) (s : ℕ) (q : RequestMessage) (place : Place A) : Type 0 where
+  pub admitted : IsAdmission A cell.live s q (Ok place.admission)
+  pub same : place.kept ≡ q
+  pub room : HasRoom (length q.payload) cell
 
--- the journal once there is
-abbrev pub reserved : Terms → Option RequestMessage → Journal → Journal
-reserved terms None journal = journal
-reserved terms (Some kept) journal = advanced terms (surplus (length kept.payload) journal.log) journal
-
--- a step that is counted goes into the log, any other leaves the journal
-abbrev pub noted_as : {A : Type 0} → StepAnswer A → Step A → Journal → Journal
-noted_as answer step journal = if is_counted answer then noted (kept_step step) journal else journal
+-- it has none: it is refused, and nothing changed; or memory was wanted, and some of the steps went that had to
+abbrev pub IsTurnedAway : Cell → Cell → ℕ → RequestMessage → ArriveFault → Type 0
+IsTurnedAway old new s q (Refused e) = MayArrive old.live s (Err e) × (new ≡ old)
+IsTurnedAway old new s q NoMemory =
+    MayArrive old.live s (Ok tt) × IsAdvanced old.live.terms (surplus (length q.payload) old.journal.log) old.journal new.journal
 
 -- ---- what an arrival is answered, none where memory was wanted
 abbrev pub step_answer_of_fault : {A : Type 0} → ArriveFault → Option (StepAnswer A)

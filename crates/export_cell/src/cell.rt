@@ -1,21 +1,22 @@
 //! The cell of one export.
-ghost use Rattle.std.specs.Prelude.{◌≡◌, ◌≢◌, ◌<◌, ◌≤◌, length, Ok, IsErrOf, IfOk, IfErr, IfSome, IfNone, OnSome, OnErr, Some, is_ok, is_some};
+ghost use Rattle.std.specs.Prelude.{◌≡◌, ◌≢◌, ◌<◌, ◌≤◌, length, Ok, IsErrOf, IfOk, IfErr, IfSome, IfNone, OnOk, OnSome, Some};
 ghost use Rattle.nbd_commands.specs.Terms.{terms_of};
 ghost use Rattle.nbd_commands.specs.Exports.{IsWithin};
 ghost use Rattle.lone_export.specs.Lone.{Does, DoesOr, step_answer_of_pick, step_answer_of_leave, step_answer_of_gone, step_answer_of_take, step_answer_of_attach, slots_picked, slots_without, slot_at, step_answer_of_arrive as arrived_said_alone, MayAttach, MayArrive, MayRetune};
 ghost use Rattle.lone_export.specs.declared.step.StepAnswer.TheVariants.{Performed};
-ghost use Rattle.export_cell.specs.Journal.{IsJournal, JournalMove, IsAdvanced, IsReserved, IsWithinBytes, reserved, surplus, noted_as, kept_log, opening_cell, step_answer_of_arrive, step_answer_of_retuned};
+ghost use Rattle.export_cell.specs.Journal.{IsJournal, JournalMove, IsReserved, IsTurnedAway, IsWithinBytes, advanced, surplus, noted, kept_log, opening_cell, step_answer_of_arrive, step_answer_of_retuned};
 ghost use Rattle.export_cell.specs.declared.refusal.ArriveFault.{ArriveFault};
 
 mod trimming;
 
 use crate::base::Base;
 use crate::outdated::Outdated;
+use crate::place::Place;
 use crate::refusal::{ArriveFault, NotArrived, NotRetuned};
 use crate::work::{ALLOWANCE, allowance_of};
 use export_queue::Picked;
 use export_store::Image;
-use lone_export::{Arrived, Lone, NotArrived as NotArrivedAlone, NotAttached, Step};
+use lone_export::{Arrived, Lone, NotAttached, Step};
 use nbd_base::NoMemory;
 use nbd_commands::{ExportConfig, Rates};
 use nbd_wire::Request;
@@ -189,83 +190,64 @@ impl<I: Image> ExportCell<I> {
         ensures back { IfErr result (λ e. e.request ≡ request) }
         ensures slots { self.new.live.slots ≡ self.old.live.slots }
     {
-        let Ok(kept) = self.reserve(session, &request) else {
-            let fault = ArriveFault::NoMemory;
-            return Err(NotArrived { fault, request });
-        };
-        match self.enter(session, moment, request, kept) {
-            Ok(arrived) => Ok(arrived),
-            Err(refused) => Err(NotArrived {
-                fault: ArriveFault::Refused(refused.refusal),
-                request: refused.request,
-            }),
+        match self.reserve(session, &request) {
+            Ok(place) => Ok(self.enter(session, moment, request, place)),
+            Err(fault) => Err(NotArrived { fault, request }),
         }
     }
 
-    /// Makes room in the log for a request of a session and for all the steps that it can bring. The oldest steps go into
-    /// the base, as many as have to; without memory some of these.
-    ///
-    /// The answer is the copy of the request that the log will keep: a second handle to the same payload. It is None where
-    /// the export refuses the request, and then nothing changes.
+    /// Asks what becomes of a request of a session. Where it isn't refused, room is made in the log for it and for all the
+    /// steps that it can bring. The oldest steps go into the base, as many as have to; without memory some of these.
     pub fn reserve(
         &mut self,
         session: u64,
         request: &Request<I::Alloc>,
-    ) -> Result<Option<Request<I::Alloc>>, NoMemory>
+    ) -> Result<Place<I::Alloc>, ArriveFault>
         ensures live { self.new.live ≡ self.old.live }
-        ensures reserved { IfOk result (λ kept. IsReserved self.new session request.now kept) }
-        ensures journal { IfOk result (λ kept.
-            self.new.journal ≡ reserved self.old.live.terms kept self.old.journal) }
-        ensures no_memory { OnErr result (MayArrive self.old.live session (Ok tt)
-            × IsAdvanced self.old.live.terms
-            (surplus (length request.now.payload) self.old.journal.log)
-            self.old.journal self.new.journal) }
+        ensures reserved { IfOk result (λ place. IsReserved self.new session request.now place) }
+        ensures journal { OnOk result (self.new.journal ≡ advanced self.old.live.terms
+            (surplus (length request.now.payload) self.old.journal.log) self.old.journal) }
+        ensures fault { IfErr result (λ fault.
+            IsTurnedAway self.old self.new session request.now fault) }
     {
-        if let Err(_) = self.live.may_arrive(session) {
-            return Ok(None);
-        }
-        if let Err(error) = self.make_room(request.payload().len(), allowance_of(request.head())) {
-            return Err(error);
+        let admission = match self.live.admission(session, request) {
+            Ok(admission) => admission,
+            Err(refusal) => return Err(ArriveFault::Refused(refusal)),
+        };
+        if let Err(_) = self.make_room(request.payload().len(), allowance_of(request.head())) {
+            return Err(ArriveFault::NoMemory);
         }
         let Ok(kept) = request.clone() else {
-            return Err(NoMemory);
+            return Err(ArriveFault::NoMemory);
         };
-        Ok(Some(kept))
+        Ok(Place { admission, kept })
     }
 
-    /// The request for which there is room arrives; it is refused exactly where there is no copy of it. It takes no memory.
+    /// The request arrives whose place `reserve` gave, where the export is as it was then. It takes no memory.
     pub fn enter(
         &mut self,
         session: u64,
         moment: Moment,
         request: Request<I::Alloc>,
-        kept: Option<Request<I::Alloc>>,
-    ) -> Result<Arrived, NotArrivedAlone<I::Alloc>>
-        requires { IsReserved self.old session request kept }
+        place: Place<I::Alloc>,
+    ) -> Arrived
+        requires { IsReserved self.old session request place }
         ensures step { Does {A = I.Alloc} self.old.live self.new.live
-            (Step.Arrive session moment request) (arrived_said_alone result) }
-        ensures entered { is_ok result ≡ is_some kept }
-        ensures journal { self.new.journal ≡ noted_as {A = I.Alloc} (arrived_said_alone result)
-            (Step.Arrive session moment request) self.old.journal }
-        ensures back { IfErr result (λ e. e.request ≡ request) }
+            (Step.Arrive session moment request) (arrived_said_alone (Ok result)) }
+        ensures journal { self.new.journal
+            ≡ noted (Step.Arrive session moment request) self.old.journal }
         ensures slots { self.new.live.slots ≡ self.old.live.slots }
     {
-        let Some(kept) = kept else {
-            return self.live.arrive(session, moment, request);
-        };
+        let Place { admission, kept } = place;
         let bytes = request.payload().len();
-        match self.live.arrive(session, moment, request) {
-            Ok(arrived) => {
-                self.log.push_back_reserved(Step::Arrive {
-                    session,
-                    moment,
-                    request: kept,
-                });
-                self.payload += bytes;
-                Ok(arrived)
-            }
-            Err(refused) => Err(refused),
-        }
+        let arrived = self.live.admit(session, moment, request, admission);
+        self.log.push_back_reserved(Step::Arrive {
+            session,
+            moment,
+            request: kept,
+        });
+        self.payload += bytes;
+        arrived
     }
 
     /// The first request that waits is in service now, in the slot that is answered. It takes no memory.

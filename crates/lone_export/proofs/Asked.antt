@@ -246,54 +246,10 @@ module _ {A : Type 0} where
   }
 
   -- a request that isn't refused before it is looked at
-  looked_at : (terms : Terms) (state : Alone) (s t : ℕ) (q : RequestMessage) → (is_open_at state.sessions s ≡ true) × (nat_le (2 ^ 56) state.count ≡ false) × ((outstanding state s == terms.window) ≡ false)
+  pub looked_at : (terms : Terms) (state : Alone) (s t : ℕ) (q : RequestMessage) → (is_open_at state.sessions s ≡ true) × (nat_le (2 ^ 56) state.count ≡ false) × ((outstanding state s == terms.window) ≡ false)
       → own_step {A = A} terms state (step.Arrive s t q)
       ≡ (if not (verdict_of terms q == 0) then refused state s q (verdict_of terms q) else (if length state.waiting == terms.depth then refused state s q 5 else accepted state s t q))
   looked_at terms state s t q may = if_not (is_open_at state.sessions s) _ _ may.0 ∙ if_no (nat_le (2 ^ 56) state.count) _ _ may.1 ∙ if_no (outstanding state s == terms.window) _ _ may.2
-
-  -- the verdict is an error
-  pub refused_does : (p : Parts A) (s t error : ℕ) (r : RequestMessage) (reply : ReplyMessage) (b c : Box) (w : Whole) → IsLone p → whole_of p ≡ w → IsLet w s → error ≡ verdict_of (terms_at p) r → error ≢ 0
-      → reply ≡ record { error = error; cookie = r.head.cookie; content = [] } → b ≡ after_admit p.sessions s → c ≡ after_put b s reply
-      → Does {A = A} w (whole_of (record p { sessions = c; count = p.count + 1; asked = p.asked + 1 })) (step.Arrive s t r) (said.Answered error)
-  refused_does p s t error r reply b c w is e may verdict wrong told admits puts =
-      let let_in = subst (λ (v : Whole). IsLet v s) (sym e) may in
-      let box = (lone-answer p s reply b c is let_in.1 admits puts).1 in
-      let bad : (verdict_of (terms_at p) r == 0) ≡ false = ne_eqb (verdict_of (terms_at p) r) 0 (λ z. wrong (verdict ∙ z)) in
-      subst (λ (v : Whole). Does {A = A} v (whole_of (record p { sessions = c; count = p.count + 1; asked = p.asked + 1 })) (step.Arrive s t r) (said.Answered error)) e
-      (record {
-        did = looked_at (terms_at p) (state_at p) s t r let_in ∙ if_yes (not (verdict_of (terms_at p) r == 0)) _ _ (ap not bad)
-            ∙ (λ i. record {
-              state = record (state_at p) { sessions = post_at s (record { error = sym verdict i; cookie = r.head.cookie; content = [] }) p.sessions.sessions; count = p.count + 1 };
-              answer = said.Answered (sym verdict i);
-            })
-            ∙ ap (λ (m : ReplyMessage). record { state = record (state_at p) { sessions = post_at s m p.sessions.sessions; count = p.count + 1 }; answer = said.Answered error }) (sym told)
-            ∙ ap (λ (d : Box). record { state = record (state_at p) { sessions = d.sessions; count = p.count + 1 }; answer = said.Answered error }) (sym box);
-        terms = ap (λ (d : Box). record (terms_at p) { window = d.window }) box;
-        inflight = refl;
-      })
-
-  -- as many wait as may
-  pub full_does : (p : Parts A) (s t : ℕ) (r : RequestMessage) (reply : ReplyMessage) (q : Queue (Row A)) (b c : Box) (w : Whole) → IsLone p → whole_of p ≡ w → IsLet w s → verdict_of (terms_at p) r ≡ 0 → length p.queue.waiting ≡ p.queue.depth → q ≡ p.queue
-      → reply ≡ record { error = 5; cookie = r.head.cookie; content = [] } → b ≡ after_admit p.sessions s → c ≡ after_put b s reply
-      → IsLone (record p { queue = q; sessions = c; count = p.count + 1; asked = p.asked + 1 })
-      × Does {A = A} w (whole_of (record p { queue = q; sessions = c; count = p.count + 1; asked = p.asked + 1 })) (step.Arrive s t r) (said.Answered 5)
-  full_does p s t r reply q b c w is e may served full same told admits puts =
-      let let_in = subst (λ (v : Whole). IsLet v s) (sym e) may in
-      let both = lone-answer p s reply b c is let_in.1 admits puts in
-      let box = both.1 in
-      let good : (verdict_of (terms_at p) r == 0) ≡ true = eq-eqb (verdict_of (terms_at p) r) 0 served in
-      let many : (length (map job_of p.queue.waiting) == p.queue.depth) ≡ true = eq-eqb (length (map job_of p.queue.waiting)) p.queue.depth (length-map p.queue.waiting job_of ∙ full) in (
-        subst (λ (x : Queue (Row A)). IsLone (record p { queue = x; sessions = c; count = p.count + 1; asked = p.asked + 1 })) (sym same) both.0,
-        subst (λ (x : Queue (Row A)). Does {A = A} w (whole_of (record p { queue = x; sessions = c; count = p.count + 1; asked = p.asked + 1 })) (step.Arrive s t r) (said.Answered 5)) (sym same)
-            (subst (λ (v : Whole). Does {A = A} v (whole_of (record p { sessions = c; count = p.count + 1; asked = p.asked + 1 })) (step.Arrive s t r) (said.Answered 5)) e
-            (record {
-              did = looked_at (terms_at p) (state_at p) s t r let_in ∙ if_no (not (verdict_of (terms_at p) r == 0)) _ _ (ap not good) ∙ if_yes (length (map job_of p.queue.waiting) == p.queue.depth) _ _ many
-                  ∙ ap (λ (m : ReplyMessage). record { state = record (state_at p) { sessions = post_at s m p.sessions.sessions; count = p.count + 1 }; answer = said.Answered 5 }) (sym told)
-                  ∙ ap (λ (d : Box). record { state = record (state_at p) { sessions = d.sessions; count = p.count + 1 }; answer = said.Answered 5 }) (sym box);
-              terms = ap (λ (d : Box). record (terms_at p) { window = d.window }) box;
-              inflight = refl;
-            })),
-      )
 
   -- the request waits
   pub accept_does : (p : Parts A) (s t n : ℕ) (tag : ℤ) (r : RequestMessage) (q : Queue (Row A)) (clock : Limit) (b : Box) (w : Whole) → IsLone p → whole_of p ≡ w → IsLet w s → verdict_of (terms_at p) r ≡ 0 → length p.queue.waiting < p.queue.depth

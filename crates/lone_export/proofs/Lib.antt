@@ -3,6 +3,7 @@ pub mod Steps
 pub mod Entries
 pub mod Kept
 pub mod Asked
+pub mod Admitted
 pub mod Done
 pub mod Retunes
 pub mod Opening

@@ -11,7 +11,7 @@ use Rattle.reply_box.specs.declared.fault.NotOpen.{NotOpen}
 use Rattle.reply_box.specs.declared.seat.Taken.{Taken}
 use Rattle.reply_box.specs.declared.seat.Taken.TheVariants as taking
 use Rattle.export_queue.specs.declared.Picked.{Picked}
-use Rattle.lone_export.specs.Alone.{Alone, Job, own_step, alone, answers_alone, outstanding, opening}
+use Rattle.lone_export.specs.Alone.{Alone, Job, own_step, refused, alone, answers_alone, outstanding, opening}
 use Rattle.lone_export.specs.Calls.{to_come}
 use Rattle.lone_export.specs.declared.step.Step.{Step}
 use Rattle.lone_export.specs.declared.step.Step.TheVariants.{Attach, Arrive, Pick, Perform, Take, Leave, Gone, Retune}
@@ -24,6 +24,8 @@ use Rattle.lone_export.specs.declared.refusal.NotAttached.TheVariants.{Refused, 
 use Rattle.lone_export.specs.declared.refusal.ArriveRefusal.{ArriveRefusal}
 use Rattle.lone_export.specs.declared.refusal.ArriveRefusal.TheVariants as arriving
 use Rattle.lone_export.specs.declared.refusal.NotArrived.{NotArrived}
+use Rattle.lone_export.specs.declared.refusal.Admission.{Admission}
+use Rattle.lone_export.specs.declared.refusal.Admission.TheVariants as admitting
 use Rattle.lone_export.specs.declared.refusal.RetuneRefusal.{RetuneRefusal}
 use Rattle.lone_export.specs.declared.refusal.RetuneRefusal.TheVariants as retuning
 use Rattle.lone_export.specs.declared.refusal.Arrived.{Arrived}
@@ -121,6 +123,13 @@ pub record IsIdleFor (terms : Terms) (state : Alone) (s : ℕ) (q : RequestMessa
   pub none_wait : length state.waiting ≡ 0
   pub none_out : length state.out ≡ 0
   pub quiet : is_quiet_at state.sessions s ≡ true
+
+module _ (A : Type 0) where
+  -- what becomes of a request of session s, if it arrives: it waits, its session is told an error at once, or it is refused
+  abbrev pub IsAdmission : Whole → ℕ → RequestMessage → Result Admission ArriveRefusal → Type 0
+  IsAdmission w s q (Ok admitting.Waits) = Admits w.terms w.state s q
+  IsAdmission w s q (Ok (admitting.Answered error)) = MayArrive w s (Ok tt) × ((t : ℕ) → own_step {A = A} w.terms w.state (Arrive s t q) ≡ refused w.state s q error)
+  IsAdmission w s q (Err e) = MayArrive w s (Err e)
 
 module _ {A : Type 0} where
   -- a call is this step, with this answer

@@ -10,5 +10,7 @@ mod step_answers;
 
 pub use laws::{limit_tags_unrolled, steps_to_come};
 pub use lone::Lone;
-pub use refusal::{ArriveRefusal, Arrived, AttachRefusal, NotArrived, NotAttached, RetuneRefusal};
+pub use refusal::{
+    Admission, ArriveRefusal, Arrived, AttachRefusal, NotArrived, NotAttached, RetuneRefusal,
+};
 pub use step::{Step, StepAnswer};

@@ -10,21 +10,21 @@ ghost use Rattle.export_queue.specs.Queue.{item_held};
 ghost use Rattle.reply_box.specs.Box.{IsOwed, after_put};
 ghost use Rattle.lone_export.specs.Parts.{Settles, reply_to};
 ghost use Rattle.lone_export.specs.declared.row.Row.{Row};
-ghost use Rattle.lone_export.specs.Lone.{opening_of, Does, DoesOr, step_answer_of_pick, step_answer_of_leave, step_answer_of_gone, step_answer_of_take, step_answer_of_attach, step_answer_of_arrive, step_answer_of_retune, slots_picked, slots_without, slot_at, MayAttach};
+ghost use Rattle.lone_export.specs.Lone.{opening_of, Does, DoesOr, step_answer_of_pick, step_answer_of_leave, step_answer_of_gone, step_answer_of_take, step_answer_of_attach, step_answer_of_arrive, step_answer_of_retune, slots_picked, slots_without, slot_at, MayAttach, IsAdmission};
 
 mod reading;
 mod replaying;
 mod rounds;
 mod skipping;
 
-use crate::refusal::{Arrived, NotArrived, NotAttached, RetuneRefusal};
+use crate::refusal::{Admission, Arrived, NotArrived, NotAttached, RetuneRefusal};
 use crate::row::Row;
 use crate::step::{Step, StepAnswer};
 use export_queue::{ExportQueue, Picked};
 use export_store::{Image, Swept};
 use nbd_base::NoMemory;
-use nbd_commands::{Done, ExportConfig, ExportInfo, Rates, apply_owned, verdict};
-use nbd_wire::protocol::{EIO, ENOMEM};
+use nbd_commands::{Done, ExportConfig, ExportInfo, Rates, apply_owned};
+use nbd_wire::protocol::ENOMEM;
 use nbd_wire::{Reply, Request};
 use reply_box::{NotOpen, ReplyBox, Taken};
 use std::alloc::Allocator;
@@ -171,26 +171,42 @@ impl<I: Image> Lone<I> {
         ensures back { IfErr result (λ e. e.request ≡ request) }
         ensures slots { self.new.slots ≡ self.old.slots }
     {
-        if let Err(refusal) = self.may_arrive(session) {
-            return Err(NotArrived { refusal, request });
+        match self.admission(session, &request) {
+            Ok(admission) => Ok(self.admit(session, moment, request, admission)),
+            Err(refusal) => Err(NotArrived { refusal, request }),
         }
+    }
+
+    /// A request of a session arrives at a moment, of which `admission` told what becomes of it. Nothing of that is asked again.
+    ///
+    /// It takes no memory.
+    pub fn admit(
+        &mut self,
+        session: u64,
+        moment: Moment,
+        request: Request<I::Alloc>,
+        admission: Admission,
+    ) -> Arrived
+        requires { IsAdmission I.Alloc self.old session request (Ok admission) }
+        ensures step { Does {A = I.Alloc} self.old self.new (Step.Arrive session moment request)
+            (step_answer_of_arrive (Ok result)) }
+        ensures slots { self.new.slots ≡ self.old.slots }
+    {
         let _ = self.sessions.admit(session);
         self.count += 1;
         self.asked += 1;
-        let error = verdict(&self.info, &request);
-        let cookie = request.head().cookie;
-        if error != 0 {
+        if let Admission::Answered(error) = admission {
+            let cookie = request.head().cookie;
             self.sessions.put(session, Reply::bare(error, cookie));
-            return Ok(Arrived::Answered(error));
+            return Arrived::Answered(error);
         }
         let Ok(number) = self.queue.push(Row { session, request }) else {
-            self.sessions.put(session, Reply::bare(EIO, cookie));
-            return Ok(Arrived::Answered(EIO));
+            unreachable!();
         };
         // A moment is below 2^62.
         let _ = moment.nanoseconds();
         let limit_tag = self.clock.admit(moment);
-        Ok(Arrived::Accepted { number, limit_tag })
+        Arrived::Accepted { number, limit_tag }
     }
 
     /// The request that is in service in `slot` under `number` is done, and its reply goes to its session. The answer

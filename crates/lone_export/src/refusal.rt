@@ -49,6 +49,15 @@ pub enum ArriveRefusal {
     Hold,
 }
 
+/// What becomes of a request that isn't refused, if it arrives.
+#[derive(Clone, Copy, Debug, PartialEq, Eq, Drop)]
+pub enum Admission {
+    /// It waits.
+    Waits,
+    /// Its session is told this error at once: the verdict's, or EIO where as many wait as may.
+    Answered(u32),
+}
+
 /// A request that was refused before it was looked at, handed back. All is as it was.
 #[derive(Drop)]
 pub struct NotArrived<A: Allocator> {

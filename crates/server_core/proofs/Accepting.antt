@@ -1,6 +1,6 @@
 -- An arrival, over the exports of a server.
-use Rattle.std.proofs.Common.{◌≡◌, ℕ, ◌*◌, ◌^◌, ◌<◌, ◌≤◌, Bool, true, false, cond, Option, Some, None, Result, Ok, Err, List, [], ◌∷◌, ◌++◌, map, length, set, get_or, refl, sym, ◌∙◌, ap, subst, arith}
-use Rattle.std.specs.Prelude.{ℤ, pos, negsuc, ◌-ℤ◌, slice_get, IfSome, IfErr, ◌==◌}
+use Rattle.std.proofs.Common.{◌≡◌, ℕ, ◌*◌, ◌^◌, ◌<◌, ◌≤◌, Bool, true, false, cond, Option, Some, None, Ok, Err, List, [], ◌∷◌, ◌++◌, map, length, set, get_or, refl, sym, ◌∙◌, ap, subst, arith}
+use Rattle.std.specs.Prelude.{ℤ, pos, negsuc, ◌-ℤ◌, slice_get, IfSome, ◌==◌}
 use Rattle.std.proofs.lemmas.Int.{ints}
 use Rattle.std.proofs.lemmas.Bool.Decides.{nat_tests}
 use Rattle.std.proofs.lemmas.List.{length-map, length-set, map-set, get_or-map, get_or_default, get_or-set_same}
@@ -11,10 +11,10 @@ use Rattle.tag_clock.specs.declared.Tags.{Tags}
 use Rattle.tag_clock.specs.Clocks.{lowered}
 use Rattle.tag_clock.specs.declared.Phase.TheVariants.{Weight}
 use Rattle.eligibility.specs.Choice.{IsSlotInRange}
-use Rattle.lone_export.specs.Lone.{step_answer_of_refusal, step_answer_of_arrive}
+use Rattle.lone_export.specs.Alone.{Moved}
+use Rattle.lone_export.specs.Lone.{MayArrive, step_answer_of_refusal, step_answer_of_arrive}
 use Rattle.lone_export.specs.declared.refusal.Arrived.{Arrived}
 use Rattle.lone_export.specs.declared.refusal.Arrived.TheVariants as arrival
-use Rattle.lone_export.specs.declared.refusal.NotArrived.{NotArrived as NotArrivedAlone}
 use Rattle.lone_export.specs.declared.refusal.ArriveRefusal.{ArriveRefusal as ArriveRefusalAlone}
 use Rattle.lone_export.specs.declared.refusal.ArriveRefusal.TheVariants as arriving
 use Rattle.lone_export.specs.declared.step.Step.TheVariants as own
@@ -28,10 +28,13 @@ use Rattle.server_table.specs.Ways.{entry_shifted, least_first_p, way_for, part_
 use Rattle.server_table.specs.Steps.{outcome}
 use Rattle.server_table.proofs.Arrived.{Admits, step_accepts, step_refuses}
 use Rattle.server_table.proofs.Refused.{no_room_to_arrive}
-use Rattle.server_core.specs.Here.{arrived, refusal_here}
-use Rattle.server_core.specs.declared.refusal.NotArrived.{NotArrived}
+use Rattle.lone_export.proofs.Asked.{arrive_refused}
+use Rattle.lone_export.proofs.Admitted.{refused_never}
+use Rattle.export_cell.specs.declared.refusal.ArriveFault.{ArriveFault}
+use Rattle.export_cell.specs.declared.refusal.ArriveFault.TheVariants as fault
+use Rattle.server_core.specs.Here.{refusal_here, fault_here}
 use Rattle.server_core.specs.Kept.{AreShort, IsPart, IsServer, Within, TagsInRange, total}
-use Rattle.server_core.specs.Members.{Standing, shifted_standing, accepted_standing, logged_as, AdmitsAt, IsLetIn, Arrives, Went}
+use Rattle.server_core.specs.Members.{Standing, shifted_standing, accepted_standing, logged_as, with_state, cell_at, AdmitsAt, IsTurnedAwayAt, Arrives, Went}
 use Rattle.export_cell.specs.Journal.{Journal, JournalMove}
 use Rattle.server_core.specs.Served.{Served, parts, journals_of, served_of, AllMembers, IsServed, Stepped, answer_of_arrive}
 use Rattle.server_core.specs.Made.{Makes}
@@ -41,7 +44,7 @@ use Rattle.server_core.proofs.Picked.{total_small}
 use Rattle.server_core.proofs.Fallen.{least_within, IsKeyWithin}
 use Rattle.server_core.proofs.Changed.{in_order, before_way, after_way, kept_arrived, new_in_range}
 use Rattle.server_core.proofs.Served.{part_there, within_parts, parts_set, parts_back, same_setup, members_set, member_at, stepped_own, kept_own, same_seats, seats_own}
-use Rattle.server_core.proofs.Journals.{moves, journals_set, set_twice}
+use Rattle.server_core.proofs.Journals.{moves, journals_set, set_twice, refused_moves}
 use Rattle.server_core.proofs.Made.{arrivals, makes_of}
 use Rattle.server_core.proofs.Performed.{all_seats}
 use Rattle.server_core.proofs.Ways.{parts_way}
@@ -62,53 +65,42 @@ admits_before m rm s q same a = subst (λ (x : Standing). AdmitsAt x s q) same a
 
 -- ---- one that is refused
 module _ (A : Type 0) where
-  arrives_room : (m rm m' : Standing) (s t : ℕ) (q : RequestMessage) (r : Result Arrived (NotArrivedAlone A)) → rm ≡ logged_as rm m → Arrives {A = A} rm m' s t q r → Arrives {A = A} m m' s t q r
-  arrives_room m rm m' s t q r same arrives = by r (subst (λ (x : Standing). Arrives {A = A} x m' s t q r) same arrives)
+  arrives_room : (m rm m' : Standing) (s t : ℕ) (q : RequestMessage) (r : Arrived) → rm ≡ logged_as rm m → Arrives A rm m' s t q r → Arrives A m m' s t q r
+  arrives_room m rm m' s t q r same arrives = by r (subst (λ (x : Standing). Arrives A x m' s t q r) same arrives)
     where
-      by : (r : Result Arrived (NotArrivedAlone A)) → Arrives {A = A} (logged_as rm m) m' s t q r → Arrives {A = A} m m' s t q r
-      by (Ok (arrival.Accepted n tag)) h = h
-      by (Ok (arrival.Answered error)) h = (h.0, record { standing = h.1.standing; told = h.1.told })
-      by (Err e) h = (h.0, record { standing = h.1.standing; told = h.1.told })
+      by : (r : Arrived) → Arrives A (logged_as rm m) m' s t q r → Arrives A m m' s t q r
+      by (arrival.Accepted n tag) h = h
+      by (arrival.Answered error) h = (h.0, record { standing = h.1.standing; told = h.1.told })
 
-  refused_went : (m m' : Standing) (s t : ℕ) (q : RequestMessage) (r : Result Arrived (NotArrivedAlone A)) → (AdmitsAt m s q → ⊥) → Arrives {A = A} m m' s t q r → Went {A = A} m m' (own.Arrive s t q) (step_answer_of_arrive r)
-  refused_went m m' s t q (Ok (arrival.Accepted n tag)) never arrives = absurd (never arrives.0)
-  refused_went m m' s t q (Ok (arrival.Answered error)) never arrives = arrives.1
-  refused_went m m' s t q (Err e) never arrives = arrives.1
+  refused_went : (m m' : Standing) (s t : ℕ) (q : RequestMessage) (r : Arrived) → (AdmitsAt m s q → ⊥) → Arrives A m m' s t q r → Went {A = A} m m' (own.Arrive s t q) (step_answer_of_arrive {A = A} (Ok r))
+  refused_went m m' s t q (arrival.Accepted n tag) never arrives = absurd (never arrives.0)
+  refused_went m m' s t q (arrival.Answered error) never arrives = arrives.1
 
   refused_step : (ms : List Standing) (now inflight e s t : ℕ) (q : RequestMessage) (m m' : Standing) (x : ArriveRefusalAlone) → e < length ms → m ≡ get_or ms e m → (AdmitsAt m s q → ⊥) → Went {A = A} m m' (own.Arrive s t q) (step_answer_of_refusal x) → Stepped {A = A} (served_of ms now inflight) (Arrive e s t q) (served_of (set ms e m') now inflight) (answer_of_arrive {A = A} (Err (record { refusal = refusal_here x; request = q })))
   refused_step ms now inflight e s t q m m' arriving.NotOpen lt at never went = stepped_own ms now inflight e m m' (Arrive e s t q) (own.Arrive s t q) alone.NotOpen at went (step_refuses (parts ms) now inflight e s t q m.part Weight (within_parts ms e lt) (part_there ms e m lt at) (never_part m s q never))
   refused_step ms now inflight e s t q m m' arriving.Worn lt at never went = stepped_own ms now inflight e m m' (Arrive e s t q) (own.Arrive s t q) alone.Worn at went (step_refuses (parts ms) now inflight e s t q m.part Weight (within_parts ms e lt) (part_there ms e m lt at) (never_part m s q never))
   refused_step ms now inflight e s t q m m' arriving.Hold lt at never went = stepped_own ms now inflight e m m' (Arrive e s t q) (own.Arrive s t q) alone.Hold at went (step_refuses (parts ms) now inflight e s t q m.part Weight (within_parts ms e lt) (part_there ms e m lt at) (never_part m s q never))
 
-  stepped_refused : (ms : List Standing) (now inflight e s t : ℕ) (q : RequestMessage) (m m' : Standing) (r : Result Arrived (NotArrivedAlone A)) → e < length ms → m ≡ get_or ms e m → (AdmitsAt m s q → ⊥) → Arrives {A = A} m m' s t q r → Stepped {A = A} (served_of ms now inflight) (Arrive e s t q) (served_of (set ms e m') now inflight) (answer_of_arrive {A = A} (arrived r))
-  stepped_refused ms now inflight e s t q m m' (Ok (arrival.Accepted n tag)) lt at never arrives = absurd (never arrives.0)
-  stepped_refused ms now inflight e s t q m m' (Ok (arrival.Answered error)) lt at never arrives = stepped_own ms now inflight e m m' (Arrive e s t q) (own.Arrive s t q) (alone.Answered error) at arrives.1 (step_refuses (parts ms) now inflight e s t q m.part Weight (within_parts ms e lt) (part_there ms e m lt at) (never_part m s q never))
-  stepped_refused ms now inflight e s t q m m' (Err x) lt at never arrives = refused_step ms now inflight e s t q m m' x.refusal lt at never arrives.1
+  stepped_refused : (ms : List Standing) (now inflight e s t : ℕ) (q : RequestMessage) (m m' : Standing) (r : Arrived) → e < length ms → m ≡ get_or ms e m → (AdmitsAt m s q → ⊥) → Arrives A m m' s t q r → Stepped {A = A} (served_of ms now inflight) (Arrive e s t q) (served_of (set ms e m') now inflight) (answer_of_arrive {A = A} (Ok r))
+  stepped_refused ms now inflight e s t q m m' (arrival.Accepted n tag) lt at never arrives = absurd (never arrives.0)
+  stepped_refused ms now inflight e s t q m m' (arrival.Answered error) lt at never arrives = stepped_own ms now inflight e m m' (Arrive e s t q) (own.Arrive s t q) (alone.Answered error) at arrives.1 (step_refuses (parts ms) now inflight e s t q m.part Weight (within_parts ms e lt) (part_there ms e m lt at) (never_part m s q never))
 
-  pub kept_refused : {ms : List Standing} {slots : List (Option Tags)} {asked now inflight served : ℕ} {m : Standing} (e s t : ℕ) (q : RequestMessage) (rm m' : Standing) (r : Result Arrived (NotArrivedAlone A)) → IsServed ms slots asked now inflight served → e < length ms → m ≡ get_or ms e m → rm ≡ logged_as rm m → (AdmitsAt rm s q → ⊥)
-      → Arrives {A = A} rm m' s t q r → IsServed (set ms e m') slots asked now inflight served
+  pub kept_refused : {ms : List Standing} {slots : List (Option Tags)} {asked now inflight served : ℕ} {m : Standing} (e s t : ℕ) (q : RequestMessage) (rm m' : Standing) (r : Arrived) → IsServed ms slots asked now inflight served → e < length ms → m ≡ get_or ms e m → rm ≡ logged_as rm m → (AdmitsAt rm s q → ⊥)
+      → Arrives A rm m' s t q r → IsServed (set ms e m') slots asked now inflight served
   kept_refused {m} e s t q rm m' r kept lt at same never arrives =
       kept_own e kept lt at (refused_went m m' s t q r (λ a. never (admits_room m rm s q same a)) (arrives_room m rm m' s t q r same arrives))
 
-  pub makes_refused : {old : Served} {m : Standing} (ms : List Standing) (now inflight e s t : ℕ) (q : RequestMessage) (rm m' : Standing) (r : Result Arrived (NotArrivedAlone A)) → served_of ms now inflight ≡ old → e < length ms → m ≡ get_or ms e m → rm ≡ logged_as rm m → (AdmitsAt rm s q → ⊥) → Arrives {A = A} rm m' s t q r
-      → JournalMove {A = A} m.part.terms (own.Arrive s t q) (as_alone (answer_of_arrive (arrived r))) m.journal m'.journal → Makes {A = A} old (Arrive e s t q) (served_of (set ms e m') now inflight) (answer_of_arrive (arrived r))
+  pub makes_refused : {old : Served} {m : Standing} (ms : List Standing) (now inflight e s t : ℕ) (q : RequestMessage) (rm m' : Standing) (r : Arrived) → served_of ms now inflight ≡ old → e < length ms → m ≡ get_or ms e m → rm ≡ logged_as rm m → (AdmitsAt rm s q → ⊥) → Arrives A rm m' s t q r
+      → JournalMove {A = A} m.part.terms (own.Arrive s t q) (as_alone (answer_of_arrive (Ok r))) m.journal m'.journal → Makes {A = A} old (Arrive e s t q) (served_of (set ms e m') now inflight) (answer_of_arrive (Ok r))
   makes_refused {m} ms now inflight e s t q rm m' r view lt at same never arrives move =
       let never_here : AdmitsAt m s q → ⊥ = λ a. never (admits_room m rm s q same a) in
       let here = arrives_room m rm m' s t q r same arrives in
       makes_of ms now inflight (arrivals e s t q) view (stepped_refused ms now inflight e s t q m m' r lt at never_here here)
-      (moves ms now inflight e m m'.journal (own.Arrive s t q) (served_of (set ms e m') now inflight) (answer_of_arrive (arrived r)) lt at (journals_set ms e m') move)
-      (seats_own ms e m m' (own.Arrive s t q) (step_answer_of_arrive r) at (refused_went m m' s t q r never_here here))
-
-  -- the request is handed back
-  pub back_told : (r : Result Arrived (NotArrivedAlone A)) (said : Result Arrived (NotArrived A)) (q : RequestMessage) → IfErr r (λ e. e.request ≡ q) → said ≡ arrived r → IfErr said (λ e. e.request ≡ q)
-  back_told r said q back is = subst (λ (x : Result Arrived (NotArrived A)). IfErr x (λ e. e.request ≡ q)) (sym is) (by r back)
-    where
-      by : (r : Result Arrived (NotArrivedAlone A)) → IfErr r (λ e. e.request ≡ q) → IfErr (arrived r) (λ e. e.request ≡ q)
-      by (Ok x) back = tt
-      by (Err x) back = back
+      (moves ms now inflight e m m'.journal (own.Arrive s t q) (served_of (set ms e m') now inflight) (answer_of_arrive (Ok r)) lt at (journals_set ms e m') move)
+      (seats_own ms e m m' (own.Arrive s t q) (step_answer_of_arrive {A = A} (Ok r)) at (refused_went m m' s t q r never_here here))
 
   -- ---- there is no room for it
-  pub makes_no_room : {old : Served} {m : Standing} (ms : List Standing) (now inflight e s t : ℕ) (q : RequestMessage) (rm : Standing) → served_of ms now inflight ≡ old → e < length ms → m ≡ get_or ms e m → rm ≡ logged_as rm m → IsLetIn m s
+  makes_no_room : {old : Served} {m : Standing} (ms : List Standing) (now inflight e s t : ℕ) (q : RequestMessage) (rm : Standing) → served_of ms now inflight ≡ old → e < length ms → m ≡ get_or ms e m → rm ≡ logged_as rm m → MayArrive (cell_at m).live s (Ok tt)
       → JournalMove {A = A} m.part.terms (own.Arrive s t q) None m.journal rm.journal → Makes {A = A} old (Arrive e s t q) (served_of (set ms e rm) now inflight) NoMemory
   makes_no_room {m} ms now inflight e s t q rm view lt at same may move =
       let back : parts (set ms e rm) ≡ parts ms = parts_back ms e m rm at (ap (λ (x : Standing). x.part) same) in
@@ -120,6 +112,25 @@ module _ (A : Type 0) where
       })
       (moves ms now inflight e m rm.journal (own.Arrive s t q) (served_of (set ms e rm) now inflight) NoMemory lt at (journals_set ms e rm) move)
       (same_seats ms e m rm at (ap (λ (x : Standing). x.seats) same))
+
+  -- ---- it has no place
+  refused_goes : (m rm : Standing) (s t : ℕ) (q : RequestMessage) (x : ArriveRefusalAlone) → rm ≡ logged_as rm m → MayArrive (cell_at m).live s (Err x) → Went {A = A} m rm (own.Arrive s t q) (step_answer_of_refusal x)
+  refused_goes m rm s t q x same may =
+      let does = arrive_refused {A = A} (cell_at m).live s t q x may in
+      record {
+        standing = same ∙ ap (λ (moved : Moved A). with_state moved.state (logged_as rm m)) (sym does.did);
+        told = ap (λ (moved : Moved A). moved.answer) (sym does.did);
+      }
+
+  pub makes_turned : {old : Served} {m : Standing} (ms : List Standing) (now inflight e s t : ℕ) (q : RequestMessage) (rm : Standing) (f : ArriveFault) → served_of ms now inflight ≡ old → e < length ms → m ≡ get_or ms e m → rm ≡ logged_as rm m → IsTurnedAwayAt m rm s q f
+      → Makes {A = A} old (Arrive e s t q) (served_of (set ms e rm) now inflight) (answer_of_arrive {A = A} (Err (record { refusal = fault_here f; request = q })))
+  makes_turned {m} ms now inflight e s t q rm (fault.Refused x) view lt at same turned =
+      let went = refused_goes m rm s t q x same turned.0 in
+      makes_of ms now inflight (arrivals e s t q) view (refused_step ms now inflight e s t q m rm x lt at (refused_never (cell_at m).live s q x turned.0) went)
+      (moves ms now inflight e m rm.journal (own.Arrive s t q) (served_of (set ms e rm) now inflight) (answer_of_arrive {A = A} (Err (record { refusal = refusal_here x; request = q }))) lt at (journals_set ms e rm)
+      (refused_moves A m.part.terms m.journal rm.journal s t q x (ap (λ (v : Standing). v.journal) turned.1)))
+      (seats_own ms e m rm (own.Arrive s t q) (step_answer_of_refusal x) at went)
+  makes_turned ms now inflight e s t q rm fault.NoMemory view lt at same turned = makes_no_room ms now inflight e s t q rm view lt at same turned.0 turned.1
 
 -- ---- ranges
 pub part_range : {ms : List Standing} {slots : List (Option Tags)} {asked now inflight served : ℕ} {m : Standing} (e : ℕ) → IsServed ms slots asked now inflight served → e < length ms → m ≡ get_or ms e m → TagsInRange m.part
@@ -240,17 +251,15 @@ heads_set : (ms : List Standing) (e : ℕ) (m : Standing) → heads (parts (set 
 heads_set ms e m = ap heads (parts_set ms e m) ∙ map-set (λ (p : Part). head_tags p.waiting) (parts ms) e m.part
 
 module _ (A : Type 0) where
-  accepted_at : (m m' : Standing) (s t : ℕ) (q : RequestMessage) (r : Result Arrived (NotArrivedAlone A)) → AdmitsAt m s q → Arrives {A = A} m m' s t q r → m' ≡ accepted_standing s t q (logged_as m' m)
-  accepted_at m m' s t q (Ok (arrival.Accepted n tag)) a arrives = arrives.1
-  accepted_at m m' s t q (Ok (arrival.Answered error)) a arrives = absurd (arrives.0 a)
-  accepted_at m m' s t q (Err e) a arrives = absurd (arrives.0 a)
+  accepted_at : (m m' : Standing) (s t : ℕ) (q : RequestMessage) (r : Arrived) → AdmitsAt m s q → Arrives A m m' s t q r → m' ≡ accepted_standing s t q (logged_as m' m)
+  accepted_at m m' s t q (arrival.Accepted n tag) a arrives = arrives.1
+  accepted_at m m' s t q (arrival.Answered error) a arrives = absurd (arrives.0 a)
 
-  accepted_told : (m m' : Standing) (s t : ℕ) (q : RequestMessage) (r : Result Arrived (NotArrivedAlone A)) → AdmitsAt m s q → Arrives {A = A} m m' s t q r → Accepted m.part.next (part_tags m.part t).l ≡ answer_of_arrive {A = A} (arrived r)
-  accepted_told m m' s t q (Ok (arrival.Accepted n tag)) a arrives = ap (λ k. Accepted k (part_tags m.part t).l) (sym arrives.2) ∙ ap (λ l. Accepted n l) (sym arrives.3)
-  accepted_told m m' s t q (Ok (arrival.Answered error)) a arrives = absurd (arrives.0 a)
-  accepted_told m m' s t q (Err e) a arrives = absurd (arrives.0 a)
+  accepted_told : (m m' : Standing) (s t : ℕ) (q : RequestMessage) (r : Arrived) → AdmitsAt m s q → Arrives A m m' s t q r → Accepted m.part.next (part_tags m.part t).l ≡ answer_of_arrive {A = A} (Ok r)
+  accepted_told m m' s t q (arrival.Accepted n tag) a arrives = ap (λ k. Accepted k (part_tags m.part t).l) (sym arrives.2) ∙ ap (λ l. Accepted n l) (sym arrives.3)
+  accepted_told m m' s t q (arrival.Answered error) a arrives = absurd (arrives.0 a)
 
-  stepped_accepted : (ms : List Standing) (slots : List (Option Tags)) (asked now inflight served e s t : ℕ) (q : RequestMessage) (m m' : Standing) (r : Result Arrived (NotArrivedAlone A)) → IsServed ms slots asked now inflight served → e < length ms → m ≡ get_or ms e m → AdmitsAt m s q → Arrives {A = A} m m' s t q r → Stepped {A = A} (served_of ms now inflight) (Arrive e s t q) (served_of (set (way_of (length m.part.waiting) (pos t) ms) e m') now inflight) (answer_of_arrive {A = A} (arrived r))
+  stepped_accepted : (ms : List Standing) (slots : List (Option Tags)) (asked now inflight served e s t : ℕ) (q : RequestMessage) (m m' : Standing) (r : Arrived) → IsServed ms slots asked now inflight served → e < length ms → m ≡ get_or ms e m → AdmitsAt m s q → Arrives A m m' s t q r → Stepped {A = A} (served_of ms now inflight) (Arrive e s t q) (served_of (set (way_of (length m.part.waiting) (pos t) ms) e m') now inflight) (answer_of_arrive {A = A} (Ok r))
   stepped_accepted ms slots asked now inflight served e s t q m m' r kept lt at a arrives =
       let order = in_order (total (parts ms)) (parts ms) kept.server.each in
       let way = way_of (length m.part.waiting) (pos t) ms in
@@ -266,7 +275,7 @@ module _ (A : Type 0) where
         setup = ap (λ l. record { exports = l; inflight = inflight }) (same_setup way e m m' there (ap (λ (x : Standing). x.part.terms) is) ∙ same_by (λ (l : List Standing). map (λ (p : Part). p.terms) (parts l)) terms_shifted (length m.part.waiting) (pos t) ms);
       })
 
-  kept_admitted : (ms : List Standing) (slots slots' : List (Option Tags)) (asked asked' now inflight served e s t : ℕ) (q : RequestMessage) (m m' : Standing) (r : Result Arrived (NotArrivedAlone A)) → IsServed ms slots asked now inflight served → e < length ms → m ≡ get_or ms e m → AdmitsAt m s q → Arrives {A = A} m m' s t q r → t < 2 ^ 62 → slots' ≡ set (heads (parts (way_of (length m.part.waiting) (pos t) ms))) e (head_tags m'.part.waiting) → asked' ≤ now → IsServed (set (way_of (length m.part.waiting) (pos t) ms) e m') slots' asked' now inflight served
+  kept_admitted : (ms : List Standing) (slots slots' : List (Option Tags)) (asked asked' now inflight served e s t : ℕ) (q : RequestMessage) (m m' : Standing) (r : Arrived) → IsServed ms slots asked now inflight served → e < length ms → m ≡ get_or ms e m → AdmitsAt m s q → Arrives A m m' s t q r → t < 2 ^ 62 → slots' ≡ set (heads (parts (way_of (length m.part.waiting) (pos t) ms))) e (head_tags m'.part.waiting) → asked' ≤ now → IsServed (set (way_of (length m.part.waiting) (pos t) ms) e m') slots' asked' now inflight served
   kept_admitted ms slots slots' asked asked' now inflight served e s t q m m' r kept lt at a arrives small firsts le =
       let way = way_of (length m.part.waiting) (pos t) ms in
       let after = accepted_part s q (part_tags m.part t) m.part in
@@ -281,20 +290,20 @@ module _ (A : Type 0) where
         room = members_set (λ (x : Standing). x.inflight ≡ inflight) way e m' (room_way inflight (length m.part.waiting) (pos t) ms kept.room) (ap (λ (x : Standing). x.inflight) is ∙ member_at (λ (x : Standing). x.inflight ≡ inflight) ms e m kept.room lt at);
       }
 
-  pub first_in_range : {ms : List Standing} {slots : List (Option Tags)} {asked now inflight served : ℕ} {m : Standing} (e s t : ℕ) (q : RequestMessage) (rm m' : Standing) (r : Result Arrived (NotArrivedAlone A)) → IsServed ms slots asked now inflight served → e < length ms → m ≡ get_or ms e m → rm ≡ logged_as rm m → AdmitsAt rm s q
-      → Arrives {A = A} rm m' s t q r → t < 2 ^ 62 → IsSlotInRange (head_tags m'.part.waiting)
+  pub first_in_range : {ms : List Standing} {slots : List (Option Tags)} {asked now inflight served : ℕ} {m : Standing} (e s t : ℕ) (q : RequestMessage) (rm m' : Standing) (r : Arrived) → IsServed ms slots asked now inflight served → e < length ms → m ≡ get_or ms e m → rm ≡ logged_as rm m → AdmitsAt rm s q
+      → Arrives A rm m' s t q r → t < 2 ^ 62 → IsSlotInRange (head_tags m'.part.waiting)
   first_in_range {ms} {slots} {asked} {now} {inflight} {served} {m} e s t q rm m' r kept lt at same a arrives small =
       let admits = admits_before m rm s q same a in
       subst (λ (x : Standing). IsSlotInRange (head_tags x.part.waiting)) (sym (accepted_at m m' s t q r admits (arrives_room A m rm m' s t q r same arrives)))
       (new_in_range (parts ms) slots asked now inflight served e s t q m.part kept.server (within_parts ms e lt) (part_there ms e m lt at) (admits_part m s q admits) small)
 
-  seats_accepted : (ms : List Standing) (e s t : ℕ) (q : RequestMessage) (m m' : Standing) (r : Result Arrived (NotArrivedAlone A)) → e < length ms → m ≡ get_or ms e m → AdmitsAt m s q → Arrives {A = A} m m' s t q r → all_seats (set (way_of (length m.part.waiting) (pos t) ms) e m') ≡ all_seats ms
+  seats_accepted : (ms : List Standing) (e s t : ℕ) (q : RequestMessage) (m m' : Standing) (r : Arrived) → e < length ms → m ≡ get_or ms e m → AdmitsAt m s q → Arrives A m m' s t q r → all_seats (set (way_of (length m.part.waiting) (pos t) ms) e m') ≡ all_seats ms
   seats_accepted ms e s t q m m' r lt at a arrives =
       same_seats (way_of (length m.part.waiting) (pos t) ms) e m m' (sym (member_same (pos t) ms e m m lt at)) (ap (λ (x : Standing). x.seats) (accepted_at m m' s t q r a arrives))
       ∙ same_by all_seats seats_shifted (length m.part.waiting) (pos t) ms
 
-  pub kept_accepted : {ms way : List Standing} {slots slots' there : List (Option Tags)} {asked asked' now inflight served : ℕ} {m : Standing} {first : Option Tags} (e s t n : ℕ) (q : RequestMessage) (rm m' : Standing) (r : Result Arrived (NotArrivedAlone A)) → IsServed ms slots asked now inflight served → e < length ms → m ≡ get_or ms e m
-      → rm ≡ logged_as rm m → AdmitsAt rm s q → Arrives {A = A} rm m' s t q r → t < 2 ^ 62 → n ≡ length rm.part.waiting → way ≡ way_of n (pos t) (set ms e rm) → there ≡ heads (parts way) → first ≡ head_tags m'.part.waiting → slots' ≡ set there e first → asked' ≤ now → IsServed (set way e m') slots' asked' now inflight served
+  pub kept_accepted : {ms way : List Standing} {slots slots' there : List (Option Tags)} {asked asked' now inflight served : ℕ} {m : Standing} {first : Option Tags} (e s t n : ℕ) (q : RequestMessage) (rm m' : Standing) (r : Arrived) → IsServed ms slots asked now inflight served → e < length ms → m ≡ get_or ms e m
+      → rm ≡ logged_as rm m → AdmitsAt rm s q → Arrives A rm m' s t q r → t < 2 ^ 62 → n ≡ length rm.part.waiting → way ≡ way_of n (pos t) (set ms e rm) → there ≡ heads (parts way) → first ≡ head_tags m'.part.waiting → slots' ≡ set there e first → asked' ≤ now → IsServed (set way e m') slots' asked' now inflight served
   kept_accepted {ms} {way} {slots} {slots'} {there} {asked} {asked'} {now} {inflight} {served} {m} {first} e s t n q rm m' r kept lt at same a arrives small is way_is there_is first_is slots_is le =
       let W = way_of (length m.part.waiting) (pos t) ms in
       let back = way_same ms e t n rm m' at same is way_is in
@@ -303,20 +312,20 @@ module _ (A : Type 0) where
       subst (λ (l : List Standing). IsServed l slots' asked' now inflight served) (sym back)
       (kept_admitted ms slots slots' asked asked' now inflight served e s t q m m' r kept lt at (admits_before m rm s q same a) (arrives_room A m rm m' s t q r same arrives) small firsts le)
 
-  pub makes_accepted : {ms way : List Standing} {slots : List (Option Tags)} {asked now inflight served : ℕ} {m : Standing} {old : Served} (e s t n : ℕ) (q : RequestMessage) (rm m' : Standing) (r : Result Arrived (NotArrivedAlone A)) → IsServed ms slots asked now inflight served → served_of ms now inflight ≡ old → e < length ms → m ≡ get_or ms e m
-      → rm ≡ logged_as rm m → AdmitsAt rm s q → Arrives {A = A} rm m' s t q r → n ≡ length rm.part.waiting → way ≡ way_of n (pos t) (set ms e rm) → JournalMove {A = A} m.part.terms (own.Arrive s t q) (as_alone (answer_of_arrive (arrived r))) m.journal m'.journal
-      → Makes {A = A} old (Arrive e s t q) (served_of (set way e m') now inflight) (answer_of_arrive (arrived r))
+  pub makes_accepted : {ms way : List Standing} {slots : List (Option Tags)} {asked now inflight served : ℕ} {m : Standing} {old : Served} (e s t n : ℕ) (q : RequestMessage) (rm m' : Standing) (r : Arrived) → IsServed ms slots asked now inflight served → served_of ms now inflight ≡ old → e < length ms → m ≡ get_or ms e m
+      → rm ≡ logged_as rm m → AdmitsAt rm s q → Arrives A rm m' s t q r → n ≡ length rm.part.waiting → way ≡ way_of n (pos t) (set ms e rm) → JournalMove {A = A} m.part.terms (own.Arrive s t q) (as_alone (answer_of_arrive (Ok r))) m.journal m'.journal
+      → Makes {A = A} old (Arrive e s t q) (served_of (set way e m') now inflight) (answer_of_arrive (Ok r))
   makes_accepted {ms} {way} {slots} {asked} {now} {inflight} {served} {m} {old} e s t n q rm m' r kept view lt at same a arrives is way_is move =
       let W = way_of (length m.part.waiting) (pos t) ms in
       let admits = admits_before m rm s q same a in
       let here = arrives_room A m rm m' s t q r same arrives in
-      subst (λ (l : List Standing). Makes {A = A} old (Arrive e s t q) (served_of l now inflight) (answer_of_arrive (arrived r))) (sym (way_same ms e t n rm m' at same is way_is))
+      subst (λ (l : List Standing). Makes {A = A} old (Arrive e s t q) (served_of l now inflight) (answer_of_arrive (Ok r))) (sym (way_same ms e t n rm m' at same is way_is))
       (makes_of ms now inflight (arrivals e s t q) view (stepped_accepted ms slots asked now inflight served e s t q m m' r kept lt at admits here)
-      (moves ms now inflight e m m'.journal (own.Arrive s t q) (served_of (set W e m') now inflight) (answer_of_arrive (arrived r)) lt at (journals_set W e m' ∙ ap (λ l. set l e m'.journal) (journals_way (length m.part.waiting) (pos t) ms)) move)
+      (moves ms now inflight e m m'.journal (own.Arrive s t q) (served_of (set W e m') now inflight) (answer_of_arrive (Ok r)) lt at (journals_set W e m' ∙ ap (λ l. set l e m'.journal) (journals_way (length m.part.waiting) (pos t) ms)) move)
       (seats_accepted ms e s t q m m' r lt at admits here))
 
   -- where one waited, the first request is the same
-  pub same_first : (m m' : Standing) (s t : ℕ) (q : RequestMessage) (r : Result Arrived (NotArrivedAlone A)) (was first : Option Tags) → AdmitsAt m s q → Arrives {A = A} m m' s t q r → was ≡ head_tags m.part.waiting → first ≡ head_tags m'.part.waiting → IfSome was (λ tags. first ≡ Some tags)
+  pub same_first : (m m' : Standing) (s t : ℕ) (q : RequestMessage) (r : Arrived) (was first : Option Tags) → AdmitsAt m s q → Arrives A m m' s t q r → was ≡ head_tags m.part.waiting → first ≡ head_tags m'.part.waiting → IfSome was (λ tags. first ≡ Some tags)
   same_first m m' s t q r was first a arrives was_is first_is =
       subst (λ (o : Option Tags). IfSome o (λ tags. first ≡ Some tags)) (sym was_is)
       (subst (λ (o : Option Tags). IfSome (head_tags m.part.waiting) (λ tags. o ≡ Some tags)) (sym (first_is ∙ ap (λ (x : Standing). head_tags x.part.waiting) (accepted_at m m' s t q r a arrives)))

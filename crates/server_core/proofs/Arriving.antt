@@ -14,9 +14,7 @@ use Rattle.tag_clock.specs.Tags.{later}
 use Rattle.tag_clock.specs.Clocks.{Share, r_tag, p_tag, share_after}
 use Rattle.reply_box.specs.Sessions.{is_open_at}
 use Rattle.lone_export.specs.Alone.{Alone, Job, Moved, own_step, accepted, limit_tag, outstanding}
-use Rattle.lone_export.specs.Lone.{Whole, Does, Admits, step_answer_of_refusal}
-use Rattle.lone_export.specs.declared.refusal.ArriveRefusal.{ArriveRefusal}
-use Rattle.lone_export.specs.declared.refusal.ArriveRefusal.TheVariants as refusing
+use Rattle.lone_export.specs.Lone.{Whole, Does, Admits}
 use Rattle.lone_export.specs.declared.step.Step.TheVariants.{Arrive}
 use Rattle.lone_export.specs.declared.step.StepAnswer.{StepAnswer}
 use Rattle.lone_export.specs.declared.step.StepAnswer.TheVariants.{Accepted}
@@ -196,8 +194,3 @@ module _ (A : Type 0) where
 
 pub p_fits : (m : Kept) (t : ℕ) → IsMember m → IsOptionInRange m.share.last_p → m.whole.state.rates.p_interval ≤ 2 ^ 30 → t < 2 ^ 62 → FitsSigned w128 (p_tag m.share t)
 p_fits m t h range short small = later_fits m.share.last_p m.share.p_interval t range (subst (λ n. n ≤ 2 ^ 30) (sym h.p_interval) short) small
-
-pub refusal_is : (A : Type 0) (e : ArriveRefusal) → is_accepted (step_answer_of_refusal {A = A} e) ≡ false
-refusal_is A refusing.NotOpen = refl
-refusal_is A refusing.Worn = refl
-refusal_is A refusing.Hold = refl

@@ -1,6 +1,6 @@
 -- The journals of a server's exports, from the calls of one export.
-use Rattle.std.proofs.Common.{◌≡◌, ℕ, zero, suc, ◌<◌, ◌≤◌, Bool, true, false, Option, Some, None, Result, Ok, Err, List, [], ◌∷◌, ◌++◌, ◌+◌, map, filter, length, set, get_or, refl, sym, ◌∙◌, ap, subst, arith}
-use Rattle.std.specs.Prelude.{slice_get, is_ok, is_some}
+use Rattle.std.proofs.Common.{◌≡◌, ℕ, zero, suc, ◌<◌, ◌≤◌, Bool, true, false, Option, Some, Result, Ok, Err, List, [], ◌∷◌, ◌++◌, ◌+◌, map, filter, length, set, get_or, refl, sym, ◌∙◌, ap, subst, arith}
+use Rattle.std.specs.Prelude.{slice_get}
 use Rattle.std.proofs.lemmas.List.{map-set, append-nil}
 use Rattle.std.proofs.lemmas.List.Elements.{filter-append}
 use Rattle.std.proofs.lemmas.Bool.Decides.{nat_tests}
@@ -9,20 +9,19 @@ use Rattle.nbd_wire.specs.Grammar.{RequestMessage}
 use Rattle.nbd_commands.specs.Terms.{Terms}
 use Rattle.tag_clock.specs.declared.Phase.{Phase}
 use Rattle.lone_export.specs.Alone.{Job}
-use Rattle.lone_export.specs.Lone.{step_answer_of_attach, step_answer_of_arrive, step_answer_of_refusal}
+use Rattle.lone_export.specs.Lone.{step_answer_of_attach}
 use Rattle.lone_export.specs.declared.refusal.NotAttached.{NotAttached}
 use Rattle.lone_export.specs.declared.refusal.NotAttached.TheVariants.{Refused, NoMemory}
 use Rattle.lone_export.specs.declared.refusal.AttachRefusal.TheVariants as attaching
 use Rattle.lone_export.specs.declared.refusal.Arrived.{Arrived}
 use Rattle.lone_export.specs.declared.refusal.Arrived.TheVariants as arrival
-use Rattle.lone_export.specs.declared.refusal.NotArrived.{NotArrived as NotArrivedAlone}
 use Rattle.lone_export.specs.declared.refusal.ArriveRefusal.{ArriveRefusal as ArriveRefusalAlone}
 use Rattle.lone_export.specs.declared.refusal.ArriveRefusal.TheVariants as arriving
 use Rattle.lone_export.specs.declared.step.Step.{Step}
 use Rattle.lone_export.specs.declared.step.Step.TheVariants as own
 use Rattle.lone_export.specs.declared.step.StepAnswer.{StepAnswer}
 use Rattle.lone_export.specs.declared.step.StepAnswer.TheVariants as alone
-use Rattle.export_cell.specs.Journal.{Journal, Cell, JournalMove, IsJournal, reserved, noted, noted_as}
+use Rattle.export_cell.specs.Journal.{Journal, Cell, JournalMove, IsJournal, advanced, surplus, noted}
 use Rattle.server_table.specs.declared.event.Answer.{Answer}
 use Rattle.server_table.specs.declared.event.Answer.TheVariants as said
 use Rattle.server_table.specs.Answers.{as_answer}
@@ -31,8 +30,8 @@ use Rattle.server_table.specs.Table.{Side, job_of, part, waits_in, is_out_in}
 use Rattle.server_table.specs.Parts.{Entry, Part, row_of, rows_from, table_of, alone_of, job_of_entry}
 use Rattle.server_table.proofs.Arrive.{waiting_rows}
 use Rattle.server_table.proofs.Rows.{side_at, filter_only, filter_entries, filter_all, filter_no}
-use Rattle.server_core.specs.Here.{attached, arrived}
-use Rattle.server_core.specs.Members.{Standing, IsReservedAt}
+use Rattle.server_core.specs.Here.{attached, refusal_here}
+use Rattle.server_core.specs.Members.{Standing}
 use Rattle.server_core.specs.Served.{Served, parts, journals_of, served_of, answer_of_attach, answer_of_arrive}
 use Rattle.server_core.specs.Journals.{CellMoves, IsCellOf}
 use Rattle.server_core.proofs.Served.{within_parts, part_there}
@@ -139,22 +138,18 @@ module _ {A : Type 0} where
       (subst (λ (o : Option (StepAnswer A)). JournalMove m.part.terms own.Attach o m.journal m'.journal) (sym (attach_alone e r)) move)
 
 -- ---- an arrival: the journal moved once when its room was made, and once when it came
-told_moves : (A : Type 0) (terms : Terms) (old new : Journal) (s t : ℕ) (q : RequestMessage) (x : ArriveRefusalAlone) → new ≡ noted_as {A = A} (step_answer_of_refusal x) (own.Arrive s t q) old → JournalMove {A = A} terms (own.Arrive s t q) (as_alone (answer_of_arrive (arrived (Err (record { refusal = x; request = q }))))) old new
-told_moves A terms old new s t q arriving.NotOpen is = is
-told_moves A terms old new s t q arriving.Worn is = is
-told_moves A terms old new s t q arriving.Hold is = is
+module _ (A : Type 0) where
+  pub arrival_moves : (terms : Terms) (old mid new : Journal) (s t : ℕ) (q : RequestMessage) (a : Arrived) → mid ≡ advanced terms (surplus (length q.payload) old.log) old → new ≡ noted (own.Arrive s t q) mid
+      → JournalMove {A = A} terms (own.Arrive s t q) (as_alone (answer_of_arrive {A = A} (Ok a))) old new
+  arrival_moves terms old mid new s t q (arrival.Accepted n tag) room is = is ∙ ap (noted (own.Arrive s t q)) room
+  arrival_moves terms old mid new s t q (arrival.Answered error) room is = is ∙ ap (noted (own.Arrive s t q)) room
 
-module _ {A : Type 0} where
-  pub arrival_moves : (terms : Terms) (old mid new : Journal) (standing : Standing) (kept : Option RequestMessage) (s t : ℕ) (q : RequestMessage) (r : Result Arrived (NotArrivedAlone A)) → is_ok r ≡ is_some kept → IsReservedAt standing s q kept → mid ≡ reserved terms kept old
-      → new ≡ noted_as {A = A} (step_answer_of_arrive r) (own.Arrive s t q) mid → JournalMove {A = A} terms (own.Arrive s t q) (as_alone (answer_of_arrive (arrived r))) old new
-  arrival_moves terms old mid new standing None s t q (Ok a) same room room_is is = absurd (cc)
-  arrival_moves terms old mid new standing (Some kept) s t q (Err x) same room room_is is = absurd (cc)
-  arrival_moves terms old mid new standing None s t q (Err x) same room room_is is =
-      told_moves A terms old new s t q x.refusal (is ∙ ap (noted_as {A = A} (step_answer_of_refusal x.refusal) (own.Arrive s t q)) room_is)
-  arrival_moves terms old mid new standing (Some kept) s t q (Ok (arrival.Accepted n tag)) same room room_is is =
-      is ∙ ap (noted (own.Arrive s t q)) (room_is ∙ ap (λ (k : RequestMessage). reserved terms (Some k) old) room.1)
-  arrival_moves terms old mid new standing (Some kept) s t q (Ok (arrival.Answered error)) same room room_is is =
-      is ∙ ap (noted (own.Arrive s t q)) (room_is ∙ ap (λ (k : RequestMessage). reserved terms (Some k) old) room.1)
+  -- one that is refused moves none
+  pub refused_moves : (terms : Terms) (old new : Journal) (s t : ℕ) (q : RequestMessage) (x : ArriveRefusalAlone) → new ≡ old
+      → JournalMove {A = A} terms (own.Arrive s t q) (as_alone (answer_of_arrive {A = A} (Err (record { refusal = refusal_here x; request = q })))) old new
+  refused_moves terms old new s t q arriving.NotOpen is = is
+  refused_moves terms old new s t q arriving.Worn is = is
+  refused_moves terms old new s t q arriving.Hold is = is
 
 -- ---- the cell of an export
 pub terms_at : (ms : List Standing) (e : ℕ) (m : Standing) → e < length ms → m ≡ get_or ms e m → slice_get (map (λ (p : Part). p.terms) (parts ms)) e ≡ Some m.part.terms

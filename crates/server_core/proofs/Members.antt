@@ -1,23 +1,30 @@
 -- From a call of the export alone to the same call with its tags.
 use Rattle.std.proofs.Common.{◌≡◌, ℕ, Option, Some, None, Result, Ok, Err, List, [], ◌∷◌, map, length, refl, sym, ◌∙◌, ap, subst, arith}
 use Rattle.std.proofs.lemmas.List.{length-map}
-use Rattle.std.specs.Prelude.{IsErrOf, IfOk, OnErr, not, ◌==◌, ◌&&◌, ◌^◌, nat_le, filter, slice_get}
+use Rattle.std.specs.Prelude.{IsErrOf, IfOk, IfErr, not, ◌==◌, ◌&&◌, ◌^◌, nat_le, filter, slice_get}
 use Rattle.nbd_wire.specs.Grammar.{RequestMessage}
 use Rattle.nbd_commands.specs.Terms.{Terms}
 use Rattle.tag_clock.specs.declared.Tags.{Tags}
 use Rattle.reply_box.specs.Sessions.{is_open_at, is_left_at, is_here, is_here_at, outbox_at}
 use Rattle.lone_export.specs.Alone.{Alone, Job, Moved, own_step, outstanding}
-use Rattle.lone_export.specs.Lone.{Whole, Does, DoesOr, MayArrive, MayAttach}
+use Rattle.lone_export.specs.Lone.{Whole, Does, DoesOr, MayArrive, MayAttach, IsAdmission}
+use Rattle.lone_export.specs.declared.refusal.Admission.{Admission}
+use Rattle.lone_export.specs.declared.refusal.Admission.TheVariants as admission
+use Rattle.lone_export.specs.declared.refusal.ArriveRefusal.{ArriveRefusal}
+use Rattle.lone_export.specs.declared.refusal.ArriveRefusal.TheVariants as arriving
 use Rattle.lone_export.specs.declared.refusal.NotAttached.{NotAttached}
 use Rattle.lone_export.specs.declared.refusal.NotAttached.TheVariants.{Refused, NoMemory}
 use Rattle.lone_export.specs.declared.step.Step.{Step}
 use Rattle.lone_export.specs.declared.step.Step.TheVariants.{Attach, Take, Leave, Gone}
 use Rattle.lone_export.specs.declared.step.StepAnswer.{StepAnswer}
 use Rattle.lone_export.proofs.Cases.{if_one, some_one}
-use Rattle.export_cell.specs.Journal.{Journal, Cell, IsReserved}
+use Rattle.export_cell.specs.declared.place.Place.{Place}
+use Rattle.export_cell.specs.declared.refusal.ArriveFault.{ArriveFault}
+use Rattle.export_cell.specs.declared.refusal.ArriveFault.TheVariants as fault
+use Rattle.export_cell.specs.Journal.{Journal, Cell, IsReserved, IsTurnedAway}
 use Rattle.server_table.specs.Parts.{alone_of, job_of_entry}
 use Rattle.server_core.specs.declared.member.Sent.{Sent}
-use Rattle.server_core.specs.Members.{Kept, entries_of, sent_tags, part_of, standing_of, IsMember, with_state, with_log, IsReservedAt, IsLetIn, WantsMemory, own, Went, WentOr}
+use Rattle.server_core.specs.Members.{Kept, entries_of, sent_tags, part_of, standing_of, IsMember, with_state, with_log, cell_at, IsReservedAt, IsTurnedAwayAt, WantsMemory, own, Went, WentOr}
 
 -- ---- the requests with their tags, and without
 pub jobs_back : (jobs : List Job) (tags : List Tags) → length tags ≡ length jobs → map job_of_entry (entries_of jobs tags) ≡ jobs
@@ -107,27 +114,52 @@ cell_in m = record { live = m.whole; journal = m.journal; room = m.room }
 abbrev cell_with : Kept → Alone → Cell
 cell_with m state = record { live = record { terms = m.whole.terms; inflight = m.whole.inflight; state = state; slots = [] }; journal = m.journal; room = m.room }
 
-pub reserved_at : (m : Kept) (s : ℕ) (q : RequestMessage) (kept : Option RequestMessage) → IsMember m → IsReserved (cell_in m) s q kept → IsReservedAt (standing_of m) s q kept
-reserved_at m s q None h not_so = subst (λ (state : Alone). IsReserved (cell_with m state) s q None) (sym (alone_back m h)) not_so
-reserved_at m s q (Some kept) h so = subst (λ (state : Alone). IsReserved (cell_with m state) s q (Some kept)) (sym (alone_back m h)) (so.0, so.1, record { few = so.2.few; room = so.2.room })
+-- what becomes of a request doesn't depend on the slots
+admission_same : (A : Type 0) (w v : Whole) (s : ℕ) (q : RequestMessage) (a : Admission) → v ≡ record w { slots = v.slots } → IsAdmission A w s q (Ok a) → IsAdmission A v s q (Ok a)
+admission_same A w v s q a same is = subst (λ (x : Whole). IsAdmission A x s q (Ok a)) (sym same) (by a is)
+  where
+    by : (a : Admission) → IsAdmission A w s q (Ok a) → IsAdmission A (record w { slots = v.slots }) s q (Ok a)
+    by admission.Waits is = is
+    by (admission.Answered error) is = is
 
-pub reserved_in : (m : Kept) (s : ℕ) (q : RequestMessage) (kept : Option RequestMessage) → IsMember m → IsReservedAt (standing_of m) s q kept → IsReserved (cell_in m) s q kept
-reserved_in m s q None h not_so = subst (λ (state : Alone). IsReserved (cell_with m state) s q None) (alone_back m h) not_so
-reserved_in m s q (Some kept) h at =
-    let so : IsReserved (cell_with m m.whole.state) s q (Some kept) = subst (λ (state : Alone). IsReserved (cell_with m state) s q (Some kept)) (alone_back m h) at in
-    (so.0, so.1, record { few = so.2.few; room = so.2.room })
+pub reserved_at : {A : Type 0} (m : Kept) (s : ℕ) (q : RequestMessage) (place : Place A) → IsMember m → IsReserved (cell_in m) s q place → IsReservedAt (standing_of m) s q place
+reserved_at {A} m s q place h is =
+    subst (λ (state : Alone). IsReserved (cell_with m state) s q place) (sym (alone_back m h))
+    (record {
+      admitted = admission_same A m.whole (cell_with m m.whole.state).live s q place.admission refl is.admitted;
+      same = is.same;
+      room = record { few = is.room.few; room = is.room.room };
+    })
 
-pub let_in_at : (m : Kept) (s : ℕ) → IsMember m → MayArrive m.whole s (Ok tt) → IsLetIn (standing_of m) s
-let_in_at m s h may = subst (λ (state : Alone). MayArrive (cell_with m state).live s (Ok tt)) (sym (alone_back m h)) may
+pub reserved_in : {A : Type 0} (m : Kept) (s : ℕ) (q : RequestMessage) (place : Place A) → IsMember m → IsReservedAt (standing_of m) s q place → IsReserved (cell_in m) s q place
+reserved_in {A} m s q place h at =
+    let is : IsReserved (cell_with m m.whole.state) s q place = subst (λ (state : Alone). IsReserved (cell_with m state) s q place) (alone_back m h) at in
+    record {
+      admitted = admission_same A (cell_with m m.whole.state).live m.whole s q place.admission refl is.admitted;
+      same = is.same;
+      room = record { few = is.room.few; room = is.room.room };
+    }
+
+refused_at : (m : Kept) (s : ℕ) (e : ArriveRefusal) → IsMember m → MayArrive m.whole s (Err e) → MayArrive (cell_at (standing_of m)).live s (Err e)
+refused_at m s e h may = subst (λ (state : Alone). MayArrive (cell_with m state).live s (Err e)) (sym (alone_back m h)) (by e may)
+  where
+    by : (e : ArriveRefusal) → MayArrive m.whole s (Err e) → MayArrive (cell_with m m.whole.state).live s (Err e)
+    by arriving.NotOpen is = is
+    by arriving.Worn is = is
+    by arriving.Hold is = is
+
+pub turned_at : (m : Kept) (new : Cell) (s : ℕ) (q : RequestMessage) (f : ArriveFault) → IsMember m → IsTurnedAway (cell_in m) new s q f → IsTurnedAwayAt (standing_of m) (standing_of (record m { whole = new.live; journal = new.journal; room = new.room })) s q f
+turned_at m new s q (fault.Refused e) h is = (refused_at m s e h is.0, ap (λ (c : Cell). standing_of (record m { whole = c.live; journal = c.journal; room = c.room })) is.1)
+turned_at m new s q fault.NoMemory h is = (subst (λ (state : Alone). MayArrive (cell_with m state).live s (Ok tt)) (sym (alone_back m h)) is.0, is.1)
 
 -- ---- what a call that may want memory answers
 pub if_ok : {T E : Type 0} (P Q : T → Type 0) (r : Result T E) → ((x : T) → P x → Q x) → IfOk r P → IfOk r Q
 if_ok P Q (Ok x) f p = f x p
 if_ok P Q (Err e) f p = tt
 
-pub on_err : {T E : Type 0} (P Q : Type 0) (r : Result T E) → (P → Q) → OnErr r P → OnErr r Q
-on_err P Q (Ok x) f p = tt
-on_err P Q (Err e) f p = f p
+pub if_err : {T E : Type 0} (P Q : E → Type 0) (r : Result T E) → ((e : E) → P e → Q e) → IfErr r P → IfErr r Q
+if_err P Q (Ok x) f p = tt
+if_err P Q (Err e) f p = f e p
 
 pub same_kept : (m : Kept) (new : Whole) (j : Journal) (r : ℕ) → IsMember m → new ≡ m.whole → IsMember (record m { whole = new; journal = j; room = r })
 same_kept m new j r h is = subst (λ (w : Whole). IsMember (record m { whole = w; journal = j; room = r })) (sym is) (relogged m j r h)

@@ -5,13 +5,12 @@ use Rattle.lone_export.specs.declared.refusal.NotAttached.{NotAttached as NotAtt
 use Rattle.lone_export.specs.declared.refusal.NotAttached.TheVariants as alone
 use Rattle.lone_export.specs.declared.refusal.AttachRefusal.TheVariants as attaching
 use Rattle.lone_export.specs.declared.refusal.RetuneRefusal.TheVariants as tuned
+use Rattle.export_cell.specs.declared.refusal.ArriveFault.{ArriveFault}
+use Rattle.export_cell.specs.declared.refusal.ArriveFault.TheVariants as fault
 use Rattle.export_cell.specs.declared.refusal.NotRetuned.{NotRetuned as NotRetunedAlone}
 use Rattle.export_cell.specs.declared.refusal.NotRetuned.TheVariants as kept
-use Rattle.lone_export.specs.declared.refusal.Arrived.{Arrived}
-use Rattle.lone_export.specs.declared.refusal.NotArrived.{NotArrived as NotArrivedAlone}
 use Rattle.lone_export.specs.declared.refusal.ArriveRefusal.{ArriveRefusal as ArriveRefusalAlone}
 use Rattle.lone_export.specs.declared.refusal.ArriveRefusal.TheVariants as arriving
-use Rattle.server_core.specs.declared.refusal.NotArrived.{NotArrived}
 use Rattle.server_core.specs.declared.refusal.ArriveRefusal.{ArriveRefusal}
 use Rattle.server_core.specs.declared.refusal.ArriveRefusal.TheVariants as refusal
 use Rattle.server_core.specs.declared.session.SessionId.{SessionId}
@@ -43,6 +42,6 @@ refusal_here arriving.NotOpen = refusal.NotOpen
 refusal_here arriving.Worn = refusal.Worn
 refusal_here arriving.Hold = refusal.Hold
 
-abbrev pub arrived : {A : Type 0} → Result Arrived (NotArrivedAlone A) → Result Arrived (NotArrived A)
-arrived (Ok said) = Ok said
-arrived (Err e) = Err (record { refusal = refusal_here e.refusal; request = e.request })
+abbrev pub fault_here : ArriveFault → ArriveRefusal
+fault_here (fault.Refused e) = refusal_here e
+fault_here fault.NoMemory = refusal.NoMemory

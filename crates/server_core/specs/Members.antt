@@ -7,10 +7,9 @@ use Rattle.tag_clock.specs.declared.Phase.{Phase}
 use Rattle.tag_clock.specs.Clocks.{Share}
 use Rattle.tag_clock.specs.Intervals.{Intervals}
 use Rattle.lone_export.specs.Alone.{Alone, Job, Moved, own_step, opening}
-use Rattle.lone_export.specs.Lone.{Whole, Admits, MayArrive, step_answer_of_refusal}
+use Rattle.lone_export.specs.Lone.{Whole, Admits, MayArrive}
 use Rattle.lone_export.specs.declared.refusal.Arrived.{Arrived}
 use Rattle.lone_export.specs.declared.refusal.Arrived.TheVariants.{Accepted, Answered}
-use Rattle.lone_export.specs.declared.refusal.NotArrived.{NotArrived}
 use Rattle.reply_box.specs.Sessions.{is_here}
 use Rattle.lone_export.specs.declared.refusal.NotAttached.{NotAttached}
 use Rattle.lone_export.specs.declared.refusal.NotAttached.TheVariants.{Refused, NoMemory}
@@ -20,7 +19,10 @@ use Rattle.lone_export.specs.declared.step.StepAnswer.{StepAnswer}
 use Rattle.lone_export.specs.declared.step.Step.TheVariants.{Arrive, Perform}
 use Rattle.lone_export.specs.declared.step.StepAnswer.TheVariants as said
 use Rattle.lone_export.specs.declared.step.StepAnswer.TheVariants.{Performed}
-use Rattle.export_cell.specs.Journal.{Journal, Cell, IsReserved, opening_journal}
+use Rattle.export_cell.specs.declared.place.Place.{Place}
+use Rattle.export_cell.specs.declared.refusal.ArriveFault.{ArriveFault}
+use Rattle.export_cell.specs.declared.refusal.ArriveFault.TheVariants as fault
+use Rattle.export_cell.specs.Journal.{Journal, Cell, IsAdvanced, IsReserved, surplus, opening_journal}
 use Rattle.export_cell.specs.declared.refusal.NotRetuned.{NotRetuned}
 use Rattle.export_cell.specs.declared.refusal.NotRetuned.TheVariants as retuning
 use Rattle.server_table.specs.Parts.{Entry, Part, alone_of, with_alone, part_retuned, performed_part}
@@ -203,20 +205,21 @@ cell_at standing = record {
   room = standing.room;
 }
 
--- the export refuses no request of session s before it is looked at
-abbrev pub IsLetIn : Standing → ℕ → Type 0
-IsLetIn standing s = MayArrive (cell_at standing).live s (Ok tt)
+-- a request of session s has this place
+abbrev pub IsReservedAt : {A : Type 0} → Standing → ℕ → RequestMessage → Place A → Type 0
+IsReservedAt standing s q place = IsReserved (cell_at standing) s q place
 
--- there is room for a request that is let in, and this copy of it; no copy of one that isn't
-abbrev pub IsReservedAt : Standing → ℕ → RequestMessage → Option RequestMessage → Type 0
-IsReservedAt standing s q kept = IsReserved (cell_at standing) s q kept
+-- it has none: it is refused, and nothing changed; or memory was wanted, and some of the steps went that had to
+abbrev pub IsTurnedAwayAt : Standing → Standing → ℕ → RequestMessage → ArriveFault → Type 0
+IsTurnedAwayAt old new s q (fault.Refused e) = MayArrive (cell_at old).live s (Err e) × (new ≡ old)
+IsTurnedAwayAt old new s q fault.NoMemory =
+    MayArrive (cell_at old).live s (Ok tt) × IsAdvanced old.part.terms (surplus (length q.payload) old.journal.log) old.journal new.journal
 
 -- it waits with its tags exactly where it is admitted; else the call is the step of the export alone
-abbrev pub Arrives : {A : Type 0} → Standing → Standing → ℕ → ℕ → RequestMessage → Result Arrived (NotArrived A) → Type 0
-Arrives old new s t q (Ok (Accepted number limit_tag)) =
+abbrev pub Arrives : Type 0 → Standing → Standing → ℕ → ℕ → RequestMessage → Arrived → Type 0
+Arrives A old new s t q (Accepted number limit_tag) =
     AdmitsAt old s q × (new ≡ accepted_standing s t q (logged_as new old)) × (number ≡ old.part.next) × (limit_tag ≡ (part_tags old.part t).l)
-Arrives {A} old new s t q (Ok (Answered error)) = (AdmitsAt old s q → ⊥) × Went {A = A} old new (Arrive s t q) (said.Answered error)
-Arrives {A} old new s t q (Err e) = (AdmitsAt old s q → ⊥) × Went {A = A} old new (Arrive s t q) (step_answer_of_refusal e.refusal)
+Arrives A old new s t q (Answered error) = (AdmitsAt old s q → ⊥) × Went {A = A} old new (Arrive s t q) (said.Answered error)
 
 -- ---- what is told of a request that waits
 abbrev pub told_tags : Entry → (ℕ × Tags)

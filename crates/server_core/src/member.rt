@@ -1,18 +1,18 @@
 //! One export of a server: the export with its journal, and beside it the tags of its requests.
-ghost use Rattle.std.specs.Prelude.{◌≡◌, ◌≢◌, ◌<◌, ◌++◌, length, map, option_map, slice_get, ◌↔◌, IsTrue, IfErr, IsSome, ◌==◌, not, filter, find, is_some, is_ok, IfOk, IfSome, IfNone, OnErr, Some};
+ghost use Rattle.std.specs.Prelude.{◌≡◌, ◌≢◌, ◌<◌, ◌++◌, length, map, option_map, slice_get, IfErr, IsSome, ◌==◌, not, filter, find, is_some, IfOk, IfSome, IfNone, OnOk, Ok, Some};
 ghost use Rattle.std.specs.Vec.{vec_capacity};
 ghost use Rattle.nbd_commands.specs.Terms.{terms_of};
 ghost use Rattle.nbd_commands.specs.Exports.{IsWithin};
-ghost use Rattle.lone_export.specs.Lone.{step_answer_of_leave, step_answer_of_gone, step_answer_of_take, step_answer_of_attach, step_answer_of_arrive};
+ghost use Rattle.lone_export.specs.Lone.{step_answer_of_leave, step_answer_of_gone, step_answer_of_take, step_answer_of_attach};
 ghost use Rattle.lone_export.specs.declared.step.StepAnswer.TheVariants.{Performed};
-ghost use Rattle.export_cell.specs.Journal.{JournalMove, IsAdvanced, IsJournal, surplus, reserved, noted_as, step_answer_of_retuned};
+ghost use Rattle.export_cell.specs.Journal.{JournalMove, IsJournal, advanced, surplus, noted, step_answer_of_retuned};
 ghost use Rattle.server_table.specs.Parts.{alone_of};
 
 use crate::tagging::{give_credit, put_behind, shift_all};
-use export_cell::{ExportCell, NotRetuned, Outdated};
+use export_cell::{ArriveFault, ExportCell, NotRetuned, Outdated, Place};
 use export_queue::Picked;
 use export_store::Image;
-use lone_export::{Arrived, NotArrived, NotAttached, Step, StepAnswer};
+use lone_export::{Arrived, NotAttached, Step, StepAnswer};
 use nbd_base::NoMemory;
 use nbd_commands::{ExportConfig, Rates};
 use nbd_wire::Request;
@@ -71,7 +71,7 @@ impl<I: Image> Model for Member<I> {
 }
 
 impl<I: Image> Member<I> {
-    ghost use Rattle.server_core.specs.Members.{opening_standing, slot_in, IsSeated, with_log, logged_as, Went, WentOr, Retunes, IsLetIn, IsReservedAt, WantsMemory, Performs, Picks, AdmitsAt, Arrives, shifted_standing, told_tags};
+    ghost use Rattle.server_core.specs.Members.{opening_standing, slot_in, IsSeated, with_log, logged_as, Went, WentOr, Retunes, IsReservedAt, IsTurnedAwayAt, WantsMemory, Performs, Picks, Arrives, shifted_standing, told_tags};
     ghost use Rattle.server_table.specs.Ways.{part_shifted};
     ghost use Rattle.server_table.specs.Order.{IsNumbered, head_tags};
     ghost use Rattle.server_table.specs.Picks.{part_picked};
@@ -246,61 +246,46 @@ impl<I: Image> Member<I> {
         Ok(told)
     }
 
-    /// Whether a request of the session would wait, if it arrived.
-    pub(crate) fn admits(&self, session: u64, request: &Request<I::Alloc>) -> bool
-        ensures { IsTrue result ↔ AdmitsAt self.now session request.now }
-    {
-        self.cell.live().admits(session, request)
-    }
-
-    /// Makes room in the log for a request of a session, and for all the steps that it can bring.
-    ///
-    /// The answer is the copy of the request that the log will keep. It is None where the export refuses the request.
+    /// Asks what becomes of a request of a session, and makes room for it (`ExportCell::reserve`).
     pub(crate) fn reserve(
         &mut self,
         session: u64,
         request: &Request<I::Alloc>,
-    ) -> Result<Option<Request<I::Alloc>>, NoMemory>
+    ) -> Result<Place<I::Alloc>, ArriveFault>
         ensures standing { self.new ≡ logged_as self.new self.old }
-        ensures reserved { IfOk result (λ kept. IsReservedAt self.new session request.now kept) }
-        ensures journal { IfOk result (λ kept.
-            self.new.journal ≡ reserved self.old.part.terms kept self.old.journal) }
-        ensures no_memory { OnErr result (IsLetIn self.old session
-            × IsAdvanced self.old.part.terms
-            (surplus
-            (length request.now.payload) self.old.journal.log) self.old.journal self.new.journal) }
+        ensures reserved { IfOk result (λ place. IsReservedAt self.new session request.now place) }
+        ensures journal { OnOk result (self.new.journal ≡ advanced self.old.part.terms
+            (surplus (length request.now.payload) self.old.journal.log) self.old.journal) }
+        ensures fault { IfErr result (λ fault.
+            IsTurnedAwayAt self.old self.new session request.now fault) }
     {
         self.cell.reserve(session, request)
     }
 
-    /// A request for which there is room arrives at a moment; it is refused where there is no copy of it. One that is
-    /// refused is handed back.
+    /// The request whose place `reserve` gave arrives at a moment.
     pub(crate) fn arrive(
         &mut self,
         session: u64,
         moment: Moment,
         request: Request<I::Alloc>,
-        kept: Option<Request<I::Alloc>>,
-    ) -> Result<Arrived, NotArrived<I::Alloc>>
+        place: Place<I::Alloc>,
+    ) -> Arrived
         requires in_range { TagsInRange self.old.part }
         requires short { AreShort self.old.part.rates }
-        requires reserved { IsReservedAt self.old session request kept }
-        ensures arrives { Arrives {A = I.Alloc} self.old self.new session moment request result }
-        ensures entered { is_ok result ≡ is_some kept }
-        ensures journal { self.new.journal ≡ noted_as {A = I.Alloc} (step_answer_of_arrive result)
-            (Step.Arrive session moment request) self.old.journal }
-        ensures back { IfErr result (λ e. e.request ≡ request) }
+        requires reserved { IsReservedAt self.old session request place }
+        ensures arrives { Arrives I.Alloc self.old self.new session moment request result }
+        ensures journal { self.new.journal
+            ≡ noted (Step.Arrive session moment request) self.old.journal }
     {
         // Asked for what its contract tells: a moment is below 2^62.
         let _ = moment.nanoseconds();
-        match self.cell.enter(session, moment, request, kept) {
-            Ok(Arrived::Accepted { number, limit_tag }) => {
+        match self.cell.enter(session, moment, request, place) {
+            Arrived::Accepted { number, limit_tag } => {
                 let (r, p) = self.shares.admit(moment);
                 put_behind(&mut self.waiting, Tags { r, l: limit_tag, p });
-                Ok(Arrived::Accepted { number, limit_tag })
+                Arrived::Accepted { number, limit_tag }
             }
-            Ok(Arrived::Answered(error)) => Ok(Arrived::Answered(error)),
-            Err(refused) => Err(refused),
+            Arrived::Answered(error) => Arrived::Answered(error),
         }
     }
 

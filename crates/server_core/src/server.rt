@@ -12,7 +12,7 @@ ghost use Rattle.server_core.specs.Kept.{AreShort};
 ghost use Rattle.server_core.specs.Members.{IsSeated, opening_standing};
 ghost use Rattle.server_core.specs.Served.{AllMembers};
 ghost use Rattle.server_core.specs.Journals.{ComesOfJournal};
-ghost use Rattle.server_core.specs.Here.{here as told_here, attached as told_attached, retuned as told_retuned, arrived as told_arrived, refusal_here};
+ghost use Rattle.server_core.specs.Here.{here as told_here, attached as told_attached, retuned as told_retuned, fault_here};
 ghost use Rattle.server_table.specs.declared.event.Event.TheVariants as event;
 
 use crate::member::Member;
@@ -21,17 +21,16 @@ use crate::session::SessionId;
 use crate::ticket::{Chosen, Ticket};
 use crate::way::{make_way, put_first};
 use eligibility::Eligibility;
-use export_cell::{ExportCell, NotRetuned as NotRetunedAlone, Outdated};
+use export_cell::{ArriveFault, ExportCell, NotRetuned as NotRetunedAlone, Outdated};
 use export_store::Image;
 use lone_export::{
-    ArriveRefusal as ArriveRefusalAlone, Arrived, AttachRefusal, NotArrived as NotArrivedAlone,
+    Admission, ArriveRefusal as ArriveRefusalAlone, Arrived, AttachRefusal,
     NotAttached as NotAttachedAlone, RetuneRefusal,
 };
 use nbd_base::NoMemory;
 use nbd_commands::{Config, ExportConfig, Rates};
 use nbd_wire::Request;
 use reply_box::{NotOpen, Taken};
-use std::alloc::Allocator;
 use std::marker::Model;
 use tag_clock::{Moment, Tags};
 
@@ -147,28 +146,15 @@ fn retuned(said: Result<(), NotRetunedAlone>) -> Result<(), NotRetuned>
     }
 }
 
-fn arrive_refusal(refusal: ArriveRefusalAlone) -> ArriveRefusal
-    ensures { result ≡ refusal_here refusal }
+/// Why a request doesn't arrive, as the server tells it.
+fn arrive_refusal(fault: ArriveFault) -> ArriveRefusal
+    ensures { result ≡ fault_here fault }
 {
-    match refusal {
-        ArriveRefusalAlone::NotOpen => ArriveRefusal::NotOpen,
-        ArriveRefusalAlone::Worn => ArriveRefusal::Worn,
-        ArriveRefusalAlone::Hold => ArriveRefusal::Hold,
-    }
-}
-
-/// What an arrival was answered, as the server answers it.
-fn arrived<A: Allocator>(
-    said: Result<Arrived, NotArrivedAlone<A>>,
-) -> Result<Arrived, NotArrived<A>>
-    ensures { result ≡ told_arrived said }
-{
-    match said {
-        Ok(arrived) => Ok(arrived),
-        Err(refused) => Err(NotArrived {
-            refusal: arrive_refusal(refused.refusal),
-            request: refused.request,
-        }),
+    match fault {
+        ArriveFault::Refused(ArriveRefusalAlone::NotOpen) => ArriveRefusal::NotOpen,
+        ArriveFault::Refused(ArriveRefusalAlone::Worn) => ArriveRefusal::Worn,
+        ArriveFault::Refused(ArriveRefusalAlone::Hold) => ArriveRefusal::Hold,
+        ArriveFault::NoMemory => ArriveRefusal::NoMemory,
     }
 }
 
@@ -388,23 +374,26 @@ impl<I: Image, E: Eligibility<Alloc = I::Alloc>> Server<I, E> {
             return Err(NotArrived { refusal, request });
         }
         let member = &mut self.members[session.export as usize];
-        let Ok(kept) = member.reserve(session.number, &request) else {
-            let refusal = ArriveRefusal::NoMemory;
-            return Err(NotArrived { refusal, request });
+        let place = match member.reserve(session.number, &request) {
+            Ok(place) => place,
+            Err(fault) => {
+                let refusal = arrive_refusal(fault);
+                return Err(NotArrived { refusal, request });
+            }
         };
-        if !member.admits(session.number, &request) {
-            return arrived(member.arrive(session.number, moment, request, kept));
-        }
+        let Admission::Waits = place.admission else {
+            return Ok(member.arrive(session.number, moment, request, place));
+        };
         let waiting = member.waiting();
         let was = member.first();
         // Asked for what its contract tells: a moment is below 2^62.
         let _ = moment.nanoseconds();
         make_way(&mut self.members, &mut self.eligible, waiting, moment);
         let member = &mut self.members[session.export as usize];
-        let said = member.arrive(session.number, moment, request, kept);
+        let arrived = member.arrive(session.number, moment, request, place);
         let first = member.first();
         put_first(&mut self.eligible, session.export, was, first);
-        arrived(said)
+        Ok(arrived)
     }
 
     /// Chooses the request that is served next: none where as many are in service as may be, or nothing is due (mClock,

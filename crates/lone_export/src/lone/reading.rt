@@ -1,12 +1,13 @@
 //! What is read of an export, and what its steps are refused for.
 ghost use Rattle.std.specs.Prelude.{◌≡◌, ◌<◌, ◌^◌, nat_le, length, ◌↔◌, IsTrue, option_map, slice_get};
 ghost use Rattle.lone_export.specs.Calls.{to_come};
-ghost use Rattle.lone_export.specs.Lone.{slot_at, head_at, MayAttach, MayArrive, MayRetune, Admits, IsInBounds};
+ghost use Rattle.lone_export.specs.Lone.{slot_at, head_at, MayAttach, MayArrive, MayRetune, Admits, IsAdmission, IsInBounds};
 
 use crate::lone::Lone;
-use crate::refusal::{ArriveRefusal, AttachRefusal, RetuneRefusal};
+use crate::refusal::{Admission, ArriveRefusal, AttachRefusal, RetuneRefusal};
 use export_store::Image;
 use nbd_commands::verdict;
+use nbd_wire::protocol::EIO;
 use nbd_wire::{Request, RequestHead};
 use reply_box::AdmitFault;
 
@@ -133,13 +134,32 @@ impl<I: Image> Lone<I> {
     pub fn admits(&self, session: u64, request: &Request<I::Alloc>) -> bool
         ensures { IsTrue result ↔ Admits self.now.terms self.now.state session request.now }
     {
-        if let Err(_) = self.may_arrive(session) {
-            return false;
+        match self.admission(session, request) {
+            Ok(Admission::Waits) => true,
+            Ok(Admission::Answered(_)) => false,
+            Err(_) => false,
         }
-        if verdict(&self.info, request) != 0 {
-            return false;
+    }
+
+    /// What becomes of a request of the session, if it arrives while the export is as it is now.
+    pub fn admission(
+        &self,
+        session: u64,
+        request: &Request<I::Alloc>,
+    ) -> Result<Admission, ArriveRefusal>
+        ensures { IsAdmission I.Alloc self.now session request.now result }
+    {
+        if let Err(refusal) = self.may_arrive(session) {
+            return Err(refusal);
         }
-        !self.queue.is_full()
+        let error = verdict(&self.info, request);
+        if error != 0 {
+            return Ok(Admission::Answered(error));
+        }
+        if self.queue.is_full() {
+            return Ok(Admission::Answered(EIO));
+        }
+        Ok(Admission::Waits)
     }
 
     /// Does nothing: its contract says what is true of every export.

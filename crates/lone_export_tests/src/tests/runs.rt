@@ -300,9 +300,12 @@ fn opens(lone: &mut Alone) -> bool {
     lone.attach() == Ok(0) && lone.may_arrive(0) == Ok(()) && lone.to_come() == 2
 }
 
-// Whether a READ of the whole is admitted, one behind the end isn't, and the first then waits.
+// Whether a READ of the whole is admitted, one behind the end is told EINVAL, and the first then waits.
 fn takes_in(lone: &mut Alone) -> bool {
     if !lone.admits(0, &read_of(7, 0, 8)) || lone.admits(0, &read_of(7, 1, 8)) {
+        return false;
+    }
+    if lone.admission(0, &read_of(7, 1, 8)) != Ok(Admission::Answered(22)) {
         return false;
     }
     if lone.arrive(0, Moment::zero(), read_of(7, 0, 8)).is_err() {

@@ -6,16 +6,16 @@ use Rattle.std.specs.Vec.{vec_capacity}
 use Rattle.std.specs.VecDeque.{deque_capacity}
 use Rattle.tag_clock.specs.declared.Tags.{Tags}
 use Rattle.nbd_wire.specs.Grammar.{RequestMessage}
-use Rattle.lone_export.specs.Lone.{Whole, Does, step_answer_of_refusal, step_answer_of_arrive}
+use Rattle.lone_export.specs.Lone.{Whole, Does, step_answer_of_arrive}
 use Rattle.server_core.specs.Kept.{AreShort, TagsInRange}
 use Rattle.lone_export.specs.declared.refusal.Arrived.{Arrived}
 use Rattle.lone_export.specs.declared.refusal.Arrived.TheVariants as arrived
 use Rattle.lone_export.specs.declared.step.Step.TheVariants.{Arrive}
 use Rattle.lone_export.specs.declared.step.StepAnswer.TheVariants.{Accepted, Answered}
-use Rattle.export_cell.specs.Journal.{noted_as}
+use Rattle.export_cell.specs.Journal.{noted}
 use Rattle.server_core.specs.Members.{Kept, Standing, standing_of, AdmitsAt, IsReservedAt, Arrives, Went}
 use Rattle.server_core.proofs.Members.{relogged, reserved_in, went, went_kept}
-use Rattle.server_core.proofs.Arriving.{Waits, kept_waiting, has_room, was_admitted, not_admitted, admits_at, admits_whole, refuses, number_is, tag_is, tag_fits, p_fits, refusal_is, waits, waits_kept}
+use Rattle.server_core.proofs.Arriving.{Waits, kept_waiting, has_room, was_admitted, not_admitted, admits_at, admits_whole, refuses, number_is, tag_is, tag_fits, p_fits, waits, waits_kept}
 use Rattle.server_core.proofs.member.Member.arrive.Goals as goal
 
 -- the answer of the export alone
@@ -38,9 +38,9 @@ put_behind-requires g c =
     let t = c.args.moment in
     let q = c.args.request in
     let new = c.enter.new.self.live in
-    let n = c.in-Ok-Accepted.number in
-    let tag = c.in-Ok-Accepted.limit_tag in
-    let does = arrived_is i.cell.live new s t n tag q c.in-Ok-Accepted.field-0 c.in-Ok-Accepted.field-0-is c.in-Ok-Accepted.ensures.step in
+    let n = c.in-Accepted.number in
+    let tag = c.in-Accepted.limit_tag in
+    let does = arrived_is i.cell.live new s t n tag q c.enter.result c.in-Accepted.is c.enter.ensures.step in
     let room = has_room m s q h (was_admitted A i.cell.live new s t n tag q does) in
     search rules
 
@@ -57,9 +57,9 @@ invariant_of-self g c =
     let t = c.args.moment in
     let q = c.args.request in
     let new = c.enter.new.self.live in
-    let n = c.in-Ok-Accepted.number in
-    let tag = c.in-Ok-Accepted.limit_tag in
-    let does = arrived_is i.cell.live new s t n tag q c.in-Ok-Accepted.field-0 c.in-Ok-Accepted.field-0-is c.in-Ok-Accepted.ensures.step in
+    let n = c.in-Accepted.number in
+    let tag = c.in-Accepted.limit_tag in
+    let does = arrived_is i.cell.live new s t n tag q c.enter.result c.in-Accepted.is c.enter.ensures.step in
     let small = c.nanoseconds.ensures.below in
     let short = subst (λ (v : Standing). AreShort v.part.rates) (sym c.self.view_is) c.requires.short in
     let range = subst (λ (v : Standing). TagsInRange v.part) (sym c.self.view_is) c.requires.in_range in
@@ -69,11 +69,11 @@ invariant_of-self g c =
     let fits = p_fits m t h range.last_p short.weight small in
     let p_fit : FitsSigned w128 p = subst (FitsSigned w128) (sym p_is) fits in
     let one : Tags = record { r = c.admit-r.result.0; l = to_z w128 (of_z w128 tag); p = to_z w128 (of_z w128 p) } in
-    let w : Waits A m new s t n tag q c.admit-r.new.self one c.put_behind.new.waiting.items = record { does = does; slots = c.in-Ok-Accepted.ensures.slots; clock = c.admit-r.ensures.clock; r = ap (λ x. x.0) c.admit-r.ensures.tags; l = to_z-of_z w128 tag l_fits; p = to_z-of_z w128 p p_fit ∙ p_is; pushed = c.put_behind.ensures.items } in
+    let w : Waits A m new s t n tag q c.admit-r.new.self one c.put_behind.new.waiting.items = record { does = does; slots = c.enter.ensures.slots; clock = c.admit-r.ensures.clock; r = ap (λ x. x.0) c.admit-r.ensures.tags; l = to_z-of_z w128 tag l_fits; p = to_z-of_z w128 p p_fit ∙ p_is; pushed = c.put_behind.ensures.items } in
     waits_kept A m new s t n (deque_capacity c.put_behind.new.waiting) tag q c.admit-r.new.self one c.put_behind.new.waiting.items h w c.put_behind.ensures.capacity
 
-pub returns-in-Ok-Accepted-clause-arrives : goal.returns-in-Ok-Accepted-clause-arrives
-returns-in-Ok-Accepted-clause-arrives g c =
+pub returns-in-Accepted-clause-arrives : goal.returns-in-Accepted-clause-arrives
+returns-in-Accepted-clause-arrives g c =
     let i = c.self.inside in
     let A = g.row.I-Alloc.Denot in
     let m0 : Kept = record { whole = i.cell.live; journal = i.cell.journal; room = i.cell.room; share = i.shares; waiting = i.waiting.items; waiting_room = deque_capacity i.waiting; out = i.out.items; out_room = vec_capacity i.out } in
@@ -85,9 +85,9 @@ returns-in-Ok-Accepted-clause-arrives g c =
     let t = c.args.moment in
     let q = c.args.request in
     let new = c.enter.new.self.live in
-    let n = c.in-Ok-Accepted.number in
-    let tag = c.in-Ok-Accepted.limit_tag in
-    let does = arrived_is i.cell.live new s t n tag q c.in-Ok-Accepted.field-0 c.in-Ok-Accepted.field-0-is c.in-Ok-Accepted.ensures.step in
+    let n = c.in-Accepted.number in
+    let tag = c.in-Accepted.limit_tag in
+    let does = arrived_is i.cell.live new s t n tag q c.enter.result c.in-Accepted.is c.enter.ensures.step in
     let small = c.nanoseconds.ensures.below in
     let short = subst (λ (v : Standing). AreShort v.part.rates) (sym c.self.view_is) c.requires.short in
     let range = subst (λ (v : Standing). TagsInRange v.part) (sym c.self.view_is) c.requires.in_range in
@@ -97,14 +97,14 @@ returns-in-Ok-Accepted-clause-arrives g c =
     let fits = p_fits m t h range.last_p short.weight small in
     let p_fit : FitsSigned w128 p = subst (FitsSigned w128) (sym p_is) fits in
     let one : Tags = record { r = c.admit-r.result.0; l = to_z w128 (of_z w128 tag); p = to_z w128 (of_z w128 p) } in
-    let w : Waits A m new s t n tag q c.admit-r.new.self one c.put_behind.new.waiting.items = record { does = does; slots = c.in-Ok-Accepted.ensures.slots; clock = c.admit-r.ensures.clock; r = ap (λ x. x.0) c.admit-r.ensures.tags; l = to_z-of_z w128 tag l_fits; p = to_z-of_z w128 p p_fit ∙ p_is; pushed = c.put_behind.ensures.items } in
+    let w : Waits A m new s t n tag q c.admit-r.new.self one c.put_behind.new.waiting.items = record { does = does; slots = c.enter.ensures.slots; clock = c.admit-r.ensures.clock; r = ap (λ x. x.0) c.admit-r.ensures.tags; l = to_z-of_z w128 tag l_fits; p = to_z-of_z w128 p p_fit ∙ p_is; pushed = c.put_behind.ensures.items } in
     let new_is = waits A m new s t n (deque_capacity c.put_behind.new.waiting) tag q c.admit-r.new.self one c.put_behind.new.waiting.items h w in
     let after = standing_of (kept_waiting m new c.admit-r.new.self c.put_behind.new.waiting.items (deque_capacity c.put_behind.new.waiting)) in
-    let all : Arrives {A = A} (standing_of m0) after s t q (Ok (arrived.Accepted n (to_z w128 (of_z w128 tag)))) = (admits_at m s q h (was_admitted A i.cell.live new s t n tag q does), new_is, number_is A i.cell.live new s t n tag q does, to_z-of_z w128 tag l_fits ∙ tag_is A i.cell.live new s t n tag q does) in
-    subst (λ (v : Standing). Arrives {A = A} v after s t q (Ok (arrived.Accepted n (to_z w128 (of_z w128 tag))))) c.self.view_is all
+    let all : Arrives A (standing_of m0) after s t q (arrived.Accepted n (to_z w128 (of_z w128 tag))) = (admits_at m s q h (was_admitted A i.cell.live new s t n tag q does), new_is, number_is A i.cell.live new s t n tag q does, to_z-of_z w128 tag l_fits ∙ tag_is A i.cell.live new s t n tag q does) in
+    subst (λ (v : Standing). Arrives A v after s t q (arrived.Accepted n (to_z w128 (of_z w128 tag)))) c.self.view_is all
 
-pub invariant_of-self-in-Ok-Answered : goal.invariant_of-self-in-Ok-Answered
-invariant_of-self-in-Ok-Answered g c =
+pub invariant_of-self-in-Answered : goal.invariant_of-self-in-Answered
+invariant_of-self-in-Answered g c =
     let i = c.self.inside in
     let A = g.row.I-Alloc.Denot in
     let m0 : Kept = record { whole = i.cell.live; journal = i.cell.journal; room = i.cell.room; share = i.shares; waiting = i.waiting.items; waiting_room = deque_capacity i.waiting; out = i.out.items; out_room = vec_capacity i.out } in
@@ -116,14 +116,14 @@ invariant_of-self-in-Ok-Answered g c =
     let t = c.args.moment in
     let q = c.args.request in
     let new = c.enter.new.self.live in
-    let error = c.in-Ok-Answered.error in
-    let does = answered_is i.cell.live new s t error q c.in-Ok-Answered.field-0 c.in-Ok-Answered.field-0-is c.in-Ok-Answered.ensures.step in
+    let error = c.in-Answered.error in
+    let does = answered_is i.cell.live new s t error q c.enter.result c.in-Answered.is c.enter.ensures.step in
     let never = not_admitted A i.cell.live new s t q (Answered error) does refl in
     let keeps = (refuses A i.cell.live.terms i.cell.live.state s t q never).0 in
-    went_kept {A = A} m0 new j r (Arrive s t q) (Answered error) c.self.invariant does c.in-Ok-Answered.ensures.slots keeps
+    went_kept {A = A} m0 new j r (Arrive s t q) (Answered error) c.self.invariant does c.enter.ensures.slots keeps
 
-pub returns-in-Ok-Answered-clause-arrives : goal.returns-in-Ok-Answered-clause-arrives
-returns-in-Ok-Answered-clause-arrives g c =
+pub returns-in-Answered-clause-arrives : goal.returns-in-Answered-clause-arrives
+returns-in-Answered-clause-arrives g c =
     let i = c.self.inside in
     let A = g.row.I-Alloc.Denot in
     let m0 : Kept = record { whole = i.cell.live; journal = i.cell.journal; room = i.cell.room; share = i.shares; waiting = i.waiting.items; waiting_room = deque_capacity i.waiting; out = i.out.items; out_room = vec_capacity i.out } in
@@ -135,77 +135,21 @@ returns-in-Ok-Answered-clause-arrives g c =
     let t = c.args.moment in
     let q = c.args.request in
     let new = c.enter.new.self.live in
-    let error = c.in-Ok-Answered.error in
-    let does = answered_is i.cell.live new s t error q c.in-Ok-Answered.field-0 c.in-Ok-Answered.field-0-is c.in-Ok-Answered.ensures.step in
+    let error = c.in-Answered.error in
+    let does = answered_is i.cell.live new s t error q c.enter.result c.in-Answered.is c.enter.ensures.step in
     let never = not_admitted A i.cell.live new s t q (Answered error) does refl in
     let keeps = (refuses A i.cell.live.terms i.cell.live.state s t q never).0 in
-    let went_one = went {A = A} m0 new j r (Arrive s t q) (Answered error) c.self.invariant does c.in-Ok-Answered.ensures.slots keeps in
+    let went_one = went {A = A} m0 new j r (Arrive s t q) (Answered error) c.self.invariant does c.enter.ensures.slots keeps in
     subst (λ (v : Standing). (AdmitsAt v s q → ⊥) × Went {A = A} v (standing_of (record m { whole = new })) (Arrive s t q) (Answered error)) c.self.view_is ((λ a. never (admits_whole m s q h a)), went_one)
-
-pub invariant_of-self-in-Err : goal.invariant_of-self-in-Err
-invariant_of-self-in-Err g c =
-    let i = c.self.inside in
-    let A = g.row.I-Alloc.Denot in
-    let m0 : Kept = record { whole = i.cell.live; journal = i.cell.journal; room = i.cell.room; share = i.shares; waiting = i.waiting.items; waiting_room = deque_capacity i.waiting; out = i.out.items; out_room = vec_capacity i.out } in
-    let j = c.enter.new.self.journal in
-    let r = c.enter.new.self.room in
-    let m : Kept = record m0 { journal = j; room = r } in
-    let h = relogged m0 j r c.self.invariant in
-    let s = c.args.session in
-    let t = c.args.moment in
-    let q = c.args.request in
-    let new = c.enter.new.self.live in
-    let said = step_answer_of_refusal {A = A} c.in-Err.refused.refusal in
-    let never = not_admitted A i.cell.live new s t q said c.in-Err.ensures.step (refusal_is A c.in-Err.refused.refusal) in
-    let keeps = (refuses A i.cell.live.terms i.cell.live.state s t q never).0 in
-    went_kept {A = A} m0 new j r (Arrive s t q) said c.self.invariant c.in-Err.ensures.step c.in-Err.ensures.slots keeps
-
-pub returns-in-Err-clause-arrives : goal.returns-in-Err-clause-arrives
-returns-in-Err-clause-arrives g c =
-    let i = c.self.inside in
-    let A = g.row.I-Alloc.Denot in
-    let m0 : Kept = record { whole = i.cell.live; journal = i.cell.journal; room = i.cell.room; share = i.shares; waiting = i.waiting.items; waiting_room = deque_capacity i.waiting; out = i.out.items; out_room = vec_capacity i.out } in
-    let j = c.enter.new.self.journal in
-    let r = c.enter.new.self.room in
-    let m : Kept = record m0 { journal = j; room = r } in
-    let h = relogged m0 j r c.self.invariant in
-    let s = c.args.session in
-    let t = c.args.moment in
-    let q = c.args.request in
-    let new = c.enter.new.self.live in
-    let said = step_answer_of_refusal {A = A} c.in-Err.refused.refusal in
-    let never = not_admitted A i.cell.live new s t q said c.in-Err.ensures.step (refusal_is A c.in-Err.refused.refusal) in
-    let keeps = (refuses A i.cell.live.terms i.cell.live.state s t q never).0 in
-    let went_one = went {A = A} m0 new j r (Arrive s t q) said c.self.invariant c.in-Err.ensures.step c.in-Err.ensures.slots keeps in
-    subst (λ (v : Standing). (AdmitsAt v s q → ⊥) × Went {A = A} v (standing_of (record m { whole = new })) (Arrive s t q) said) c.self.view_is ((λ a. never (admits_whole m s q h a)), went_one)
 
 pub enter-requires : goal.enter-requires
 enter-requires g c =
     let i = c.self.inside in
     let m : Kept = record { whole = i.cell.live; journal = i.cell.journal; room = i.cell.room; share = i.shares; waiting = i.waiting.items; waiting_room = deque_capacity i.waiting; out = i.out.items; out_room = vec_capacity i.out } in
-    reserved_in m c.args.session c.args.request c.args.kept c.self.invariant (subst (λ (v : Standing). IsReservedAt v c.args.session c.args.request c.args.kept) (sym c.self.view_is) c.requires.reserved)
+    reserved_in m c.args.session c.args.request c.args.place c.self.invariant (subst (λ (v : Standing). IsReservedAt {A = g.row.I-Alloc.Denot} v c.args.session c.args.request c.args.place) (sym c.self.view_is) c.requires.reserved)
 
-pub returns-in-Ok-Accepted-clause-journal : goal.returns-in-Ok-Accepted-clause-journal
-returns-in-Ok-Accepted-clause-journal g c =
-    let i = c.self.inside in
-    let A = g.row.I-Alloc.Denot in
-    let s = c.args.session in
-    let t = c.args.moment in
-    let q = c.args.request in
-    subst (λ (x : Arrived). c.enter.new.self.journal ≡ noted_as {A = A} (step_answer_of_arrive (Ok x)) (Arrive s t q) i.cell.journal) c.in-Ok-Accepted.field-0-is c.in-Ok-Accepted.ensures.journal
-    ∙ ap (λ (v : Standing). noted_as {A = A} (Answered 0) (Arrive s t q) v.journal) c.self.view_is
+pub returns-in-Accepted-clause-journal : goal.returns-in-Accepted-clause-journal
+returns-in-Accepted-clause-journal g c = c.enter.ensures.journal ∙ ap (λ (v : Standing). noted (Arrive c.args.session c.args.moment c.args.request) v.journal) c.self.view_is
 
-pub returns-in-Ok-Answered-clause-journal : goal.returns-in-Ok-Answered-clause-journal
-returns-in-Ok-Answered-clause-journal g c =
-    let i = c.self.inside in
-    let A = g.row.I-Alloc.Denot in
-    let s = c.args.session in
-    let t = c.args.moment in
-    let q = c.args.request in
-    subst (λ (x : Arrived). c.enter.new.self.journal ≡ noted_as {A = A} (step_answer_of_arrive (Ok x)) (Arrive s t q) i.cell.journal) c.in-Ok-Answered.field-0-is c.in-Ok-Answered.ensures.journal
-    ∙ ap (λ (v : Standing). noted_as {A = A} (Answered 0) (Arrive s t q) v.journal) c.self.view_is
-
-pub returns-in-Err-clause-journal : goal.returns-in-Err-clause-journal
-returns-in-Err-clause-journal g c =
-    let A = g.row.I-Alloc.Denot in
-    c.in-Err.ensures.journal ∙ ap (λ (v : Standing). noted_as {A = A} (step_answer_of_refusal c.in-Err.refused.refusal) (Arrive c.args.session c.args.moment c.args.request) v.journal) c.self.view_is
+pub returns-in-Answered-clause-journal : goal.returns-in-Answered-clause-journal
+returns-in-Answered-clause-journal g c = c.enter.ensures.journal ∙ ap (λ (v : Standing). noted (Arrive c.args.session c.args.moment c.args.request) v.journal) c.self.view_is

@@ -1,12 +1,12 @@
-use Rattle.std.proofs.Common.{◌≡◌, Option, Ok, length, ◌∙◌, ap, subst}
-use Rattle.std.specs.Prelude.{IfOk, OnErr}
+use Rattle.std.proofs.Common.{◌≡◌, length, ◌∙◌, ap, subst}
+use Rattle.std.specs.Prelude.{IfErr, OnOk}
 use Rattle.std.specs.Vec.{vec_capacity}
 use Rattle.std.specs.VecDeque.{deque_capacity}
-use Rattle.nbd_wire.specs.Grammar.{RequestMessage}
-use Rattle.lone_export.specs.Lone.{MayArrive}
-use Rattle.export_cell.specs.Journal.{IsReserved, IsAdvanced, surplus, reserved}
-use Rattle.server_core.specs.Members.{Kept, Standing, standing_of, with_log, IsReservedAt, IsLetIn}
-use Rattle.server_core.proofs.Members.{if_ok, on_err, same_kept, logged_standing, reserved_at, let_in_at}
+use Rattle.export_cell.specs.declared.place.Place.{Place}
+use Rattle.export_cell.specs.declared.refusal.ArriveFault.{ArriveFault}
+use Rattle.export_cell.specs.Journal.{IsReserved, IsTurnedAway, advanced, surplus}
+use Rattle.server_core.specs.Members.{Kept, Standing, standing_of, with_log, IsReservedAt, IsTurnedAwayAt}
+use Rattle.server_core.proofs.Members.{if_ok, if_err, same_kept, logged_standing, reserved_at, turned_at}
 use Rattle.server_core.proofs.member.Member.reserve.Goals as goal
 
 pub invariant_of-self : goal.invariant_of-self
@@ -29,22 +29,24 @@ returns-clause-reserved g c =
     let m : Kept = record { whole = i.cell.live; journal = i.cell.journal; room = i.cell.room; share = i.shares; waiting = i.waiting.items; waiting_room = deque_capacity i.waiting; out = i.out.items; out_room = vec_capacity i.out } in
     let new = c.reserve.new.self in
     let m' : Kept = record m { whole = new.live; journal = new.journal; room = new.room } in
+    let A = g.row.I-Alloc.Denot in
     let q = c.args.request.now in
     let s = c.args.session in
-    if_ok (λ (kept : Option RequestMessage). IsReserved new s q kept) (λ (kept : Option RequestMessage). IsReservedAt (standing_of m') s q kept) c.reserve.result
-    (λ kept h. reserved_at m' s q kept (same_kept m new.live new.journal new.room c.self.invariant c.reserve.ensures.live) h) c.reserve.ensures.reserved
+    if_ok (λ (place : Place A). IsReserved {A = A} new s q place) (λ (place : Place A). IsReservedAt {A = A} (standing_of m') s q place) c.reserve.result
+    (λ place h. reserved_at m' s q place (same_kept m new.live new.journal new.room c.self.invariant c.reserve.ensures.live) h) c.reserve.ensures.reserved
 
 pub returns-clause-journal : goal.returns-clause-journal
 returns-clause-journal g c =
-    subst (λ (v : Standing). IfOk c.reserve.result (λ (kept : Option RequestMessage). c.reserve.new.self.journal ≡ reserved v.part.terms kept v.journal)) c.self.view_is c.reserve.ensures.journal
+    subst (λ (v : Standing). OnOk c.reserve.result (c.reserve.new.self.journal ≡ advanced v.part.terms (surplus (length c.args.request.now.payload) v.journal.log) v.journal)) c.self.view_is c.reserve.ensures.journal
 
-pub returns-clause-no_memory : goal.returns-clause-no_memory
-returns-clause-no_memory g c =
+pub returns-clause-fault : goal.returns-clause-fault
+returns-clause-fault g c =
     let i = c.self.inside in
     let m : Kept = record { whole = i.cell.live; journal = i.cell.journal; room = i.cell.room; share = i.shares; waiting = i.waiting.items; waiting_room = deque_capacity i.waiting; out = i.out.items; out_room = vec_capacity i.out } in
-    let n = length c.args.request.now.payload in
+    let new = c.reserve.new.self in
+    let m' : Kept = record m { whole = new.live; journal = new.journal; room = new.room } in
+    let q = c.args.request.now in
     let s = c.args.session in
-    let j = c.reserve.new.self.journal in
-    subst (λ (v : Standing). OnErr c.reserve.result (IsLetIn v s × IsAdvanced v.part.terms (surplus n v.journal.log) v.journal j)) c.self.view_is
-    (on_err (MayArrive i.cell.live s (Ok tt) × IsAdvanced i.cell.live.terms (surplus n i.cell.journal.log) i.cell.journal j) (IsLetIn (standing_of m) s × IsAdvanced i.cell.live.terms (surplus n i.cell.journal.log) i.cell.journal j) c.reserve.result
-    (λ h. (let_in_at m s c.self.invariant h.0, h.1)) c.reserve.ensures.no_memory)
+    subst (λ (v : Standing). IfErr c.reserve.result (λ (f : ArriveFault). IsTurnedAwayAt v (standing_of m') s q f)) c.self.view_is
+    (if_err (λ (f : ArriveFault). IsTurnedAway i.cell new s q f) (λ (f : ArriveFault). IsTurnedAwayAt (standing_of m) (standing_of m') s q f) c.reserve.result
+    (λ f h. turned_at m new s q f c.self.invariant h) c.reserve.ensures.fault)
