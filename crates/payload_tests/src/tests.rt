@@ -102,6 +102,20 @@ fn gives_an_edge<R: Abort + AllocGlobal>(rt: &R, payload: &Kept, bytes: &[u8]) {
     assert!(rt; edge.as_slice().get(..4_000) == bytes.get(4_000..8_000));
 }
 
+// Sees that a page is told to be what bytes of two pages of the payload put over another make, and none that differs in one byte.
+fn tells_what_is_put_over<R: Abort + AllocGlobal>(rt: &R, payload: &Kept) {
+    assert!(rt; payload.len() == 10_000);
+    let page = payload.page_at(4_000).expect(rt, "a page");
+    let over = payload.put_over(rt.alloc(), page, 300, 8_050, 96);
+    let over = over.expect(rt, "memory");
+    assert!(rt; payload.is_put_over(&over, page, 300, 8_050, 96));
+    for place in [0, 299, 300, 345, 346, 395, 396, 4_095] {
+        let byte = over.as_slice()[place].wrapping_add(1);
+        let other = over.with(rt.alloc(), place, &[byte]).expect(rt, "memory");
+        assert!(rt; !payload.is_put_over(&other, page, 300, 8_050, 96));
+    }
+}
+
 #[test]
 fn a_page_takes_a_part_of_a_payload(rt: HostRuntime) {
     let bytes = numbers(&rt, 10_000);
@@ -109,6 +123,7 @@ fn a_page_takes_a_part_of_a_payload(rt: HostRuntime) {
     gives_a_page(&rt, &payload, 4_000, &bytes);
     gives_a_page(&rt, &payload, 3_999, &bytes);
     gives_an_edge(&rt, &payload, &bytes);
+    tells_what_is_put_over(&rt, &payload);
 }
 
 #[test]
