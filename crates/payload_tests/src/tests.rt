@@ -102,6 +102,21 @@ fn gives_an_edge<R: Abort + AllocGlobal>(rt: &R, payload: &Kept, bytes: &[u8]) {
     assert!(rt; edge.as_slice().get(..4_000) == bytes.get(4_000..8_000));
 }
 
+// Sees that a page which differs from another in one byte isn't told to be what 96 bytes put over an old one make.
+fn tells_a_byte<R: Abort + AllocGlobal>(
+    rt: &R,
+    payload: &Kept,
+    page: &Page<Global>,
+    old: &Page<Global>,
+    place: usize,
+) {
+    assert!(rt; payload.len() == 10_000 && place < 4_096);
+    let byte = page.as_slice()[place].wrapping_add(1);
+    let other = page.with(rt.alloc(), place, &[byte]);
+    let other = other.expect(rt, "memory");
+    assert!(rt; !payload.is_put_over(&other, old, 300, 8_050, 96));
+}
+
 // Sees that a page is told to be what bytes of two pages of the payload put over another make, and none that differs in one byte.
 fn tells_what_is_put_over<R: Abort + AllocGlobal>(rt: &R, payload: &Kept) {
     assert!(rt; payload.len() == 10_000);
@@ -110,9 +125,7 @@ fn tells_what_is_put_over<R: Abort + AllocGlobal>(rt: &R, payload: &Kept) {
     let over = over.expect(rt, "memory");
     assert!(rt; payload.is_put_over(&over, page, 300, 8_050, 96));
     for place in [0, 299, 300, 345, 346, 395, 396, 4_095] {
-        let byte = over.as_slice()[place].wrapping_add(1);
-        let other = over.with(rt.alloc(), place, &[byte]).expect(rt, "memory");
-        assert!(rt; !payload.is_put_over(&other, page, 300, 8_050, 96));
+        tells_a_byte(rt, payload, &over, page, place);
     }
 }
 
