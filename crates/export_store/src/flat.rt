@@ -93,5 +93,7 @@ impl<A: Allocator + Copy> Image for Flat<A> {
         Ok(())
     }
 
+    fn offer(&mut self, _offset: usize, _count: usize, _other: &Flat<A>) {}
+
     fn sweep(&mut self, _swept: &mut Swept<A>) {}
 }

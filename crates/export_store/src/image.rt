@@ -54,6 +54,11 @@ pub trait Image: Sized + Drop {
             ≡ overwritten (bytes self.old) offset count (replicate count 0)) }
         ensures no_memory { OnErr result (bytes self.new ≡ bytes self.old) };
 
+    /// Offers pages of another image to the next write: those at the ends of its range, where these lie within a page. The write may take one
+    /// that is, byte for byte, what it would make, so that both images share it.
+    fn offer(&mut self, offset: usize, count: usize, other: &Self)
+        ensures { bytes self.new ≡ bytes self.old };
+
     /// Exchanges what writes and zeros have put others in place of, since the last call, for nothing, with room for the next.
     /// Whoever lets it go gives its memory back, which may take longer than the writes themselves. A form may hand out nothing.
     fn sweep(&mut self, swept: &mut Swept<Self::Alloc>)

@@ -6,6 +6,7 @@
 
 mod flat;
 mod image;
+mod offers;
 mod paged;
 mod zeroing;
 

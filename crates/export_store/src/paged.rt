@@ -9,6 +9,7 @@ ghost use Rattle.page_table.specs.Table.{in_table};
 ghost use Rattle.export_store.specs.Pages.{IsPaged, in_a_row, image_of, stored_page, is_stored, is_held, held_pages, page_of, page_after, pages_after, has_byte_of, lies_whole_in, zeroed};
 
 use crate::image::Image;
+use crate::offers::{Offer, Offers};
 use crate::zeroing::{emptied_pages, whole_pages, zero_pages};
 use nbd_base::NoMemory;
 use page_table::{BITMAP, CHUNK, HeldZeros, Swept, Table};
@@ -31,6 +32,8 @@ pub struct Paged<A: Allocator + Copy> {
     zeros: HeldZeros<A>,
     // What writes and zeros have put others in place of, since it was handed out last.
     swept: Swept<A>,
+    // What the next write may take in place of pages that it would make.
+    offers: Offers<A>,
 }
 
 impl<A: Allocator + Copy> Model for Paged<A> {
@@ -180,6 +183,57 @@ impl<A: Allocator + Copy> Paged<A> {
         Ok(pages)
     }
 
+    // The page that is stored around a position, where it doesn't begin there.
+    fn around(&self, at: usize) -> Option<Offer<A>> {
+        if at % PAGE == 0 {
+            return None;
+        }
+        let number = at / PAGE;
+        match self.pages.page(self.alloc, number) {
+            Ok(Some(page)) => Some(Offer { number, page }),
+            _ => None,
+        }
+    }
+
+    // Its pages at the ends of a range, where these lie within a page.
+    fn ends_of(&self, offset: usize, count: usize) -> Offers<A> {
+        let Some(end) = offset.checked_add(count) else {
+            return Offers::none();
+        };
+        let first = self.around(offset);
+        let last = if first.is_some() && in_page(offset, count) == count {
+            None
+        } else {
+            self.around(end)
+        };
+        Offers { first, last }
+    }
+
+    // What `put_over` of a piece makes of an old page: one that is offered, where it is the same, and else a page anew.
+    fn put_over(
+        &self,
+        number: usize,
+        piece: &Payload<A>,
+        old: &Page<A>,
+        start: usize,
+        from: usize,
+        count: usize,
+    ) -> Result<Page<A>, NoMemory>
+        requires fits { start + count ≤ 4096 }
+        requires within { from + count ≤ length piece.now }
+        ensures bytes { IfOk result (λ page.
+            page ≡ overwritten old.now start count (range_of piece.now from count)) }
+    {
+        let offered = self
+            .offers
+            .page_over(number, piece, old, start, from, count);
+        if let Some(page) = offered {
+            return Ok(page);
+        }
+        let page = piece.put_over(self.alloc, old, start, from, count)?;
+        Ok(page)
+    }
+
     // A page once a piece is written that has some of its bytes.
     fn page_after(
         &self,
@@ -204,7 +258,7 @@ impl<A: Allocator + Copy> Paged<A> {
         } else {
             self.page_of(number)?
         };
-        let page = piece.put_over(self.alloc, &old, start, from, count)?;
+        let page = self.put_over(number, piece, &old, start, from, count)?;
         Ok(page)
     }
 
@@ -364,6 +418,7 @@ impl<A: Allocator + Copy> Image for Paged<A> {
             pages,
             zeros,
             swept: Swept::new(alloc),
+            offers: Offers::none(),
         })
     }
 
@@ -443,6 +498,12 @@ impl<A: Allocator + Copy> Image for Paged<A> {
         }
         self.give_back(offset, count);
         Ok(())
+    }
+
+    fn offer(&mut self, offset: usize, count: usize, other: &Paged<A>)
+        ensures { self.new ≡ self.old }
+    {
+        self.offers = other.ends_of(offset, count);
     }
 
     fn sweep(&mut self, swept: &mut Swept<A>)

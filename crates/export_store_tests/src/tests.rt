@@ -9,6 +9,7 @@ mod handed;
 mod held;
 mod large;
 mod memory;
+mod offered;
 mod shared;
 mod swept;
 mod written;

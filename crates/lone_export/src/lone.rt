@@ -24,8 +24,8 @@ use export_queue::{ExportQueue, Picked};
 use export_store::{Image, Swept};
 use nbd_base::NoMemory;
 use nbd_commands::{Done, ExportConfig, ExportInfo, Rates, apply_owned};
-use nbd_wire::protocol::ENOMEM;
-use nbd_wire::{Reply, Request};
+use nbd_wire::protocol::{ENOMEM, WRITE};
+use nbd_wire::{Reply, Request, RequestHead};
 use reply_box::{NotOpen, ReplyBox, Taken};
 use std::alloc::Allocator;
 use std::marker::Model;
@@ -247,6 +247,16 @@ impl<I: Image> Lone<I> {
         self.count += 1;
         self.asked += 1;
         Ok(())
+    }
+
+    /// Offers pages of another image to the request that is performed next, where it is a WRITE (`Image::offer`).
+    pub fn offer(&mut self, head: RequestHead, other: &I)
+        ensures { self.new ≡ self.old }
+    {
+        if head.kind == WRITE {
+            self.image
+                .offer(head.offset as usize, head.length as usize, other);
+        }
     }
 
     /// Exchanges what writes and zeros have put others in place of, since the last call, for nothing, with room for the next.
