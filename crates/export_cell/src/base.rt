@@ -100,12 +100,12 @@ impl<I: Image> Base<I> {
     }
 
     /// Makes the oldest steps that are queued, until they came to so much work or one found no memory. Tells how much is left to be done.
-    pub(crate) fn catch_up(&mut self, most: usize) -> usize
+    pub(crate) fn catch_up(&mut self, most: usize, live: &I) -> usize
         ensures { IsCaughtUp most self.old self.new }
     {
         let mut left = most;
         while left > 0 && self.queued() > 0 {
-            let Ok(work) = self.make_oldest() else {
+            let Ok(work) = self.make_oldest(live) else {
                 return left;
             };
             left = left.saturating_sub(work);
@@ -115,20 +115,25 @@ impl<I: Image> Base<I> {
 
     /// One step more, which is made as it was made before: at once where none is queued and there is work left to be done, and else it is
     /// queued behind the others. Tells how much work is left to be done then. Where memory is refused the step comes back.
-    pub(crate) fn add(&mut self, step: Step<I::Alloc>, left: usize) -> Result<usize, Step<I::Alloc>>
+    pub(crate) fn add(
+        &mut self,
+        step: Step<I::Alloc>,
+        left: usize,
+        live: &I,
+    ) -> Result<usize, Step<I::Alloc>>
         requires { IsLogged self.old.terms self.old.inflight self.old.state (kept_step step) }
         ensures ok { IfOk result (λ more. Follows self.old self.new (kept_step step)) }
         ensures err { IfErr result (λ back. (back ≡ step)
             × (whole_of self.new ≡ whole_of self.old)) }
     {
         if left > 0 && self.queued() == 0 {
-            return self.make(step, left);
+            return self.make(step, left, live);
         }
-        self.put_off(step)
+        self.put_off(step, live)
     }
 
     // Makes a step where none is queued.
-    fn make(&mut self, step: Step<I::Alloc>, left: usize) -> Result<usize, Step<I::Alloc>>
+    fn make(&mut self, step: Step<I::Alloc>, left: usize, live: &I) -> Result<usize, Step<I::Alloc>>
         requires first { length self.old.queue ≡ 0 }
         requires logged { IsLogged self.old.terms self.old.inflight self.old.state
             (kept_step step) }
@@ -136,21 +141,21 @@ impl<I: Image> Base<I> {
         ensures err { IfErr result (λ back. (back ≡ step) × (self.new ≡ self.old)) }
     {
         let work = self.replica.work_of(&step);
-        if let Err(back) = self.replica.replay(step) {
+        if let Err(back) = self.replica.replay(step, live) {
             return Err(back);
         }
         Ok(left.saturating_sub(work))
     }
 
     // Queues a step behind the others; where they leave no place for it, the oldest are made. No work is left to be done then.
-    fn put_off(&mut self, step: Step<I::Alloc>) -> Result<usize, Step<I::Alloc>>
+    fn put_off(&mut self, step: Step<I::Alloc>, live: &I) -> Result<usize, Step<I::Alloc>>
         requires { IsLogged self.old.terms self.old.inflight self.old.state (kept_step step) }
         ensures ok { IfOk result (λ more. Follows self.old self.new (kept_step step)) }
         ensures err { IfErr result (λ back. (back ≡ step)
             × (whole_of self.new ≡ whole_of self.old)) }
     {
         let bytes = payload_of(&step);
-        if let Err(_) = self.make_place(bytes) {
+        if let Err(_) = self.make_place(bytes, live) {
             return Err(step);
         }
         if let Err(_) = widen(&mut self.queue, 1) {
@@ -162,13 +167,13 @@ impl<I: Image> Base<I> {
     }
 
     // Makes the oldest steps that are queued, until one with so many bytes of payload has its place behind the others.
-    fn make_place(&mut self, bytes: usize) -> Result<(), NoMemory>
+    fn make_place(&mut self, bytes: usize, live: &I) -> Result<(), NoMemory>
         requires { bytes ≤ 33554432 }
         ensures same { whole_of self.new ≡ whole_of self.old }
         ensures place { OnOk result (has_place bytes self.new.queue ≡ true) }
     {
         while !self.has_place(bytes) {
-            if let Err(error) = self.make_oldest() {
+            if let Err(error) = self.make_oldest(live) {
                 return Err(error);
             }
         }
@@ -184,7 +189,7 @@ impl<I: Image> Base<I> {
     }
 
     // The oldest step that is queued is made. Tells how much work that was.
-    fn make_oldest(&mut self) -> Result<usize, NoMemory>
+    fn make_oldest(&mut self, live: &I) -> Result<usize, NoMemory>
         requires { 0 < length self.old.queue }
         ensures ok { IfOk result (λ work. (self.new ≡ shorter 1 self.old) × (1 ≤ work)) }
         ensures err { OnErr result (self.new ≡ self.old) }
@@ -194,7 +199,7 @@ impl<I: Image> Base<I> {
         };
         let work = self.replica.work_of(&step);
         let bytes = payload_of(&step);
-        if let Err(step) = self.replica.replay(step) {
+        if let Err(step) = self.replica.replay(step, live) {
             self.queue.push_front_reserved(step);
             return Err(NoMemory);
         }

@@ -87,15 +87,20 @@ impl<I: Image> Replica<I> {
     pub(super) fn work_of(&self, step: &Step<I::Alloc>) -> usize
         ensures { 1 ≤ result }
     {
+        match self.performed_by(step) {
+            Some(head) => work_of(head) + 1,
+            None => 1,
+        }
+    }
+
+    // The head of the request that a step performs with memory.
+    fn performed_by(&self, step: &Step<I::Alloc>) -> Option<RequestHead> {
         match step {
             Step::Perform {
                 number,
                 memory: true,
-            } => match self.head_of(*number) {
-                Some(head) => work_of(head) + 1,
-                None => 1,
-            },
-            _ => 1,
+            } => self.head_of(*number),
+            _ => None,
         }
     }
 
@@ -109,8 +114,27 @@ impl<I: Image> Replica<I> {
         }
     }
 
-    /// Makes a step, as it was made before. Where memory is refused it comes back.
-    pub(super) fn replay(&mut self, step: Step<I::Alloc>) -> Result<(), Step<I::Alloc>>
+    // Offers the pages of another image to the request that a step performs.
+    fn offer(&mut self, step: &Step<I::Alloc>, other: &I)
+        ensures { self.new ≡ self.old }
+    {
+        if let Some(head) = self.performed_by(step) {
+            self.lone.offer(head, other);
+        }
+    }
+
+    /// Makes a step, as it was made before. It may take pages of another image that are the same. Where memory is refused it comes back.
+    pub(super) fn replay(&mut self, step: Step<I::Alloc>, other: &I) -> Result<(), Step<I::Alloc>>
+        requires { MayReplay self.old step }
+        ensures ok { OnOk result (Goes {A = I.Alloc} self.old self.new step) }
+        ensures err { IfErr result (λ back. (back ≡ step) × (self.new ≡ self.old)) }
+    {
+        self.offer(&step, other);
+        self.make(step)
+    }
+
+    // Makes a step, likewise.
+    fn make(&mut self, step: Step<I::Alloc>) -> Result<(), Step<I::Alloc>>
         requires { MayReplay self.old step }
         ensures ok { OnOk result (Goes {A = I.Alloc} self.old self.new step) }
         ensures err { IfErr result (λ back. (back ≡ step) × (self.new ≡ self.old)) }

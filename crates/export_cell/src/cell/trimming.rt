@@ -51,7 +51,7 @@ impl<I: Image> ExportCell<I> {
     pub(super) fn work_off(&mut self, most: usize) -> usize
         ensures { self.new ≡ self.old }
     {
-        self.base.catch_up(most)
+        self.base.catch_up(most, self.live.image())
     }
 
     // The oldest steps go into the base, as many as have to, and so much work at most is done at once.
@@ -89,7 +89,7 @@ impl<I: Image> ExportCell<I> {
             unreachable!();
         };
         let bytes = payload_of(&step);
-        match self.base.add(step, left) {
+        match self.base.add(step, left, self.live.image()) {
             Ok(more) => {
                 self.payload -= bytes;
                 Ok(more)
