@@ -177,7 +177,7 @@ impl<I: Image> Lone<I> {
         }
     }
 
-    /// A request of a session arrives at a moment, of which `admission` told what becomes of it. Nothing of that is asked again.
+    /// A request of a session arrives at a moment, of which `admission` told what becomes of it: the verdict isn't asked again.
     ///
     /// It takes no memory.
     pub fn admit(
