@@ -8,6 +8,7 @@ mod batch;
 mod connection;
 mod feed;
 mod handshake;
+mod heap_room;
 mod outlet;
 mod port;
 mod preparing;
