@@ -1,6 +1,7 @@
 //! What a reader hands in under one hold.
 
 use crate::feed::Feed;
+use crate::heap_room::HeapRoom;
 use crate::outlet::Outlet;
 use crate::rules::joined_size;
 use crate::session_link::SessionLink;
@@ -8,7 +9,7 @@ use crate::under_way::Admitted;
 use export_cell::Outdated;
 use nbd_base::NoMemory;
 use nbd_service::policy::{
-    OUTDATED_PAGES, QUEUED_WORK, ends_hold, performs_itself, size_of, waiting_until,
+    OUTDATED_PAGES, QUEUED_WORK, brought_by, ends_hold, performs_itself, size_of, waiting_until,
 };
 use nbd_service::{Asked, Disks, RequestSize, Service, Waiting, Wakeups, prefetch};
 use nbd_session::{Counted, Frame, FrameReader};
@@ -28,6 +29,7 @@ pub struct RequestSource<'a, 'b, R: Wait + time::Clock> {
     pub wakeups: Wakeups,
     /// What a hold took out of the images, to be let go behind it. Empty otherwise.
     pub outdated: Outdated<Global>,
+    pub room: HeapRoom,
 }
 
 /// What a reader offers first under a hold.
@@ -63,6 +65,8 @@ pub struct BatchOutcome {
     pub writes_long: bool,
     /// What waits to be chosen.
     pub waiting: Waiting,
+    /// How many bytes its WRITEs carry.
+    pub brought: u64,
     /// How many requests were handed in.
     pub arrived: u64,
     /// What prefetching for these requests came to.
@@ -100,6 +104,14 @@ impl Admission {
         }
     }
 
+    /// How many bytes of data it carries.
+    fn brought(&self) -> u64 {
+        match &self.arrival {
+            Some(arrival) => brought_by(arrival.head),
+            None => 0,
+        }
+    }
+
     /// The bytes that a hold handed in, with these, which were performed under it or not.
     fn added_to(&self, admitted: Admitted, performed: bool) -> Admitted {
         match (&self.arrival, self.number()) {
@@ -128,6 +140,7 @@ impl<'a, 'b, R: Wait + time::Clock> RequestSource<'a, 'b, R> {
             frames: FrameReader::new(alloc, reader),
             wakeups,
             outdated: Outdated::with_room(alloc, OUTDATED_PAGES)?,
+            room: HeapRoom::new(),
         })
     }
 
@@ -223,6 +236,7 @@ impl BatchOutcome {
             reads_long: admission.size == RequestSize::LongRead,
             writes_long: admission.size == RequestSize::LongWrite,
             waiting: Waiting::Nothing,
+            brought: admission.brought(),
             arrived: admission.arrival.is_some() as u64,
             prefetched,
         }
@@ -231,6 +245,7 @@ impl BatchOutcome {
     /// One more turn was made.
     fn add(&mut self, turn: Turn<Global>, admission: Admission) {
         self.turn = turn;
+        self.brought = self.brought.saturating_add(admission.brought());
         self.arrived = self
             .arrived
             .saturating_add(admission.arrival.is_some() as u64);

@@ -16,36 +16,65 @@ use server_core::SessionId;
 use server_lock::Pass;
 use session_turns::Door;
 use std::net::TcpStream;
-use std::sync::Wait;
 use std::sync::atomic::AtomicBool;
 use std::sync::ledger::Ledger;
+use std::sync::{Arc, Wait};
 use std::thread::Threads;
 use std::time::Duration;
 use std::{thread, time};
 use tag_clock::Clock;
 
-/// Serves one client to its end, whichever way that comes.
-pub fn serve_client<L: Ledger + Send + Sync, R: Wait + Threads + Sync + time::Clock>(
+/// A client that has chosen its export, before anything of its session was read.
+#[derive(Drop)]
+pub struct Entered<L: Ledger> {
+    connection: Arc<Connection>,
+    session: SessionId,
+    pass: Pass<L>,
+}
+
+impl<L: Ledger> Entered<L> {
+    /// Its export, by its number.
+    pub fn export(&self) -> u32 {
+        self.session.export
+    }
+}
+
+/// Makes a client's handshake. None where its connection is over.
+pub fn enter<L: Ledger + Send + Sync, R: Wait + Threads + Sync + time::Clock>(
     rt: &R,
     service: &Service<L>,
     peer: TcpStream,
-) {
-    let Some(connection) = service.connections.enter(rt, service.alloc, peer) else {
-        return;
+) -> Option<Entered<L>> {
+    let connection = service.connections.enter(rt, service.alloc, peer)?;
+    let Some(pass) = service.passes.borrow(rt) else {
+        service.connections.leave(rt, &*connection);
+        return None;
     };
-    serve_connection(rt, service, &*connection);
-    service.connections.leave(rt, &*connection);
+    let (session, pass) = shake_hands(rt, service, &connection.peer, pass);
+    match session {
+        Some(session) => {
+            connection.begin(rt, session, service.clock(rt).now());
+            Some(Entered {
+                connection,
+                session,
+                pass,
+            })
+        }
+        None => {
+            service.passes.give_back(rt, pass);
+            service.connections.leave(rt, &*connection);
+            None
+        }
+    }
 }
 
-fn serve_connection<L: Ledger + Send + Sync, R: Wait + Threads + Sync + time::Clock>(
+/// The session that a client is given in its handshake, where it ends with one.
+fn shake_hands<L: Ledger, R: Wait + time::Clock>(
     rt: &R,
     service: &Service<L>,
-    connection: &Connection,
-) {
-    let peer = &connection.peer;
-    let Some(pass) = service.passes.borrow(rt) else {
-        return;
-    };
+    peer: &TcpStream,
+    pass: Pass<L>,
+) -> (Option<SessionId>, Pass<L>) {
     let clock = HandshakeClock::new(rt);
     let mut reader = Counted::new(HandshakeSocket::new(peer, &clock));
     let mut writer = Counted::new(HandshakeSocket::new(peer, &clock));
@@ -59,17 +88,31 @@ fn serve_connection<L: Ledger + Send + Sync, R: Wait + Threads + Sync + time::Cl
     );
     let session = door.session();
     let mut pass = door.into_pass();
-    if let Some(session) = session {
-        match entry {
-            Ok(Entry::In(_)) => {
-                connection.begin(rt, session, service.clock(rt).now());
-                serve_session(rt, service, connection, session, &mut pass);
-                connection.end(rt);
-            }
-            _ => service.give_up(rt, session, &mut pass),
+    match (entry, session) {
+        (Ok(Entry::In(_)), _) => (session, pass),
+        (_, Some(session)) => {
+            service.give_up(rt, session, &mut pass);
+            (None, pass)
         }
+        (_, None) => (None, pass),
     }
+}
+
+/// Serves a client to its end, whichever way that comes.
+pub fn serve<L: Ledger + Send + Sync, R: Wait + Threads + Sync + time::Clock>(
+    rt: &R,
+    service: &Service<L>,
+    entered: Entered<L>,
+) {
+    let Entered {
+        connection,
+        session,
+        mut pass,
+    } = entered;
+    serve_session(rt, service, &*connection, session, &mut pass);
+    connection.end(rt);
     service.passes.give_back(rt, pass);
+    service.connections.leave(rt, &*connection);
 }
 
 fn serve_session<L: Ledger + Send + Sync, R: Wait + Threads + Sync + time::Clock>(

@@ -1,13 +1,14 @@
 //! One connection of a server: its handshake, a thread that reads requests and hands them in, one that writes replies, and one
 //! that reads its bytes ahead. `rules` has what they decide by values, with contracts; numbers and the other rules are those of
 //! nbd_service. The rest has no contract and is tested instead, since it reads and writes sockets, takes locks and wakes
-//! threads: `serve_client`, and the parts of a connection that tests look at (`SessionLink`, `Feed`, `ReadAhead`).
+//! threads: `enter`, `serve`, and the parts of a connection that tests look at (`SessionLink`, `Feed`, `ReadAhead`).
 #![tactic(auto)]
 
 mod batch;
 mod connection;
 mod feed;
 mod handshake;
+mod heap_room;
 mod outlet;
 mod port;
 mod preparing;
@@ -21,7 +22,7 @@ mod under_way;
 mod write_times;
 mod writer;
 
-pub use connection::serve_client;
+pub use connection::{Entered, enter, serve};
 pub use feed::Feed;
 pub use read_ahead::ReadAhead;
 pub use session_link::SessionLink;

@@ -181,6 +181,7 @@ fn hold_once<L: Ledger, R: Wait + time::Clock>(
     service.let_go(rt, disks, held.now());
     link.note_arrived(batch.arrived);
     source.outdated.let_go();
+    source.room.note(service.alloc, batch.brought);
     link.note_prefetched(batch.prefetched);
     source.wakeups.wake(&service.bells);
     batch

@@ -105,6 +105,14 @@ still_waits_for_line_by passed = nat_le passed 10000000000
 abbrev pub asks_for_turn_by : ℕ → ℕ → Bool
 asks_for_turn_by units passed = nat_le 64 units || nat_le 1000000 passed
 
+-- what a WRITE carries
+abbrev pub carried_by : ℕ → ℕ → ℕ
+carried_by kind length = if kind == 1 then length else 0
+
+-- four MiB
+abbrev pub makes_room_by : ℕ → Bool
+makes_room_by taken = nat_le 4194304 taken
+
 -- one for each 16 KiB begun, and one at least
 abbrev pub cost_by : ℕ → ℕ → ℕ
 cost_by kind length = if (kind == 0) || (kind == 1) then units_of length else 1

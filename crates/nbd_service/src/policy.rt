@@ -1,7 +1,7 @@
 //! Every number of the serving code, and the rules over values that its threads follow. `specs/Policy.antt` says each rule.
 ghost use Rattle.std.specs.Prelude.{◌≡◌, ◌+◌, ◌-◌, ◌*◌, ◌<◌, ◌≤◌, ◌^◌, min, option_map};
 ghost use Rattle.std.specs.Duration.{as_nanos};
-ghost use Rattle.nbd_service.specs.Policy.{accept_may_pass_by, asks_for_turn_by, backlog_by, batch_by, bell_by, cost_by, data_by, ends_hold_by, handshake_wait_by, has_more_by, holds_back_by, is_alone_by, is_due_by, is_forgotten_by, is_network_fault_by, is_shortage_by, is_stalled_by, is_zero_by, keeps_by, keeps_up_by, load_by, next_skip_by, patience_by, performs_by, reads_ahead_by, short_pieces_by, size_by, still_defers_by, still_retunes_by, still_waits_for_line_by, suits_reader_by, waiting_by, wakes_worker_by, yields_by, yields_behind_look_by};
+ghost use Rattle.nbd_service.specs.Policy.{accept_may_pass_by, asks_for_turn_by, backlog_by, batch_by, bell_by, cost_by, data_by, ends_hold_by, handshake_wait_by, has_more_by, holds_back_by, is_alone_by, is_due_by, is_forgotten_by, is_network_fault_by, is_shortage_by, is_stalled_by, is_zero_by, keeps_by, keeps_up_by, load_by, makes_room_by, next_skip_by, patience_by, performs_by, reads_ahead_by, short_pieces_by, size_by, still_defers_by, still_retunes_by, still_waits_for_line_by, suits_reader_by, waiting_by, wakes_worker_by, carried_by, yields_by, yields_behind_look_by};
 
 use crate::request_size::{Load, RequestSize};
 use crate::waiting::Waiting;
@@ -27,6 +27,10 @@ pub const OWN_DESCRIPTORS: u64 = 16;
 /// The largest block, in bytes, that the C library is to keep for itself once it was given back. Its own bound on such
 /// blocks is 32 MiB, with what it adds to them (mallopt(3), M_MMAP_THRESHOLD).
 pub const KEPT_BLOCK_BYTES: usize = 33_550_000;
+
+/// How many bytes a session's WRITEs bring before room is made for as many more. With a quarter or four times as many it was no better
+/// (docs/notes/tries.md).
+pub const ROOM_BYTES: usize = 4_194_304;
 
 /// How many bells the sessions of one export have: as many as may be open at a time.
 pub const SESSION_BELLS: u64 = 64;
@@ -389,6 +393,20 @@ pub fn holds_back(under_way: u64, session_bytes: u64, waiting_bytes: u64) -> boo
     ensures { result ≡ holds_back_by under_way session_bytes waiting_bytes }
 {
     under_way > 0 && (session_bytes > SESSION_BYTES || waiting_bytes > WAITING_WRITE_BYTES)
+}
+
+/// How many bytes of data a request brings.
+pub fn brought_by(head: RequestHead) -> u64
+    ensures { result ≡ carried_by head.kind head.length }
+{
+    if head.kind == WRITE { data_of(head) } else { 0 }
+}
+
+/// Whether room is made for what a session's WRITEs bring next, which brought so many bytes since it was made.
+pub fn makes_room(taken: u64) -> bool
+    ensures { result ≡ makes_room_by taken }
+{
+    taken >= ROOM_BYTES as u64
 }
 
 /// How many bytes of data go with a request, in either direction.

@@ -161,7 +161,8 @@ impl<L: Ledger> Service<L> {
         held
     }
 
-    /// The server, where the lock is free at one of many looks. A bulk session lets interactive ones go first for a while.
+    /// The server, where the lock is free at one of many looks. A bulk session lets interactive ones go first, for a while from when it found one
+    /// that asks.
     fn look_long<R: Wait + time::Clock>(
         &self,
         rt: &R,
@@ -175,7 +176,7 @@ impl<L: Ledger> Service<L> {
             if held.is_some() {
                 return held;
             }
-            if ladder.rest_behind(look) && defers {
+            if ladder.rest_behind(look) && defers && self.interactive.is_asking() {
                 let now = self.clock(rt).now();
                 let since = *began.get_or_insert(now);
                 defers = still_defers(now.nanoseconds().saturating_sub(since.nanoseconds()));

@@ -1,11 +1,12 @@
 mod rates_in_force;
 
 use nbd_service::policy::{
-    accept_may_pass, asks_for_turn, backlog_after, batch_after, bell_of, connections_for, cost_of,
-    data_of, ends_hold, handshake_wait_ms, has_more, holds_back, is_alone, is_due, is_stalled,
-    keeps_up, load_of, may_keep, may_read_ahead, moment_after, next_skip, passes_for, patience,
-    performs_itself, short_pieces, size_of, still_defers, still_retunes, still_waits_for_line,
-    suits_reader, waiting_until, wakes_worker, yields_behind, yields_behind_look,
+    accept_may_pass, asks_for_turn, backlog_after, batch_after, bell_of, brought_by,
+    connections_for, cost_of, data_of, ends_hold, handshake_wait_ms, has_more, holds_back,
+    is_alone, is_due, is_stalled, keeps_up, load_of, makes_room, may_keep, may_read_ahead,
+    moment_after, next_skip, passes_for, patience, performs_itself, short_pieces, size_of,
+    still_defers, still_retunes, still_waits_for_line, suits_reader, waiting_until, wakes_worker,
+    yields_behind, yields_behind_look,
 };
 use nbd_service::{
     InteractiveLoad, Load, RequestSize, RunningClock, SpinPoll, Turns, Waiting, WritePace,
@@ -144,6 +145,8 @@ fn what_a_request_counts(rt: HostRuntime) {
     assert!(rt; cost_of(head(CACHE, 4_294_967_295)) == 1 && cost_of(head(FLUSH, 0)) == 1);
     assert!(rt; data_of(head(WRITE, 5)) == 5 && data_of(head(TRIM, 5)) == 0);
     assert!(rt; data_of(head(CACHE, 5)) == 0 && data_of(head(FLUSH, 0)) == 0);
+    assert!(rt; brought_by(head(WRITE, 5)) == 5 && brought_by(head(READ, 5)) == 0);
+    assert!(rt; makes_room(4_194_304) && !makes_room(4_194_303));
     assert!(rt; backlog_after(3, true) == 16 && backlog_after(3, false) == 2);
     assert!(rt; backlog_after(0, false) == 0);
     assert!(rt; asks_for_turn(64, 0) && asks_for_turn(1, 1_000_000) && !asks_for_turn(63, 999_999));

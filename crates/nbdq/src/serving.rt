@@ -9,10 +9,10 @@ mod listener;
 mod tests;
 
 use control::{ControlSocket, serve_control};
-use idle_threads::IdleThreads;
+use idle_threads::{Guest, IdleThreads};
 use listener::{Entrance, Listener, may_pass};
 use nbd_commands::Config;
-use nbd_connection::serve_client;
+use nbd_connection::{enter, serve};
 use nbd_service::policy::{RETRY_MS, passes_for};
 use nbd_service::{PassPool, ServeFault, Service, WorkerGate};
 use nbd_session::table_of;
@@ -62,7 +62,7 @@ fn serve_booked<L: Ledger + Send + Sync, R: Wait + Threads + Sync + time::Clock>
     rt: &R,
     alloc: Global,
     config: &Config<Global>,
-    entrances: &[Entrance],
+    entrances: &[Entrance<L>],
     control: &Option<ControlSocket>,
     crew: Crew,
     blank: Blank,
@@ -97,7 +97,7 @@ fn run_threads<L: Ledger + Send + Sync, R: Wait + Threads + Sync + time::Clock>(
     rt: &R,
     service: &Service<L>,
     config: &Config<Global>,
-    entrances: &[Entrance],
+    entrances: &[Entrance<L>],
     control: &Option<ControlSocket>,
     crew: Crew,
 ) -> bool {
@@ -135,7 +135,7 @@ fn run_worker<L: Ledger, R: Wait + time::Clock>(rt: &R, service: &Service<L>) {
 fn listen<L: Ledger + Send + Sync, R: Wait + Threads + Sync + time::Clock>(
     rt: &R,
     service: &Service<L>,
-    entrances: &[Entrance],
+    entrances: &[Entrance<L>],
     sessions: u64,
 ) -> bool {
     let started = thread::scope(thread::scope_env(), rt, |scope| {
@@ -157,18 +157,18 @@ fn listen<L: Ledger + Send + Sync, R: Wait + Threads + Sync + time::Clock>(
 }
 
 /// No listener accepts any more, since one failed.
-fn close_all<L: Ledger>(service: &Service<L>, entrances: &[Entrance]) {
+fn close_all<L: Ledger>(service: &Service<L>, entrances: &[Entrance<L>]) {
     service.closed.store(true, Ordering::SeqCst);
     close_entrances(entrances);
 }
 
 /// No listener accepts any more, since that was asked for.
-fn stop<L: Ledger>(service: &Service<L>, entrances: &[Entrance]) {
+fn stop<L: Ledger>(service: &Service<L>, entrances: &[Entrance<L>]) {
     service.stopping.store(true, Ordering::SeqCst);
     close_entrances(entrances);
 }
 
-fn close_entrances(entrances: &[Entrance]) {
+fn close_entrances<L: Ledger>(entrances: &[Entrance<L>]) {
     for entrance in entrances {
         let _ = entrance.listener.close();
     }
@@ -178,7 +178,7 @@ fn close_entrances(entrances: &[Entrance]) {
 fn accept_all<L: Ledger + Send + Sync, R: Wait + Threads + Sync + time::Clock>(
     rt: &R,
     service: &Service<L>,
-    entrance: &Entrance,
+    entrance: &Entrance<L>,
     sessions: u64,
 ) -> bool {
     thread::scope(thread::scope_env(), rt, |scope| {
@@ -188,14 +188,14 @@ fn accept_all<L: Ledger + Send + Sync, R: Wait + Threads + Sync + time::Clock>(
                 accepted = service.stopping.load(Ordering::SeqCst);
                 break;
             };
-            if let Err(peer) = entrance.idle.hand_over(rt, peer) {
+            if let Err(guest) = entrance.idle.hand_over(rt, Guest::New(peer), None) {
                 // Where no thread can be had the connection is dropped.
-                let _ = scope.spawn(move || serve_clients(rt, service, &entrance.idle, peer));
+                let _ = scope.spawn(move || serve_guests(rt, service, &entrance.idle, guest));
             }
         }
         // Who connects from now on is refused, and doesn't wait for nothing.
         let _ = entrance.listener.close();
-        entrance.idle.close();
+        entrance.idle.close(rt);
         accepted
     })
 }
@@ -220,19 +220,51 @@ fn accept_one<L: Ledger, R: Wait + time::Clock>(
     unreachable!()
 }
 
-/// Serves a client, and then each that comes while this thread waits for one.
-fn serve_clients<L: Ledger + Send + Sync, R: Wait + Threads + Sync + time::Clock>(
+/// Serves a guest, and then each that comes while this thread waits for one.
+fn serve_guests<L: Ledger + Send + Sync, R: Wait + Threads + Sync + time::Clock>(
     rt: &R,
     service: &Service<L>,
-    idle: &IdleThreads,
-    first: TcpStream,
+    idle: &IdleThreads<L>,
+    first: Guest<L>,
 ) {
     let mut next = Some(first);
+    let mut served: Option<u32> = None;
     for _ in rt.forever() {
-        let Some(peer) = next.take() else {
+        let Some(guest) = next.take() else {
             return;
         };
-        serve_client(rt, service, peer);
-        next = idle.wait(rt);
+        served = serve_guest(rt, service, idle, guest, served);
+        next = idle.wait(rt, served);
+    }
+}
+
+/// Serves a guest, or leaves it to a thread that served its export last. Tells which export this thread served last, which it was told
+/// before.
+fn serve_guest<L: Ledger + Send + Sync, R: Wait + Threads + Sync + time::Clock>(
+    rt: &R,
+    service: &Service<L>,
+    idle: &IdleThreads<L>,
+    guest: Guest<L>,
+    served: Option<u32>,
+) -> Option<u32> {
+    let entered = match guest {
+        Guest::Entered(entered) => entered,
+        Guest::New(peer) => match enter(rt, service, peer) {
+            Some(entered) => entered,
+            None => return served,
+        },
+    };
+    let export = Some(entered.export());
+    let mine = if served == export {
+        Err(Guest::Entered(entered))
+    } else {
+        idle.hand_over(rt, Guest::Entered(entered), export)
+    };
+    match mine {
+        Err(Guest::Entered(entered)) => {
+            serve(rt, service, entered);
+            export
+        }
+        _ => served,
     }
 }

@@ -70,7 +70,7 @@ pub fn serve_control<L: Ledger + Send + Sync, R: Wait + Threads + Sync + time::C
     rt: &R,
     service: &Service<L>,
     config: &Config<Global>,
-    entrances: &[Entrance],
+    entrances: &[Entrance<L>],
     control: &ControlSocket,
 ) {
     thread::scope(thread::scope_env(), rt, |scope| {
@@ -105,7 +105,7 @@ fn serve_lines<L: Ledger, R: Wait + time::Clock>(
     rt: &R,
     service: &Service<L>,
     config: &Config<Global>,
-    entrances: &[Entrance],
+    entrances: &[Entrance<L>],
     control: &ControlSocket,
     peer: &TcpStream,
 ) {
@@ -130,7 +130,7 @@ fn answer_line<L: Ledger, R: Wait + time::Clock>(
     rt: &R,
     service: &Service<L>,
     config: &Config<Global>,
-    entrances: &[Entrance],
+    entrances: &[Entrance<L>],
     line: &[u8],
     text: &mut Vec<u8>,
 ) -> Result<(), NoMemory> {
@@ -152,7 +152,7 @@ fn do_command<L: Ledger, R: Wait + time::Clock>(
     rt: &R,
     service: &Service<L>,
     config: &Config<Global>,
-    entrances: &[Entrance],
+    entrances: &[Entrance<L>],
     command: Command<Global>,
     text: &mut Vec<u8>,
 ) -> Result<Option<Answer>, NoMemory> {

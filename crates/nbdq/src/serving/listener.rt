@@ -10,6 +10,7 @@ use std::io::ErrorKind;
 use std::net::{Shutdown, TcpListener, TcpStream};
 use std::os::fd::OwnedFd;
 use std::os::unix::net::UnixListener;
+use std::sync::ledger::Ledger;
 
 /// Where clients connect. A connection of either kind is a stream socket, so one type serves for both.
 #[derive(Drop)]
@@ -20,13 +21,13 @@ pub enum Listener {
 
 /// A listener, and where the threads of its connections wait for the next client.
 #[derive(Drop)]
-pub struct Entrance {
+pub struct Entrance<L: Ledger> {
     pub listener: Listener,
-    pub idle: IdleThreads,
+    pub idle: IdleThreads<L>,
 }
 
-impl Entrance {
-    pub fn new(alloc: Global, listener: Listener) -> Result<Entrance, NoMemory> {
+impl<L: Ledger> Entrance<L> {
+    pub fn new(alloc: Global, listener: Listener) -> Result<Entrance<L>, NoMemory> {
         let idle = IdleThreads::new(alloc)?;
         Ok(Entrance { listener, idle })
     }

@@ -4,7 +4,7 @@ mod control;
 mod hostile;
 mod retuned;
 
-use super::idle_threads::IdleThreads;
+use super::idle_threads::{Found, Guest, IdleThreads, Seats};
 use super::*;
 use nbd_commands::{ExportList, ExportSettings};
 use nbd_wire::protocol::{READ, WRITE};
@@ -468,22 +468,22 @@ fn long_writes_and_a_second_client(rt: HostRuntime) {
 /// Whether a thread that waits gets the client, and then is told that there are no more.
 fn is_handed_over<R: Wait + Threads + Sync + time::Clock>(
     rt: &R,
-    idle: &IdleThreads,
+    idle: &IdleThreads<Brand>,
     client: TcpStream,
 ) -> (bool, bool) {
     let (waited, ()) = thread::join(
         rt,
-        move || (idle.wait(rt).is_some(), idle.wait(rt).is_some()),
+        move || (idle.wait(rt, None).is_some(), idle.wait(rt, None).is_some()),
         move || {
-            let mut handed = idle.hand_over(rt, client);
+            let mut handed = idle.hand_over(rt, Guest::New(client), None);
             for _ in rt.forever() {
                 let Err(back) = handed else {
                     break;
                 };
                 thread::sleep(rt, Duration::from_millis(1));
-                handed = idle.hand_over(rt, back);
+                handed = idle.hand_over(rt, back, None);
             }
-            idle.close();
+            idle.close(rt);
         },
     );
     waited
@@ -495,6 +495,33 @@ fn a_client_handed_over(rt: HostRuntime) {
     let client = door.connect(&rt).ok().expect(&rt, "a client");
     let idle = IdleThreads::new(rt.alloc()).ok().expect(&rt, "memory");
     assert!(rt; is_handed_over(&rt, &idle, client) == (true, false));
+}
+
+/// Whether the thread on a seat finds this guest.
+fn finds(seats: &mut Seats<u8>, seat: Option<usize>, guest: u8) -> bool {
+    match seat {
+        Some(seat) => matches!(seats.look(seat), Found::Guest(found) if found == guest),
+        None => false,
+    }
+}
+
+/// Each guest goes to the latest thread that served its export last, or none, and nobody is called behind the end.
+#[test]
+fn guests_by_what_was_served_last(rt: HostRuntime) {
+    let mut seats = Seats::<u8>::new(rt.alloc()).ok().expect(&rt, "memory");
+    assert!(rt; seats.call(1, None) == Err(1));
+    let spare = seats.sit(None);
+    let other = seats.sit(Some(2));
+    let early = seats.sit(Some(3));
+    let late = seats.sit(Some(3));
+    assert!(rt; seats.call(1, Some(3)).ok() == late && seats.call(2, Some(3)).ok() == early);
+    assert!(rt; seats.call(3, Some(3)) == Err(3) && seats.call(4, None).ok() == spare);
+    assert!(rt; finds(&mut seats, late, 1) && finds(&mut seats, early, 2));
+    seats.close();
+    assert!(rt; seats.call(5, Some(2)) == Err(5) && seats.sit(None).is_none());
+    assert!(rt; finds(&mut seats, spare, 4));
+    let last = other.expect(&rt, "a seat");
+    assert!(rt; matches!(seats.look(last), Found::Closed));
 }
 
 /// The cookie of each READ of a client that reads late.
