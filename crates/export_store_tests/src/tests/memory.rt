@@ -185,15 +185,13 @@ fn growths_of_a_page<'a>(
 
 // Whether pages come one by one, the first of a chunk and some others with more growths than the rest.
 fn come_one_by_one<'a>(heap: &'a Refusing<Global>, image: &mut Kept<'a>, count: usize) -> bool {
-    let mut more = 0;
+    let mut more = 0usize;
     for pages in 0..count {
-        match growths_of_a_page(heap, image, pages) {
-            Some(growths) => {
-                if growths > 3 {
-                    more += 1;
-                }
-            }
-            None => return false,
+        let Some(growths) = growths_of_a_page(heap, image, pages) else {
+            return false;
+        };
+        if growths > 3 {
+            more = more.saturating_add(1);
         }
         if image.held() != pages.saturating_add(1) {
             return false;
