@@ -4,6 +4,7 @@ use Rattle.std.specs.Prelude.{◌≢◌, ◌⊎◌, IsErr}
 use Rattle.std.specs.Io.KnownBytes.{Appends}
 use Rattle.hex.specs.Hex.{decode_of}
 use Rattle.nbd_commands.specs.Exports.{Offer}
+use Rattle.server_table.specs.Table.{Setup}
 use Rattle.server_core.specs.Served.{setup_for}
 use Rattle.nbd_scripts.specs.declared.replay_line.ReplayLine.{ReplayLine}
 use Rattle.nbd_scripts.specs.declared.fault.LineFault.{LineFault}
@@ -19,7 +20,7 @@ use Rattle.nbd_scripts.specs.Events.{Asks}
 use Rattle.nbd_scripts.specs.Output.{digits_of, Prints}
 use Rattle.nbd_scripts.specs.Replayed.{Replays, ReplaysFirst}
 use Rattle.nbd_scripts.specs.Told.{IsWhole, refusal_line, Writes, CutShort, TellsRefusal}
-use Rattle.nbd_scripts.specs.Scripts.{Streams, with_output, HasBody, Talks, RefusesHead, RefusesHex, ReplaysLines, ReplaysFirstLines, RefusesBody, TellsTalk, TellsReplay}
+use Rattle.nbd_scripts.specs.Scripts.{Streams, with_output, HasBody, Talks, RefusesHead, RefusesHex, WritesLines, RefusesBody, TellsTalk, TellsReplay}
 use Rattle.nbd_scripts.proofs.PartLemmas.{cut_short, cut_short_so}
 
 module _ (streams : Streams) (went : Outcome) where
@@ -81,27 +82,26 @@ module _ (streams : Streams) (offer : Offer) (above : ℕ) (body : List ℕ) (re
 
   module _ (A : Type 0) where
     module _ (asked : List (ReplayLine A)) (asks : Asks (lines_in body) asked) where
-      replays : (all : Option (List ℕ)) → Replays {A = A} (setup_for offer) asked streams.old all → ReplaysLines A (with_output streams all)
-      replays all replayed = record { offer = offer; above = above; body = body; read = body_for streams all offer above body read; asked = asked; asks = asks; replayed = replayed }
-
-      replays_first : (all : Option (List ℕ)) → ReplaysFirst {A = A} (setup_for offer) asked streams.old all → ReplaysFirstLines A (with_output streams all)
-      replays_first all replayed = record { offer = offer; above = above; body = body; read = body_for streams all offer above body read; asked = asked; asks = asks; replayed = replayed }
+      writes_lines : (made : Setup → List (ReplayLine A) → Option (List ℕ) → Option (List ℕ) → Type 0) (all : Option (List ℕ))
+          → made (setup_for offer) asked streams.old all → WritesLines A (with_output streams all) made
+      writes_lines made all replayed =
+          record { offer = offer; above = above; body = body; read = body_for streams all offer above body read; asked = asked; asks = asks; replayed = replayed }
 
       pub replay_read : (went : Outcome) → (went ≡ outcome.Done → Replays {A = A} (setup_for offer) asked streams.old streams.new)
           → (went ≡ outcome.Done) ⊎ (went ≡ outcome.NoMemory) ⊎ (went ≡ outcome.WriteFailed)
           → (went ≡ outcome.NoMemory → ReplaysFirst {A = A} (setup_for offer) asked streams.old streams.new)
           → (went ≡ outcome.WriteFailed
           → CutShort (λ all. Replays {A = A} (setup_for offer) asked streams.old all ⊎ ReplaysFirst {A = A} (setup_for offer) asked streams.old all) streams.old streams.new) → TellsReplay A streams went
-      replay_read outcome.Done done failed no_memory write_failed = replays streams.new (done refl)
+      replay_read outcome.Done done failed no_memory write_failed = writes_lines (Replays {A = A}) streams.new (done refl)
       replay_read outcome.Refused done (inl is) no_memory write_failed = absurd cc
       replay_read outcome.Refused done (inr (inl is)) no_memory write_failed = absurd cc
       replay_read outcome.Refused done (inr (inr is)) no_memory write_failed = absurd cc
-      replay_read outcome.NoMemory done failed no_memory write_failed = inr (replays_first streams.new (no_memory refl))
+      replay_read outcome.NoMemory done failed no_memory write_failed = inr (writes_lines (ReplaysFirst {A = A}) streams.new (no_memory refl))
       replay_read outcome.ReadFailed done (inl is) no_memory write_failed = absurd cc
       replay_read outcome.ReadFailed done (inr (inl is)) no_memory write_failed = absurd cc
       replay_read outcome.ReadFailed done (inr (inr is)) no_memory write_failed = absurd cc
       replay_read outcome.WriteFailed done failed no_memory write_failed =
-          cut_short_so _ _ streams.old streams.new (λ all is. elim is [ inl whole ↦ inl (inl (replays all whole)) | inr first ↦ inl (inr (replays_first all first)) ]) (write_failed refl)
+          cut_short_so _ _ streams.old streams.new (λ all is. elim is [ inl whole ↦ inl (inl (writes_lines (Replays {A = A}) all whole)) | inr first ↦ inl (inr (writes_lines (ReplaysFirst {A = A}) all first)) ]) (write_failed refl)
 
     pub replay_body_refused : (went : Outcome) (number : ℕ) (refused : LineFault) → IsBody {A = A} above body (bodies.Refused number refused)
         → TellsRefusal number refused streams.old streams.new went → TellsReplay A streams went

@@ -3,6 +3,7 @@ use Rattle.std.specs.Prelude.{◌≡◌, ℕ, ◌⊎◌, List, codes, Option, Is
 use Rattle.std.specs.Io.KnownBytes.{Appends}
 use Rattle.hex.specs.Hex.{decode_of}
 use Rattle.nbd_commands.specs.Exports.{Offer}
+use Rattle.server_table.specs.Table.{Setup}
 use Rattle.server_core.specs.Served.{setup_for}
 use Rattle.nbd_scripts.specs.declared.replay_line.ReplayLine.{ReplayLine}
 use Rattle.nbd_scripts.specs.declared.fault.LineFault.{LineFault}
@@ -78,25 +79,23 @@ TellsTalk streams outcome.WriteFailed = TalksPart streams
 
 -- ---- replay
 
--- what the lines behind the head are answered is written
-pub record ReplaysLines (A : Type 0) (streams : Streams) : Type 0 where
+-- what is made of the lines behind the head is written
+pub record WritesLines (A : Type 0) (streams : Streams) (made : Setup → List (ReplayLine A) → Option (List ℕ) → Option (List ℕ) → Type 0) : Type 0 where
   pub offer : Offer
   pub above : ℕ
   pub body : List ℕ
   pub read : HasBody streams offer above body
   pub asked : List (ReplayLine A)
   pub asks : Asks (lines_in body) asked
-  pub replayed : Replays (setup_for offer) asked streams.old streams.new
+  pub replayed : made (setup_for offer) asked streams.old streams.new
 
--- what the first of the lines behind the head are answered is written, and no more
-pub record ReplaysFirstLines (A : Type 0) (streams : Streams) : Type 0 where
-  pub offer : Offer
-  pub above : ℕ
-  pub body : List ℕ
-  pub read : HasBody streams offer above body
-  pub asked : List (ReplayLine A)
-  pub asks : Asks (lines_in body) asked
-  pub replayed : ReplaysFirst (setup_for offer) asked streams.old streams.new
+-- what these lines are answered is
+abbrev pub ReplaysLines : (A : Type 0) → Streams → Type 0
+ReplaysLines A streams = WritesLines A streams (Replays {A = A})
+
+-- what the first of them are answered is, and no more
+abbrev pub ReplaysFirstLines : (A : Type 0) → Streams → Type 0
+ReplaysFirstLines A streams = WritesLines A streams (ReplaysFirst {A = A})
 
 -- the first refused line behind the head is written
 pub record RefusesBody (A : Type 0) (streams : Streams) : Type 0 where
