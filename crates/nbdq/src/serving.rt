@@ -42,19 +42,30 @@ pub fn serve_on<R: Wait + Threads + Sync + time::Clock>(
     control: Option<UnixListener>,
     crew: Crew,
 ) -> Result<u128, ServeFault> {
-    let mut entrances = Vec::new(alloc);
+    let mut listeners = Vec::new(alloc);
     if let Some(tcp) = tcp {
-        entrances.push(Entrance::new(alloc, Listener::Tcp(tcp))?)?;
+        listeners.push(Listener::Tcp(tcp))?;
     }
     if let Some(unix) = unix {
-        entrances.push(Entrance::new(alloc, Listener::Unix(unix))?)?;
+        listeners.push(Listener::Unix(unix))?;
     }
     let control = control.map(|listener| ControlSocket::new(Listener::Unix(listener)));
-    let listening = crew.sessions.most().saturating_mul(entrances.len() as u64);
+    let listening = crew.sessions.most().saturating_mul(listeners.len() as u64);
     let passes = passes_for(listening, crew.workers);
     let blank = Blank::new(passes);
-    let entrances = entrances.as_slice();
-    serve_booked::<Brand, R>(rt, alloc, config, entrances, &control, crew, blank, passes)
+    serve_booked::<Brand, R>(rt, alloc, config, listeners, &control, crew, blank, passes)
+}
+
+/// Each listener, with the threads of its connections that wait for a client.
+fn entrances_of<L: Ledger>(
+    alloc: Global,
+    listeners: Vec<Listener, Global>,
+) -> Result<Vec<Entrance<L>, Global>, ServeFault> {
+    let mut entrances = Vec::new(alloc);
+    for listener in listeners {
+        entrances.push(Entrance::new(alloc, listener)?)?;
+    }
+    Ok(entrances)
 }
 
 /// Serves with so many passes.
@@ -62,7 +73,7 @@ fn serve_booked<L: Ledger + Send + Sync, R: Wait + Threads + Sync + time::Clock>
     rt: &R,
     alloc: Global,
     config: &Config<Global>,
-    entrances: &[Entrance<L>],
+    listeners: Vec<Listener, Global>,
     control: &Option<ControlSocket>,
     crew: Crew,
     blank: Blank,
@@ -73,13 +84,14 @@ fn serve_booked<L: Ledger + Send + Sync, R: Wait + Threads + Sync + time::Clock>
     requires parts { blank.parts ≡ L.parts }
     requires passes { passes ≡ blank.parts }
 {
+    let entrances = entrances_of(alloc, listeners)?;
     let server = Server::new(alloc, config)?;
     let Ok((shared, passes)) = Shared::<L, _, _>::new(alloc, server, blank, passes) else {
         return Err(ServeFault::NoMemory);
     };
     let table = table_of(alloc, config.exports())?;
     let service = Service::new(rt, alloc, config, table, shared, PassPool::new(passes))?;
-    let listened = run_threads(rt, &service, config, entrances, control, crew);
+    let listened = run_threads(rt, &service, config, entrances.as_slice(), control, crew);
     let Service { shared, passes, .. } = service;
     let booked = shared.end();
     let passes = passes.end();
