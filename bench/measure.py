@@ -32,6 +32,7 @@ FLOODS = {
 }
 WAITS = ("p50_us", "p99_us", "p999_us", "most_us", "waits_us")
 SMALL = dict(bytes=4096, depth=32)
+SLICE = 5  # ms of a slice of the timeline
 
 
 def loader():
@@ -175,14 +176,14 @@ def limits(o, figures):
 
 
 def timeline(o, figures):
-    """Five exports that start and stop one after another: requests in slices of 10 ms, 10 s a round."""
+    """Five exports that start and stop one after another: requests in slices of 5 ms, 10 s a round."""
     settings = ["weight = 1", "weight = 2", "weight = 4", "weight = 1\nreservation = 50000", "weight = 4\nlimit = 60000"]
     spans = [(0, 10), (1, 7), (2, 6), (3, 9), (4, 8)]
     for kind in [it for it in o.servers if "=" in it] * o.rounds:
         with Server(kind, exports=5, config=exports_of(settings)) as server:
             clients = [server.clients(i, connections=3, **SMALL, **{"from": a, "until": b}) for i, (a, b) in enumerate(spans)]
-            for i, found in enumerate(load(10, clients, warm=0, slices=10)):
-                figures.add(server.name, found["slices"], part="timeline", export=i, settings=settings[i], start=spans[i][0], end=spans[i][1], unit="each_10_ms")
+            for i, found in enumerate(load(10, clients, warm=0, slices=SLICE)):
+                figures.add(server.name, found["slices"], part="timeline", export=i, settings=settings[i], start=spans[i][0], end=spans[i][1], unit="each_%d_ms" % SLICE)
 
 
 def turns(o, figures):

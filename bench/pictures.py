@@ -43,8 +43,8 @@ class Panel:
 
     def curve(self, it, rates, wide, colour):
         """Rates of an export while it is there, and as long before and behind as a mean reaches."""
-        first, last = int(it["start"] * 100) - wide // 2, int(it["end"] * 100) + wide // 2
-        points = [(self.x_of(i / 100), self.y_of(rates[i])) for i in range(max(first, 0), min(last + 1, len(rates)), 2)]
+        first, last = int(it["start"] * PER_SECOND) - wide // 2, int(it["end"] * PER_SECOND) + wide // 2
+        points = [(self.x_of(i / PER_SECOND), self.y_of(rates[i])) for i in range(max(first, 0), min(last + 1, len(rates)), 4)]
         self.d.curve(points, colour, self.name)
 
     def dashes(self, it, rate, colour):
@@ -56,12 +56,12 @@ def shares(figures, path):
     mine = sorted((it for it in figures if it["part"] == "timeline"), key=lambda it: it["export"])
     if not mine:
         return
-    wide, rows = 20, []
+    wide, rows = PER_SECOND // 5, []
     for it in mine:
         slices = it["values"][-1]
         around = [slices[max(0, i - wide // 2) : i + wide // 2] for i in range(len(slices))]
-        rows.append((it, [sum(some) * 100.0 / len(some) for some in around]))
-    seconds, left, right = len(rows[0][1]) / 100, 92, 830
+        rows.append((it, [sum(some) * float(PER_SECOND) / len(some) for some in around]))
+    seconds, left, right = len(rows[0][1]) / PER_SECOND, 92, 830
     d = Drawing(860, 640, "Five exports that start and stop one after another")
     d.text(20, 180, "4 KiB reads a second", anchor="middle", turn=-90)
     above = Panel(d, seconds, left, right, 50, 310, max(max(rates) for _, rates in rows) * 1.05)
@@ -87,6 +87,7 @@ def shares(figures, path):
     d.write(path)
 
 
+PER_SECOND = 200  # slices of measure.py's timeline
 PARTS = (0.1, 0.25, 0.5, 0.75, 0.9, 0.95, 0.98, 0.99, 0.995, 0.998, 0.999)  # those of load.c, up to 999 of 1,000
 
 

@@ -163,10 +163,10 @@ def shares(figures):
         table(["Exports", "Each is given", "By the first", "In"], rows)
 
 
-SLICE, RUN, CALM = 10, 3, 20  # ms of a slice; slices that are looked at together; slices that are left out behind an event
-OF_CHANGES = """An export that starts **has its share** at the end of the first slice of 10 ms in which its part of all requests is three quarters or more of its later part (that from 0.2 s behind the start to the
+SLICE, RUN, CALM = 5, 3, 40  # ms of a slice; slices that are looked at together; slices that are left out behind an event
+OF_CHANGES = """An export that starts **has its share** at the end of the first slice of 5 ms in which its part of all requests is three quarters or more of its later part (that from 0.2 s behind the start to the
 next event), and with the two slices behind it within 25 in 100 of that. The others **have the share of one that stops** at the end of the first slice in which they are given three quarters or more, in it and with the two
-slices behind it, of what they are given more later (from 0.2 s behind the stop to the next event) than before (from 0.2 s behind the event before). So 10 ms are the least that can be told. "Has come after" is the
+slices behind it, of what they are given more later (from 0.2 s behind the stop to the next event) than before (from 0.2 s behind the event before). So 5 ms are the least that can be told; what the client of one that stops still had under way is answered in them. "Has come after" is the
 median of the rounds, with the least and the greatest; rates are requests a second over the times named, medians of the rounds.
 """
 

@@ -5,3 +5,4 @@ pub mod RangeLemmas
 pub mod ZeroLemmas
 pub mod FlatLemmas
 pub mod HeldLemmas
+pub mod SameLemmas

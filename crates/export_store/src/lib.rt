@@ -4,6 +4,7 @@
 //! held from the first write on. Offsets, counts and sizes are in bytes.
 #![tactic(auto)]
 
+mod comparing;
 mod flat;
 mod image;
 mod offers;

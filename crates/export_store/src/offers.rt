@@ -2,6 +2,8 @@
 ghost use Rattle.std.specs.Prelude.{◌≡◌, ◌+◌, ◌≤◌, length, IfSome};
 ghost use Rattle.payload.specs.Bytes.{range_of, overwritten};
 
+use crate::comparing::is_put_over;
+use page_table::Swept;
 use payload::{Page, Payload};
 use std::alloc::Allocator;
 
@@ -41,6 +43,17 @@ impl<A: Allocator> Offers<A> {
 }
 
 impl<A: Allocator + Copy> Offers<A> {
+    // Hands out its pages, so that none is freed here.
+    pub(crate) fn let_go(self, swept: &mut Swept<A>) {
+        let Offers { first, last } = self;
+        if let Some(offer) = first {
+            swept.take_page(offer.page);
+        }
+        if let Some(offer) = last {
+            swept.take_page(offer.page);
+        }
+    }
+
     /// The page of a number, where it is an old one with so many bytes of a piece, from one on, in place of its own from the start on.
     pub(crate) fn page_over(
         &self,
@@ -59,7 +72,7 @@ impl<A: Allocator + Copy> Offers<A> {
         let Some(page) = self.page(number) else {
             return None;
         };
-        if !piece.is_put_over(page, old, start, from, count) {
+        if !is_put_over(piece, page, old, start, from, count) {
             return None;
         }
         page.clone().ok()

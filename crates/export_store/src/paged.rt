@@ -503,7 +503,8 @@ impl<A: Allocator + Copy> Image for Paged<A> {
     fn offer(&mut self, offset: usize, count: usize, other: &Paged<A>)
         ensures { self.new ≡ self.old }
     {
-        self.offers = other.ends_of(offset, count);
+        let before = mem::replace(&mut self.offers, other.ends_of(offset, count));
+        before.let_go(&mut self.swept);
     }
 
     fn sweep(&mut self, swept: &mut Swept<A>)

@@ -1,3 +1,4 @@
 pub mod Least
 pub mod Numbers
 pub mod Words
+pub mod Logs

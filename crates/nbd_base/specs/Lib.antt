@@ -1,3 +1,4 @@
 pub mod Words
 pub mod Range
 pub mod Least
+pub mod Logs

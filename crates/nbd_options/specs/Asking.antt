@@ -1,5 +1,5 @@
 -- Which sessions are asked for, and how that is answered.
-use Rattle.std.specs.Prelude.{◌≡◌, ℕ, List, [], ◌∷◌, ◌++◌, Option, Some, None, ⊤}
+use Rattle.std.specs.Prelude.{ℕ, List, [], ◌∷◌}
 use Rattle.nbd_options.specs.declared.answers.Next.{Next}
 use Rattle.nbd_options.specs.declared.answers.Next.TheVariants as nexts
 use Rattle.nbd_options.specs.declared.attach.Attached.{Attached}
@@ -11,12 +11,6 @@ pub record Asking : Type 0 where
 
 abbrev pub one_asking : ℕ → Attached → Asking
 one_asking n attached = record { export = n; answer = attached }
-
--- these were asked for behind those before, where they are known
-abbrev pub AsksFor : Option (List Asking) → Option (List Asking) → List Asking → Type 0
-AsksFor None new more = ⊤
-AsksFor (Some before) None more = ⊥
-AsksFor (Some before) (Some now) more = now ≡ before ++ more
 
 -- what is asked for by what comes after an option: a session of the export that GO or EXPORT_NAME goes to, and else none
 abbrev pub asked_by : Next → Attached → List Asking

@@ -1,5 +1,6 @@
 ghost use Rattle.std.specs.Prelude.{◌≡◌, ℕ, List, [], ◌∷◌, Option, None};
-ghost use Rattle.nbd_options.specs.Asking.{one_asking, Asking, AsksFor};
+ghost use Rattle.nbd_base.specs.Logs.{Notes};
+ghost use Rattle.nbd_options.specs.Asking.{one_asking, Asking};
 ghost use Rattle.nbd_options.specs.declared.attach.Attached.{Attached};
 ghost use Rattle.nbd_options.specs.declared.attach.Attached.TheVariants.{Given};
 
@@ -24,7 +25,7 @@ pub trait Attach {
     /// Asks for a session of an export, which is named by its place in the table.
     fn attach(&mut self, export: u32) -> Attached
         ensures answer { may export result }
-        ensures noted { AsksFor (askings self.old) (askings self.new)
+        ensures noted { Notes (askings self.old) (askings self.new)
             (one_asking export result ∷ []) };
 }
 

@@ -9,7 +9,8 @@ use Rattle.nbd_options.specs.declared.answers.Next.TheVariants as nexts
 use Rattle.nbd_options.specs.declared.saying.HaggleEnd.{HaggleEnd}
 use Rattle.nbd_options.specs.declared.saying.HaggleEnd.TheVariants as haggle_ends
 use Rattle.nbd_options.specs.declared.haggle.HeadFault.TheVariants as head_faults
-use Rattle.nbd_options.specs.Asking.{Asking, AsksFor, asked_by, one_asking}
+use Rattle.nbd_base.specs.Logs.{Notes}
+use Rattle.nbd_options.specs.Asking.{Asking, asked_by, one_asking}
 use Rattle.nbd_options.specs.Exports.{ExportFacts}
 use Rattle.nbd_options.specs.Replies.{ReplyMessage, next_after, replies_to}
 use Rattle.nbd_options.specs.Haggled.{Asked, said_by, said_to}

@@ -5,7 +5,9 @@ use Rattle.std.specs.List.{flat_map, AllByRecursion}
 use Rattle.std.specs.Int.{w32, to_be_bytes}
 use Rattle.std.specs.Io.KnownBytes.{Consumes}
 use Rattle.nbd_options.specs.declared.attach.Attached.{Attached}
-use Rattle.nbd_options.specs.Asking.{Asking, AsksFor}
+use Rattle.nbd_base.specs.Logs.{Notes}
+use Rattle.nbd_base.proofs.Logs.{notes_nothing, notes_then}
+use Rattle.nbd_options.specs.Asking.{Asking}
 use Rattle.nbd_options.specs.Exports.{ExportFacts}
 use Rattle.nbd_options.specs.Haggled.{Asked, wants_no_zeroes}
 use Rattle.nbd_session.specs.declared.outcomes.End.{End}
@@ -21,16 +23,6 @@ use Rattle.nbd_session.specs.Askings.{asked_at, asked_in, asked_last, last_text,
 use Rattle.nbd_session.proofs.KnownLemmas.{Consumes-then}
 use Rattle.nbd_session.proofs.BufferLemmas.{Consumes-none}
 
-pub asks_no_more : (u : Option (List Asking)) → AsksFor u u []
-asks_no_more None = tt
-asks_no_more (Some xs) = sym (append-nil xs)
-
-pub asks_then : (u v w : Option (List Asking)) (a b : List Asking) → AsksFor u v a → AsksFor v w b → AsksFor u w (a ++ b)
-asks_then None v w a b x y = tt
-asks_then (Some xs) None w a b x y = absurd x
-asks_then (Some xs) (Some ys) None a b x y = absurd y
-asks_then (Some xs) (Some ys) (Some zs) a b x y = y ∙ ap (λ (t : List Asking). t ++ b) x ∙ append_assoc xs a b
-
 -- one more at the end
 flat_map-last : {A B : Type 0} (f : A → List B) (xs : List A) (a : A) → flat_map f (xs ++ a ∷ []) ≡ flat_map f xs ++ f a
 flat_map-last f [] a = append-nil (f a)
@@ -45,33 +37,33 @@ pub record HasAsked (may : ℕ → Attached → Type 0) (table : List ExportFact
   pub asked : List Asked
   pub took : Consumes old new (flat_map asked_text asked)
   pub each : AllByRecursion (GoesOn may table bare) asked
-  pub noted : AsksFor log now (asked_in table asked)
+  pub noted : Notes log now (asked_in table asked)
   pub count : length asked ≡ seen
 
 module _ (may : ℕ → Attached → Type 0) (table : List ExportFacts) (bare : Bool) where
   pub asked_none : (log : Option (List Asking)) (old : Option (List ℕ)) (seen : ℕ) → seen ≡ 0 → HasAsked may table bare log log old old seen
-  asked_none log old seen none = record { asked = []; took = Consumes-none old; each = tt; noted = asks_no_more log; count = sym none }
+  asked_none log old seen none = record { asked = []; took = Consumes-none old; each = tt; noted = notes_nothing log; count = sym none }
 
   pub asked_more : (l0 l1 l2 : Option (List Asking)) (i0 i1 i2 : Option (List ℕ)) (seen next : ℕ) (a : Asked) → next ≡ seen + 1 → HasAsked may table bare l0 l1 i0 i1 seen
-      → GoesOn may table bare a → Consumes i1 i2 (asked_text a) → AsksFor l1 l2 (asked_at table a) → HasAsked may table bare l0 l2 i0 i2 next
+      → GoesOn may table bare a → Consumes i1 i2 (asked_text a) → Notes l1 l2 (asked_at table a) → HasAsked may table bare l0 l2 i0 i2 next
   asked_more l0 l1 l2 i0 i1 i2 seen next a is so on took noted = record {
     asked = so.asked ++ a ∷ [];
     took = subst (Consumes i0 i2) (sym (flat_map-last asked_text so.asked a)) (Consumes-then i0 i1 i2 (flat_map asked_text so.asked) (asked_text a) so.took took);
     each = all-last (GoesOn may table bare) so.asked a so.each on;
-    noted = subst (AsksFor l0 l2) (sym (flat_map-last (asked_at table) so.asked a)) (asks_then l0 l1 l2 (asked_in table so.asked) (asked_at table a) so.noted noted);
+    noted = subst (Notes l0 l2) (sym (flat_map-last (asked_at table) so.asked a)) (notes_then l0 l1 l2 (asked_in table so.asked) (asked_at table a) so.noted noted);
     count = omega (arith, length-append so.asked (a ∷ []), so.count, is);
   }
 
   -- one more, at which it ended
   pub asked_last_of : (l0 l1 l2 : Option (List Asking)) (i0 i1 i2 : Option (List ℕ)) (seen : ℕ) (a : Asked) (result : Result Entry TalkFault) → HasAsked may table bare l0 l1 i0 i1 seen
-      → Consumes i1 i2 (asked_text a) → AsksFor l1 l2 (asked_at table a) → EndsBy may table bare seen (Some a) [] result → AsksBehind may table bare [] l0 l2 i0 i2 result
+      → Consumes i1 i2 (asked_text a) → Notes l1 l2 (asked_at table a) → EndsBy may table bare seen (Some a) [] result → AsksBehind may table bare [] l0 l2 i0 i2 result
   asked_last_of l0 l1 l2 i0 i1 i2 seen a result so took noted ends = record {
     asked = so.asked;
     last = Some a;
     behind = [];
     took = subst (λ (t : List ℕ). Consumes i0 i2 (flat_map asked_text so.asked ++ t)) (sym (append-nil (asked_text a))) (Consumes-then i0 i1 i2 (flat_map asked_text so.asked) (asked_text a) so.took took);
     each = so.each;
-    noted = asks_then l0 l1 l2 (asked_in table so.asked) (asked_at table a) so.noted noted;
+    noted = notes_then l0 l1 l2 (asked_in table so.asked) (asked_at table a) so.noted noted;
     ends = subst (λ (n : ℕ). EndsBy may table bare n (Some a) [] result) (sym so.count) ends;
   }
 
@@ -84,7 +76,7 @@ module _ (may : ℕ → Attached → Type 0) (table : List ExportFacts) (bare : 
     behind = behind;
     took = Consumes-then i0 i1 i2 (flat_map asked_text so.asked) behind so.took took;
     each = so.each;
-    noted = subst (AsksFor l0 l1) (sym (append-nil (asked_in table so.asked))) so.noted;
+    noted = subst (Notes l0 l1) (sym (append-nil (asked_in table so.asked))) so.noted;
     ends = subst (λ (n : ℕ). EndsBy may table bare n None behind result) (sym so.count) ends;
   }
 
@@ -124,4 +116,4 @@ module _ (may : ℕ → Attached → Type 0) (table : List ExportFacts) (bare : 
 -- no option could be read
 pub asks_for_none : (may : ℕ → Attached → Type 0) (table : List ExportFacts) (log : Option (List Asking)) (i0 i1 : Option (List ℕ)) (bytes : List ℕ) (result : Result Entry TalkFault) → Consumes i0 i1 bytes
     → length bytes ≤ 4 → IsOutside result → Asks may table log log i0 i1 result
-asks_for_none may table log i0 i1 bytes result took few outside = inl (record { bytes = bytes; took = took; few = few; noted = asks_no_more log; outside = outside })
+asks_for_none may table log i0 i1 bytes result took few outside = inl (record { bytes = bytes; took = took; few = few; noted = notes_nothing log; outside = outside })

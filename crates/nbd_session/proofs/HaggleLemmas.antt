@@ -10,7 +10,8 @@ use Rattle.nbd_options.specs.declared.saying.HaggleEnd.{HaggleEnd}
 use Rattle.nbd_options.specs.declared.saying.HaggleEnd.TheVariants as haggle_ends
 use Rattle.nbd_options.specs.declared.haggle.HeadFault.TheVariants as head_faults
 use Rattle.nbd_options.specs.Exports.{ExportFacts}
-use Rattle.nbd_options.specs.Asking.{Asking, AsksFor, asked_by}
+use Rattle.nbd_base.specs.Logs.{Notes}
+use Rattle.nbd_options.specs.Asking.{Asking, asked_by}
 use Rattle.nbd_options.specs.declared.answers.Next.{Next}
 use Rattle.nbd_options.specs.Counting.{Counting}
 use Rattle.nbd_options.specs.Replies.{ClientOption, ReplyMessage, next_after, replies_to}
@@ -197,20 +198,20 @@ module _ (may : ℕ → Attached → Type 0) (table : List ExportFacts) (bare : 
   may_after seen next same is h = subst (λ (n : Next). MayAnswer may n answer) (is ∙ ap (λ (t : List ExportFacts). next_after t o) same) h
 
   -- and what it was asked for
-  pub asked_after : (a b : Option (List Asking)) (seen : Counting) (next : Next) → seen.table ≡ table → next ≡ next_after seen.table o → AsksFor a b (asked_by next answer)
-      → AsksFor a b (asked_by (next_after table o) answer)
-  asked_after a b seen next same is h = subst (λ (n : Next). AsksFor a b (asked_by n answer)) (is ∙ ap (λ (t : List ExportFacts). next_after t o) same) h
+  pub asked_after : (a b : Option (List Asking)) (seen : Counting) (next : Next) → seen.table ≡ table → next ≡ next_after seen.table o → Notes a b (asked_by next answer)
+      → Notes a b (asked_by (next_after table o) answer)
+  asked_after a b seen next same is h = subst (λ (n : Next). Notes a b (asked_by n answer)) (is ∙ ap (λ (t : List ExportFacts). next_after t o) same) h
 
-  pub nothing_said : (a b : Option (List Asking)) (u : Option (List ℕ)) → MayAnswer may (next_after table o) answer → AsksFor a b (asked_by (next_after table o) answer)
+  pub nothing_said : (a b : Option (List Asking)) (u : Option (List ℕ)) → MayAnswer may (next_after table o) answer → Notes a b (asked_by (next_after table o) answer)
       → Answers may table bare o a b u u (Err faults.NoMemory)
   nothing_said a b u m noted = record { answer = answer; may_be = m; noted = noted; said = ((λ e. cc), ([], said_here.text, refl, Appends-none u)) }
 
-  pub part_said : (a b : Option (List Asking)) (u v : Option (List ℕ)) (text : List ℕ) → MayAnswer may (next_after table o) answer → AsksFor a b (asked_by (next_after table o) answer)
+  pub part_said : (a b : Option (List Asking)) (u v : Option (List ℕ)) (text : List ℕ) → MayAnswer may (next_after table o) answer → Notes a b (asked_by (next_after table o) answer)
       → text ≡ said_here.text → WritesPart u v text → Answers may table bare o a b u v (Err faults.WriteFailed)
   part_said a b u v text m noted is part = record { answer = answer; may_be = m; noted = noted; said = ((λ e. cc), subst (WritesPart u v) is part) }
 
   pub all_said : (a b : Option (List Asking)) (u v : Option (List ℕ)) (text : List ℕ) (end : Option HaggleEnd) → MayAnswer may (next_after table o) answer
-      → AsksFor a b (asked_by (next_after table o) answer) → text ≡ said_here.text → end ≡ said_here.end → Appends u v text → Answers may table bare o a b u v (Ok end)
+      → Notes a b (asked_by (next_after table o) answer) → text ≡ said_here.text → end ≡ said_here.end → Appends u v text → Answers may table bare o a b u v (Ok end)
   all_said a b u v text end m noted is ended gave = record { answer = answer; may_be = m; noted = noted; said = (sym ended, subst (Appends u v) is gave) }
 
   -- the text and the end that are made of the replies

@@ -6,7 +6,8 @@ use Rattle.std.specs.Io.KnownBytes.{Consumes}
 use Rattle.nbd_options.specs.declared.attach.Attached.{Attached}
 use Rattle.nbd_options.specs.declared.attach.Attached.TheVariants as attached
 use Rattle.nbd_options.specs.declared.saying.HaggleEnd.{HaggleEnd}
-use Rattle.nbd_options.specs.Asking.{Asking, AsksFor, asked_by, one_asking}
+use Rattle.nbd_base.specs.Logs.{Notes}
+use Rattle.nbd_options.specs.Asking.{Asking, asked_by, one_asking}
 use Rattle.nbd_options.specs.Exports.{ExportFacts}
 use Rattle.nbd_options.specs.Replies.{next_after}
 use Rattle.nbd_options.specs.Haggled.{Asked, said_to, wants_no_zeroes}
@@ -50,7 +51,7 @@ pub record AsksBehind (may : ℕ → Attached → Type 0) (table : List ExportFa
   pub behind : List ℕ
   pub took : Consumes old new (front ++ (flat_map asked_text asked ++ (last_text last ++ behind)))
   pub each : AllByRecursion (GoesOn may table bare) asked
-  pub noted : AsksFor asked_old asked_new (asked_in table asked ++ asked_last table last)
+  pub noted : Notes asked_old asked_new (asked_in table asked ++ asked_last table last)
   pub ends : EndsBy may table bare (length asked) last behind result
 
 -- the client is in no export
@@ -65,7 +66,7 @@ pub record AsksForNone (asked_old asked_new : Option (List Asking)) (old new : O
   pub bytes : List ℕ
   pub took : Consumes old new bytes
   pub few : length bytes ≤ 4
-  pub noted : AsksFor asked_old asked_new []
+  pub noted : Notes asked_old asked_new []
   pub outside : IsOutside result
 
 -- the client's flags are known, and options follow

@@ -10,7 +10,8 @@ use Rattle.nbd_session.specs.declared.option_input.Offer.TheVariants as offers
 use Rattle.nbd_options.specs.declared.attach.Attached.{Attached}
 use Rattle.nbd_options.specs.declared.saying.HaggleEnd.{HaggleEnd}
 use Rattle.nbd_options.specs.Exports.{ExportFacts}
-use Rattle.nbd_options.specs.Asking.{Asking, AsksFor, asked_by}
+use Rattle.nbd_base.specs.Logs.{Notes}
+use Rattle.nbd_options.specs.Asking.{Asking, asked_by}
 use Rattle.nbd_options.specs.Replies.{ClientOption, next_after}
 use Rattle.nbd_options.specs.Haggled.{Said, said_to}
 use Rattle.nbd_session.specs.Options.{OptionStops, MayAnswer}
@@ -61,5 +62,5 @@ IsSaid said old new (Err fault) = (fault ≢ faults.ReadFailed) × WritesPart ol
 pub record Answers (may : ℕ → Attached → Type 0) (table : List ExportFacts) (bare : Bool) (o : ClientOption) (asked_old asked_new : Option (List Asking)) (old new : Option (List ℕ)) (result : Result (Option HaggleEnd) TalkFault) : Type 0 where
   pub answer : Attached
   pub may_be : MayAnswer may (next_after table o) answer
-  pub noted : AsksFor asked_old asked_new (asked_by (next_after table o) answer)
+  pub noted : Notes asked_old asked_new (asked_by (next_after table o) answer)
   pub said : IsSaid (said_to table bare (record { option = o; answer = answer })) old new result

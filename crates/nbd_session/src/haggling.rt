@@ -6,7 +6,8 @@ ghost use Rattle.nbd_session.specs.Conversation.{Handshake, IsEntryTold, Haggles
 ghost use Rattle.nbd_session.specs.Options.{MayAnswer, entry_after};
 ghost use Rattle.nbd_session.specs.Haggling.{Answers};
 ghost use Rattle.nbd_session.specs.Askings.{Asks, AsksBehind};
-ghost use Rattle.nbd_options.specs.Asking.{AsksFor, asked_by};
+ghost use Rattle.nbd_base.specs.Logs.{Notes};
+ghost use Rattle.nbd_options.specs.Asking.{asked_by};
 
 use crate::counted::Counted;
 use crate::exact_io::{Filled, fill, put};
@@ -122,10 +123,10 @@ fn answer<A: Allocator + Copy, W: Write, T: Attach>(
 }
 
 /// Asks for a session, where the client goes to an export.
-#[tactic(auto, using(crate::proofs::AskingLemmas::asks_no_more))]
+#[tactic(auto, using(crate::proofs::AskingLemmas::notes_nothing))]
 fn attached_to<T: Attach>(next: Next, attach: &mut T) -> Attached
     ensures may { MayAnswer T.may next result }
-    ensures noted { AsksFor (T.askings attach.old) (T.askings attach.new) (asked_by next result) }
+    ensures noted { Notes (T.askings attach.old) (T.askings attach.new) (asked_by next result) }
 {
     match next {
         Next::Go(export) | Next::ByName(export) => attach.attach(export),

@@ -1,34 +1,26 @@
 -- What the program did, one thing after another.
 use Rattle.std.proofs.Common.{◌≡◌, ℕ, Bool, List, [], ◌∷◌, ◌++◌, Option, Some, None, Result, Ok, Err, refl, sym, ap, subst, ◌∙◌, append_assoc, append-nil}
 use Rattle.clap.specs.Words.{kind_of}
+use Rattle.nbd_base.specs.Logs.{Notes}
+use Rattle.nbd_base.proofs.Logs.{notes_nothing, notes_then}
 use Rattle.clap.specs.declared.error.Error.{Error}
 use Rattle.nbdq_cli.specs.declared.command_line.Job.{Job}
 use Rattle.nbdq_cli.specs.declared.outcome.Ending.{Ending}
 use Rattle.nbdq_cli.specs.declared.outcome.Ending.TheVariants as ends
 use Rattle.nbdq_cli.specs.Outcomes.{end_of_kind, status_of_end, text_of_end}
-use Rattle.nbdq_cli.specs.Deeds.{end_shown, line_told, ComesTo, Deed, Dispatches, Does, Explains, RefusedWith, Refuses, Runs, Shows}
+use Rattle.nbdq_cli.specs.Deeds.{end_shown, line_told, ComesTo, Deed, Dispatches, Explains, RefusedWith, Refuses, Runs, Shows}
 
-pub does_nothing : (u : Option (List Deed)) → Does u u []
-does_nothing None = tt
-does_nothing (Some xs) = sym (append-nil xs)
-
-pub does_then : (u v w : Option (List Deed)) (a b : List Deed) → Does u v a → Does v w b → Does u w (a ++ b)
-does_then None v w a b x y = tt
-does_then (Some xs) None w a b x y = absurd x
-does_then (Some xs) (Some ys) None a b x y = absurd y
-does_then (Some xs) (Some ys) (Some zs) a b x y = y ∙ ap (λ (t : List Deed). t ++ b) x ∙ append_assoc xs a b
-
-pub dispatches : (asked : Result Job Error) (a b c : Option (List Deed)) (end : Ending) (status : ℕ) → ComesTo asked a b end → Does b c (line_told (text_of_end end)) → status ≡ status_of_end end
+pub dispatches : (asked : Result Job Error) (a b c : Option (List Deed)) (end : Ending) (status : ℕ) → ComesTo asked a b end → Notes b c (line_told (text_of_end end)) → status ≡ status_of_end end
     → Dispatches asked a c status
 dispatches asked a b c end status comes told exit = record {
   deeds = comes.deeds;
   end = end;
   goes = comes.goes;
-  done = does_then a b c comes.deeds (line_told (text_of_end end)) comes.done told;
+  done = notes_then a b c comes.deeds (line_told (text_of_end end)) comes.done told;
   exit = exit;
 }
 
-pub ran : (job : Job) (a b : Option (List Deed)) (end : Ending) → Does a b (Runs job end ∷ []) → ComesTo (Ok job) a b end
+pub ran : (job : Job) (a b : Option (List Deed)) (end : Ending) → Notes a b (Runs job end ∷ []) → ComesTo (Ok job) a b end
 ran job a b end did = record { deeds = Runs job end ∷ []; goes = refl; done = did }
 
 pub refused : (error : Error) (a b : Option (List Deed)) (end : Ending) → RefusedWith error a b end → ComesTo (Err error) a b end
@@ -36,14 +28,14 @@ refused error a b end with_it = record { deeds = with_it.deeds; goes = with_it.r
 
 -- the version was to be shown
 pub shown : (error : Error) (a b : Option (List Deed)) (written : Bool) (end : Ending) → ends.Version ≡ end_of_kind (kind_of error) → end ≡ end_shown written
-    → Does a b (Shows error written ∷ []) → RefusedWith error a b end
+    → Notes a b (Shows error written ∷ []) → RefusedWith error a b end
 shown error a b written end is comes did = record {
   deeds = Shows error written ∷ [];
   refuses = subst (λ (e : Ending). Refuses e error (Shows error written ∷ []) end) is (written, refl, comes);
   done = did;
 }
 
-pub explained : (error : Error) (a b : Option (List Deed)) → ends.Usage ≡ end_of_kind (kind_of error) → Does a b (Explains error ∷ []) → RefusedWith error a b ends.Usage
+pub explained : (error : Error) (a b : Option (List Deed)) → ends.Usage ≡ end_of_kind (kind_of error) → Notes a b (Explains error ∷ []) → RefusedWith error a b ends.Usage
 explained error a b is did = record {
   deeds = Explains error ∷ [];
   refuses = subst (λ (e : Ending). Refuses e error (Explains error ∷ []) ends.Usage) is (refl, refl);
@@ -65,5 +57,5 @@ pub unshown : (error : Error) (a : Option (List Deed)) (end : Ending) → end �
 unshown error a end is no_version no_usage = record {
   deeds = [];
   refuses = subst (λ (e : Ending). Refuses e error [] end) is (otherwise error end no_version no_usage);
-  done = does_nothing a;
+  done = notes_nothing a;
 }

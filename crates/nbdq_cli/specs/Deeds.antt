@@ -1,6 +1,7 @@
 -- What the program does by what its command line asks for: which command runs, what the shell is told, and the exit status.
 use Rattle.std.specs.Prelude.{◌≡◌, ℕ, Bool, true, false, List, [], ◌∷◌, ◌++◌, Option, Some, None, Result, Ok, Err, ⊤}
 use Rattle.clap.specs.Words.{kind_of}
+use Rattle.nbd_base.specs.Logs.{Notes}
 use Rattle.clap.specs.declared.error.Error.{Error}
 use Rattle.nbd_scripts.specs.declared.outcome.Outcome.TheVariants.{WriteFailed}
 use Rattle.nbdq_cli.specs.declared.command_line.Job.{Job}
@@ -15,12 +16,6 @@ pub data Deed : Type 0 where
   Shows : Error → Bool → Deed
   Explains : Error → Deed
   Tells : List ℕ → Deed
-
--- these things were done, where what was done is known
-abbrev pub Does : Option (List Deed) → Option (List Deed) → List Deed → Type 0
-Does None new deeds = ⊤
-Does (Some done) None deeds = ⊥
-Does (Some done) (Some now) deeds = now ≡ done ++ deeds
 
 -- how the program ends where the version was to be shown
 abbrev pub end_shown : Bool → Ending
@@ -48,17 +43,17 @@ pub record Dispatches (asked : Result Job Error) (old new : Option (List Deed)) 
   pub deeds : List Deed
   pub end : Ending
   pub goes : Goes asked deeds end
-  pub done : Does old new (deeds ++ line_told (text_of_end end))
+  pub done : Notes old new (deeds ++ line_told (text_of_end end))
   pub exit : status ≡ status_of_end end
 
 -- the same up to the line
 pub record ComesTo (asked : Result Job Error) (old new : Option (List Deed)) (end : Ending) : Type 0 where
   pub deeds : List Deed
   pub goes : Goes asked deeds end
-  pub done : Does old new deeds
+  pub done : Notes old new deeds
 
 -- the same where no command is asked for
 pub record RefusedWith (error : Error) (old new : Option (List Deed)) (end : Ending) : Type 0 where
   pub deeds : List Deed
   pub refuses : Refuses (end_of_kind (kind_of error)) error deeds end
-  pub done : Does old new deeds
+  pub done : Notes old new deeds

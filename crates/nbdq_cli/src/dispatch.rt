@@ -4,7 +4,8 @@ ghost use Rattle.std.specs.Prelude.{List, [], ◌∷◌, None, Option, ⊤};
 ghost use Rattle.nbdq_cli.specs.declared.command_line.Job.TheVariants as jobs;
 ghost use Rattle.nbdq_cli.specs.declared.outcome.Ending.TheVariants.{Ran};
 ghost use Rattle.nbdq_cli.specs.Outcomes.{text_of_end};
-ghost use Rattle.nbdq_cli.specs.Deeds.{line_told, ComesTo, Deed, Dispatches, Does, Explains, RefusedWith, Runs, Shows, Tells};
+ghost use Rattle.nbd_base.specs.Logs.{Notes};
+ghost use Rattle.nbdq_cli.specs.Deeds.{line_told, ComesTo, Deed, Dispatches, Explains, RefusedWith, Runs, Shows, Tells};
 
 use crate::command_line::{ControlTask, Job, ServeTask, Task};
 use crate::outcome::{Ending, Outcome, end_of_refusal, status_of_end, text_of_end};
@@ -22,37 +23,37 @@ pub trait Commands {
     fn task(&mut self, task: Task) -> Outcome
         requires { ready self.old }
         ensures ready { ready self.new }
-        ensures done { Does (deeds self.old) (deeds self.new) (Runs (jobs.Task task) (Ran result) ∷ []) };
+        ensures done { Notes (deeds self.old) (deeds self.new) (Runs (jobs.Task task) (Ran result) ∷ []) };
 
     /// Serves disks.
     fn serve(&mut self, task: &ServeTask) -> Ending
         requires { ready self.old }
         ensures ready { ready self.new }
-        ensures done { Does (deeds self.old) (deeds self.new) (Runs (jobs.Serve task.now) result ∷ []) };
+        ensures done { Notes (deeds self.old) (deeds self.new) (Runs (jobs.Serve task.now) result ∷ []) };
 
     /// Asks a server that runs.
     fn control(&mut self, task: &ControlTask) -> Ending
         requires { ready self.old }
         ensures ready { ready self.new }
-        ensures done { Does (deeds self.old) (deeds self.new) (Runs (jobs.Control task.now) result ∷ []) };
+        ensures done { Notes (deeds self.old) (deeds self.new) (Runs (jobs.Control task.now) result ∷ []) };
 
     /// Shows the text of the command line's parser on standard output, and tells whether it was written.
     fn show(&mut self, error: &Error) -> bool
         requires { ready self.old }
         ensures ready { ready self.new }
-        ensures done { Does (deeds self.old) (deeds self.new) (Shows error.now result ∷ []) };
+        ensures done { Notes (deeds self.old) (deeds self.new) (Shows error.now result ∷ []) };
 
     /// Shows that text on standard error.
     fn explain(&mut self, error: &Error)
         requires { ready self.old }
         ensures ready { ready self.new }
-        ensures done { Does (deeds self.old) (deeds self.new) (Explains error.now ∷ []) };
+        ensures done { Notes (deeds self.old) (deeds self.new) (Explains error.now ∷ []) };
 
     /// Tells standard error a line.
     fn tell(&mut self, line: &str)
         requires { ready self.old }
         ensures ready { ready self.new }
-        ensures done { Does (deeds self.old) (deeds self.new) (Tells line.now ∷ []) };
+        ensures done { Notes (deeds self.old) (deeds self.new) (Tells line.now ∷ []) };
 }
 
 /// Runs what is asked for, tells standard error the line of its end, and answers the exit status. A standard error that fails changes
@@ -82,7 +83,7 @@ fn go<C: Commands>(commands: &mut C, asked: Result<Job, Error>) -> Ending
 fn run_job<C: Commands>(commands: &mut C, job: &Job) -> Ending
     requires { C.ready commands.old }
     ensures ready { C.ready commands.new }
-    ensures done { Does (C.deeds commands.old) (C.deeds commands.new) (Runs job.now result ∷ []) }
+    ensures done { Notes (C.deeds commands.old) (C.deeds commands.new) (Runs job.now result ∷ []) }
 {
     match job {
         Job::Task(task) => Ending::Ran(commands.task(*task)),
@@ -115,10 +116,10 @@ fn refuse<C: Commands>(commands: &mut C, error: &Error) -> Ending
 }
 
 /// Tells the line of an end, if it has one.
-#[tactic(auto, using(crate::proofs::DeedLemmas::does_nothing))]
+#[tactic(auto, using(crate::proofs::DeedLemmas::notes_nothing))]
 fn tell_end<C: Commands>(commands: &mut C, end: Ending)
     requires { C.ready commands.old }
-    ensures { Does (C.deeds commands.old) (C.deeds commands.new) (line_told (text_of_end end)) }
+    ensures { Notes (C.deeds commands.old) (C.deeds commands.new) (line_told (text_of_end end)) }
 {
     if let Some(line) = text_of_end(end) {
         commands.tell(line);

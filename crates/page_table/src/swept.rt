@@ -1,4 +1,4 @@
-ghost use Rattle.std.specs.Prelude.{◌≡◌, [], length, IfOk};
+ghost use Rattle.std.specs.Prelude.{◌≡◌, ◌⊎◌, ◌++◌, ◌∷◌, [], length, IfOk};
 ghost use Rattle.page_table.specs.Swept.{nothing};
 
 use crate::chunks::Chunk;
@@ -70,7 +70,10 @@ impl<A: Allocator + Copy> Swept<A> {
     }
 
     /// A page that isn't needed any more. Where there is no room for it, it is let go.
-    pub(crate) fn take_page(&mut self, page: Page<A>) {
+    pub fn take_page(&mut self, page: Page<A>)
+        ensures pages { (self.new.0 ≡ self.old.0 ++ page ∷ []) ⊎ (self.new.0 ≡ self.old.0) }
+        ensures chunks { self.new.1 ≡ self.old.1 }
+    {
         if self.pages.len() < self.pages.capacity() {
             self.pages.push_reserved(page);
         }

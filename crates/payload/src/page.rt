@@ -1,4 +1,4 @@
-ghost use Rattle.std.specs.Prelude.{◌≡◌, ◌+◌, ◌≤◌, ◌↔◌, length, IfOk, IsTrue};
+ghost use Rattle.std.specs.Prelude.{◌≡◌, ◌+◌, ◌≤◌, length, IfOk};
 ghost use Rattle.payload.specs.Bytes.{overwritten};
 ghost use Rattle.payload.specs.Rows.{zero_page};
 
@@ -27,18 +27,6 @@ pub(crate) fn put<A: Allocator>(bytes: &mut Vec<u8, A>, at: usize, part: &[u8])
     ensures { bytes.new.items ≡ overwritten bytes.old.items at (length part.now) part.now }
 {
     bytes[at..at + part.len()].copy_from_slice(part);
-}
-
-/// Whether bytes are the same. It looks at all of them without a branch, so many are compared at once.
-pub(crate) fn are_same(one: &[u8], other: &[u8]) -> bool
-    requires { length one.now ≡ length other.now }
-    ensures { IsTrue result ↔ one.now ≡ other.now }
-{
-    let mut same = true;
-    for at in 0..one.len() {
-        same &= one[at] == other[at];
-    }
-    same
 }
 
 /// 4,096 bytes that don't change. A clone is one more owner of them, and copies none.

@@ -1,10 +1,10 @@
-ghost use Rattle.std.specs.Prelude.{◌≡◌, ◌+◌, ◌-◌, ◌<◌, ◌≤◌, ◌++◌, ◌==◌, ◌↔◌, [], length, IsTrue, IfOk, IfErr, IfSome, OnOk, OnErr};
+ghost use Rattle.std.specs.Prelude.{◌≡◌, ◌+◌, ◌-◌, ◌<◌, ◌≤◌, ◌++◌, ◌==◌, [], length, IfOk, IfErr, IfSome, OnOk, OnErr};
 ghost use Rattle.std.specs.List.{concat};
 ghost use Rattle.payload.specs.Bytes.{range_of, overwritten};
 ghost use Rattle.payload.specs.Rows.{AreWhole};
 
 use crate::growing::Growing;
-use crate::page::{PAGE, Page, are_same, put};
+use crate::page::{PAGE, Page, put};
 use crate::pieces::Pieces;
 use bytes::Bytes;
 use nbd_base::NoMemory;
@@ -232,52 +232,6 @@ impl<A: Allocator + Copy> Payload<A> {
             }
         }
         self.copied_over(alloc, page, start, from, count)
-    }
-
-    // Whether so many of these bytes, from one on, stand among others from the start on.
-    fn stands_in(&self, bytes: &[u8], start: usize, from: usize, count: usize) -> bool
-        requires fits { start + count ≤ length bytes.now }
-        requires within { from + count ≤ length self.now }
-        ensures { IsTrue result
-            ↔ range_of bytes.now start count ≡ range_of self.now from count }
-    {
-        // No place is past the greatest usize, since the length is one.
-        let _len = self.len();
-        let mut done = 0;
-        while done < count {
-            let part = self.from(from + done);
-            let n = part.len().min(count - done);
-            if !are_same(&bytes[start + done..start + done + n], &part[..n]) {
-                return false;
-            }
-            done += n;
-        }
-        true
-    }
-
-    /// Whether a page is what `put_over` makes of an old one. It copies nothing.
-    pub fn is_put_over(
-        &self,
-        page: &Page<A>,
-        old: &Page<A>,
-        start: usize,
-        from: usize,
-        count: usize,
-    ) -> bool
-        requires fits { start + count ≤ 4096 }
-        requires within { from + count ≤ length self.now }
-        ensures { IsTrue result
-            ↔ page.now ≡ overwritten old.now start count (range_of self.now from count) }
-    {
-        let end = start + count;
-        let (new, old) = (page.as_slice(), old.as_slice());
-        if !are_same(&new[..start], &old[..start]) {
-            return false;
-        }
-        if !are_same(&new[end..], &old[end..]) {
-            return false;
-        }
-        self.stands_in(new, start, from, count)
     }
 
     // The same by a copy.

@@ -102,33 +102,6 @@ fn gives_an_edge<R: Abort + AllocGlobal>(rt: &R, payload: &Kept, bytes: &[u8]) {
     assert!(rt; edge.as_slice().get(..4_000) == bytes.get(4_000..8_000));
 }
 
-// Sees that a page which differs from another in one byte isn't told to be what 96 bytes put over an old one make.
-fn tells_a_byte<R: Abort + AllocGlobal>(
-    rt: &R,
-    payload: &Kept,
-    page: &Page<Global>,
-    old: &Page<Global>,
-    place: usize,
-) {
-    assert!(rt; payload.len() == 10_000 && place < 4_096);
-    let byte = page.as_slice()[place].wrapping_add(1);
-    let other = page.with(rt.alloc(), place, &[byte]);
-    let other = other.expect(rt, "memory");
-    assert!(rt; !payload.is_put_over(&other, old, 300, 8_050, 96));
-}
-
-// Sees that a page is told to be what bytes of two pages of the payload put over another make, and none that differs in one byte.
-fn tells_what_is_put_over<R: Abort + AllocGlobal>(rt: &R, payload: &Kept) {
-    assert!(rt; payload.len() == 10_000);
-    let page = payload.page_at(4_000).expect(rt, "a page");
-    let over = payload.put_over(rt.alloc(), page, 300, 8_050, 96);
-    let over = over.expect(rt, "memory");
-    assert!(rt; payload.is_put_over(&over, page, 300, 8_050, 96));
-    for place in [0, 299, 300, 345, 346, 395, 396, 4_095] {
-        tells_a_byte(rt, payload, &over, page, place);
-    }
-}
-
 #[test]
 fn a_page_takes_a_part_of_a_payload(rt: HostRuntime) {
     let bytes = numbers(&rt, 10_000);
@@ -136,7 +109,6 @@ fn a_page_takes_a_part_of_a_payload(rt: HostRuntime) {
     gives_a_page(&rt, &payload, 4_000, &bytes);
     gives_a_page(&rt, &payload, 3_999, &bytes);
     gives_an_edge(&rt, &payload, &bytes);
-    tells_what_is_put_over(&rt, &payload);
 }
 
 #[test]

@@ -106,6 +106,27 @@ fn a_page_that_differs_is_not_taken(rt: HostRuntime) {
     assert!(rt; has_nines(&heap, &image, 100, 4096));
 }
 
+// Whether a page that differs from the one that nines in 300 to 395 make is made anew, where it differs in a byte at this place.
+fn sees_a_byte(heap: &Refusing<Global>, place: usize) -> bool {
+    let (Ok(mut other), Ok(mut image)) = (filled::<Kept<'_>>(heap), filled::<Kept<'_>>(heap)) else {
+        return false;
+    };
+    let Ok(byte) = Payload::copied(heap, place as u64, &[8]) else {
+        return false;
+    };
+    puts_nines(heap, &mut other, 300, 96)
+        && puts(&mut other, place, &byte)
+        && takes_offered(heap, &mut image, &other, 300, 96, 2)
+}
+
+#[test]
+fn a_page_that_differs_in_one_byte_is_not_taken(rt: HostRuntime) {
+    let heap = Refusing::new(rt.alloc(), 0);
+    for place in [0, 299, 300, 345, 395, 396, 4095] {
+        assert!(rt; sees_a_byte(&heap, place));
+    }
+}
+
 fn writes_as_before<I: Image>(alloc: I::Alloc) -> bool {
     let Ok(mut image) = filled::<I>(alloc) else {
         return false;

@@ -1,11 +1,11 @@
 use Rattle.std.proofs.Common.{◌-◌, ◌≡◌, ◌≤◌}
 use Rattle.payload.specs.Bytes.{range_of}
-use Rattle.payload.proofs.payload.Payload.stands_in.Given as goal
+use Rattle.export_store.proofs.comparing.stands_in.Given as goal
 
 abbrev pub invariant-loop-done : goal.invariant-loop-done
 invariant-loop-done g l = record {
   upto : l.done ≤ l.count;
-  same : range_of l.bytes l.start l.done ≡ range_of l.self l.from l.done;
+  same : range_of l.bytes l.start l.done ≡ range_of l.piece l.from l.done;
 }
 
 abbrev pub decreases-loop-done : goal.decreases-loop-done

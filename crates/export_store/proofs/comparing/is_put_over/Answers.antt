@@ -1,8 +1,8 @@
 use Rattle.std.proofs.Common.{◌≡◌, ◌+◌, ◌≤◌, ℕ, List, length, ap, sym, ◌∙◌, arith}
 use Rattle.payload.specs.Bytes.{range_of, overwritten}
 use Rattle.payload.proofs.BytesLemmas.{length-range_of}
-use Rattle.payload.proofs.Comparing.{middle_of, put_together}
-use Rattle.payload.proofs.payload.Payload.is_put_over.Goals as goal
+use Rattle.export_store.proofs.SameLemmas.{middle_of, put_together}
+use Rattle.export_store.proofs.comparing.is_put_over.Goals as goal
 
 pub returns : goal.returns
 returns g c =
@@ -10,8 +10,8 @@ returns g c =
     let old : List ℕ = c.as_slice-old.result.now in
     let start : ℕ = c.args.start in
     let count : ℕ = c.args.count in
-    let bytes : List ℕ = range_of c.args.self.now c.args.from count in
-    let long : length bytes ≡ count = length-range_of c.args.self.now c.args.from count c.requires.within in
+    let bytes : List ℕ = range_of c.args.piece.now c.args.from count in
+    let long : length bytes ≡ count = length-range_of c.args.piece.now c.args.from count c.requires.within in
     let whole : length new ≡ 4096 = ap length c.as_slice-new.ensures.bytes ∙ c.as_slice-new.ensures.whole in
     let also : length old ≡ 4096 = ap length c.as_slice-old.ensures.bytes ∙ c.as_slice-old.ensures.whole in
     let fits : start + count ≤ length old = omega (arith, also, c.requires.fits) in

@@ -1,0 +1,144 @@
+#!/usr/bin/env python3
+"""Tries must-fail edits together: those of different functions are made in one copy of their crate, which is checked once.
+
+  tests/edits_together.py [--all] [--jobs N] [NAME..]      crates; all that have edits where none is named
+
+Without --all it tries one edit for each public function that has none in crates/NAME/must-fail: the first of tests/edits/NAME
+that lies in its body, or that turns the statement of a law. With --all it tries each of tests/edits/NAME. An edit counts as
+refused where the prover says at a line of the function that it edits that a goal isn't proved. It works in a copy, over what
+`rt ci` or `rt check` left in out/, has N checks beside each other (as many as half the processors), and prints a line for each
+edit. The last line counts; the status is 0 where all are refused.
+"""
+import argparse
+import os
+import re
+import shutil
+import subprocess
+import sys
+import tempfile
+from concurrent.futures import ThreadPoolExecutor
+
+from public_edits import LAWS, TOP, exported, functions_of, places, sources
+
+
+class Function:
+    def __init__(self, file, owner, trait, name, start, end, public):
+        self.file, self.start, self.end, self.public, self.name = file, start, end, public, f"{owner}::{name}" if owner else name
+        parts = [it for it in file[len("src/") : -len(".rt")].split("/") if it not in ("lib", "main")]
+        kind = owner + (trait if trait and trait != owner else "") if owner else ""
+        self.path = "::".join([*parts, *([kind] if kind else []), name])
+
+    def lines(self, text):
+        return text.count("\n", 0, self.start) + 1, text.count("\n", 0, self.end) + 1
+
+
+def all_functions(folder):
+    public = exported(folder)
+    for path in sources(folder):
+        for owner, trait, name, seen, start, _, end, _ in functions_of(path):
+            is_public = (owner or name) in public and (seen == "pub" or trait is not None)
+            yield Function(os.path.relpath(path, folder), owner, trait, name, start, end, is_public)
+
+
+def edits_of(name, all_of_them):
+    """The edits to try of a crate, each with the functions that it lies in."""
+    folder, beside = f"{TOP}/crates/{name}", f"{TOP}/tests/edits/{name}"
+    functions = list(all_functions(folder))
+    within = lambda at: [f for f in functions if any(file == f.file and f.start <= offset < f.end for file, offset in at)]
+    rooms = [f"{folder}/must-fail", beside]
+    found = [{it: within(places(f"{room}/{it}", folder)[0]) for it in sorted(os.listdir(room))} if os.path.isdir(room) else {} for room in rooms]
+    if all_of_them:
+        return found[1]
+    law_of = lambda f: LAWS.get(f"{name} {f.name}", "") + ".edit"
+    chosen = {}
+    for f in (f for f in functions if f.public):
+        if any(f in hit for hit in found[0].values()) or law_of(f) in found[0]:
+            continue
+        edit = next((it for it, hit in found[1].items() if f in hit), law_of(f))
+        if edit in found[1]:
+            chosen[edit] = found[1][edit] or [f]
+    return chosen
+
+
+def rounds_of(edits):
+    """Rows of edits no two of which lie in one function or one place."""
+    rows = []
+    for edit, hit in edits.items():
+        row = next((row for row in rows if not any(set(hit) & set(other) for other in row.values())), None)
+        if row is None:
+            rows.append(row := {})
+        row[edit] = hit
+    return rows
+
+
+def pairs_of(path):
+    file, old = "", None
+    for line in open(path, encoding="utf-8").read().split("\n"):
+        if line.startswith("file: "):
+            file = line[6:].strip()
+        elif line.startswith("old: "):
+            old = line[5:]
+        elif line.startswith("new:") and old is not None:
+            yield file, old, line[5:]
+            old = None
+
+
+def try_row(name, row):
+    """What each edit of a row comes to: None where it is refused, and else why not."""
+    room = tempfile.mkdtemp(prefix="nbdq-edits-")
+    try:
+        for it in ("crates.txt", "HANDLES"):
+            shutil.copy(f"{TOP}/{it}", room)
+        subprocess.run(["cp", "-al", f"{TOP}/crates", room], check=True)
+        folder = f"{room}/crates/{name}"
+        for it in ("src", "specs"):
+            if os.path.isdir(f"{TOP}/crates/{name}/{it}"):
+                shutil.rmtree(f"{folder}/{it}")
+                shutil.copytree(f"{TOP}/crates/{name}/{it}", f"{folder}/{it}")
+        for edit in row:
+            for file, old, new in pairs_of(f"{TOP}/tests/edits/{name}/{edit}"):
+                text = open(f"{folder}/{file}", encoding="utf-8").read()
+                if text.count(old) != 1:
+                    return {it: f"{edit}: its text is in {file} {text.count(old)} times" for it in row}
+                with open(f"{folder}/{file}", "w", encoding="utf-8") as out:
+                    out.write(text.replace(old, new))
+        paths = sorted({f.path for hit in row.values() for f in hit})
+        words = ["rt", "check", "--jobs", "1", *(word for it in paths for word in ("--only", it))]
+        ran = subprocess.run(words, cwd=folder, stdin=subprocess.DEVNULL, stdout=subprocess.PIPE, stderr=subprocess.STDOUT, text=True, errors="replace")
+        return {edit: why_not(name, folder, ran.stdout, hit) for edit, hit in row.items()}
+    finally:
+        shutil.rmtree(room, ignore_errors=True)
+
+
+def why_not(name, folder, said, hit):
+    if not re.search(r"^only=\d+ proved=\d+", said, re.M):
+        return "the check gave no verdict: " + " / ".join(it[:200] for it in said.split("\n") if "error" in it)[:400]
+    here = {f.path: f for f in all_functions(folder)}
+    for f in (here[it.path] for it in hit):
+        first, last = f.lines(open(f"{folder}/{f.file}", encoding="utf-8").read())
+        told = re.findall(rf"^(?:note: )?(?:\./)?{re.escape(f.file)}:(\d+):\d+: (?:error|it is not proved)", said, re.M)
+        if f"fn {name}::{f.path}: proved" not in said and any(first <= int(line) <= last for line in told):
+            return None
+    return "still proved: " + ", ".join(f.path for f in hit)
+
+
+def main():
+    words = argparse.ArgumentParser(formatter_class=argparse.RawDescriptionHelpFormatter, description=__doc__)
+    words.add_argument("--all", action="store_true")
+    words.add_argument("--jobs", type=int, default=max(len(os.sched_getaffinity(0)) // 2, 1))
+    words.add_argument("names", nargs="*")
+    o = words.parse_args()
+    names = o.names or sorted(it for it in os.listdir(f"{TOP}/tests/edits") if os.path.isdir(f"{TOP}/crates/{it}"))
+    rows = [(name, row) for name in names for row in rounds_of(edits_of(name, o.all))]
+    failed = tried = 0
+    with ThreadPoolExecutor(o.jobs) as pool:
+        for (name, row), found in zip(rows, pool.map(lambda it: try_row(*it), rows)):
+            for edit, why in found.items():
+                tried, failed = tried + 1, failed + (why is not None)
+                print(f"edit {name}/{edit}: {'NOT REFUSED: ' + why if why else 'refused, as it must be'}", flush=True)
+    print(f"{tried - failed} edits refused, {failed} not")
+    return 1 if failed else 0
+
+
+if __name__ == "__main__":
+    sys.exit(main())
