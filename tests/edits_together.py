@@ -1,13 +1,13 @@
 #!/usr/bin/env python3
 """Tries must-fail edits together: those of different functions are made in one copy of their crate, which is checked once.
 
-  tests/edits_together.py [--all] [--jobs N] [NAME..]      crates; all that have edits where none is named
+  tests/edits_together.py [--beside] [--jobs N] [NAME..]      crates; all that have edits where none is named
 
-Without --all it tries one edit for each public function that has none in crates/NAME/must-fail: the first of tests/edits/NAME
-that lies in its body, or that turns the statement of a law. With --all it tries each of tests/edits/NAME. An edit counts as
-refused where the prover says at a line of the function that it edits that a goal isn't proved. It works in a copy, over what
-`rt ci` or `rt check` left in out/, has N checks beside each other (as many as half the processors), and prints a line for each
-edit. The last line counts; the status is 0 where all are refused.
+It tries those of tests/gate/NAME, with --beside those of tests/edits/NAME. An edit counts as refused where the prover says at a
+line of the function that it edits that a goal isn't proved; one that lies in none (a constant, a statement) is tried alone, over
+all of its crate. It works in a copy, over what `rt ci` or `rt check` left in out/,
+has N checks beside each other (as many as half the processors), and prints a line for each edit. The last line counts; the
+status is 0 where all are refused.
 """
 import argparse
 import os
@@ -18,53 +18,46 @@ import sys
 import tempfile
 from concurrent.futures import ThreadPoolExecutor
 
-from public_edits import LAWS, TOP, exported, functions_of, places, sources
+from public_edits import LAWS, TOP, functions_of, places, sources
 
 
 class Function:
-    def __init__(self, file, owner, trait, name, start, end, public):
-        self.file, self.start, self.end, self.public, self.name = file, start, end, public, f"{owner}::{name}" if owner else name
+    def __init__(self, file, owner, trait, name, start, end):
+        self.file, self.start, self.end, self.name = file, start, end, f"{owner}::{name}" if owner else name
         parts = [it for it in file[len("src/") : -len(".rt")].split("/") if it not in ("lib", "main")]
         kind = owner + (trait if trait and trait != owner else "") if owner else ""
         self.path = "::".join([*parts, *([kind] if kind else []), name])
+
+    def holds(self, at):
+        return any(file == self.file and self.start <= offset < self.end for file, offset in at)
 
     def lines(self, text):
         return text.count("\n", 0, self.start) + 1, text.count("\n", 0, self.end) + 1
 
 
 def all_functions(folder):
-    public = exported(folder)
     for path in sources(folder):
-        for owner, trait, name, seen, start, _, end, _ in functions_of(path):
-            is_public = (owner or name) in public and (seen == "pub" or trait is not None)
-            yield Function(os.path.relpath(path, folder), owner, trait, name, start, end, is_public)
+        for owner, trait, name, _, start, _, end, _ in functions_of(path):
+            yield Function(os.path.relpath(path, folder), owner, trait, name, start, end)
 
 
-def edits_of(name, all_of_them):
-    """The edits to try of a crate, each with the functions that it lies in."""
-    folder, beside = f"{TOP}/crates/{name}", f"{TOP}/tests/edits/{name}"
+def edits_of(name, room):
+    """The edits of a crate that lie in a folder, each with the functions that it edits: of the statement of a law, the law."""
+    folder = f"{TOP}/crates/{name}"
     functions = list(all_functions(folder))
-    within = lambda at: [f for f in functions if any(file == f.file and f.start <= offset < f.end for file, offset in at)]
-    rooms = [f"{folder}/must-fail", beside]
-    found = [{it: within(places(f"{room}/{it}", folder)[0]) for it in sorted(os.listdir(room))} if os.path.isdir(room) else {} for room in rooms]
-    if all_of_them:
-        return found[1]
-    law_of = lambda f: LAWS.get(f"{name} {f.name}", "") + ".edit"
-    chosen = {}
-    for f in (f for f in functions if f.public):
-        if any(f in hit for hit in found[0].values()) or law_of(f) in found[0]:
-            continue
-        edit = next((it for it, hit in found[1].items() if f in hit), law_of(f))
-        if edit in found[1]:
-            chosen[edit] = found[1][edit] or [f]
-    return chosen
+    found = {}
+    for edit in sorted(os.listdir(f"{room}/{name}")):
+        at, _ = places(f"{room}/{name}/{edit}", folder)
+        laws = [f for f in functions if LAWS.get(f"{name} {f.name}") == edit[: -len(".edit")]]
+        found[edit] = [f for f in functions if f.holds(at)] or laws
+    return found
 
 
 def rounds_of(edits):
     """Rows of edits no two of which lie in one function or one place."""
     rows = []
     for edit, hit in edits.items():
-        row = next((row for row in rows if not any(set(hit) & set(other) for other in row.values())), None)
+        row = next((row for row in rows if all(hit and other and not set(hit) & set(other) for other in row.values())), None)
         if row is None:
             rows.append(row := {})
         row[edit] = hit
@@ -83,7 +76,7 @@ def pairs_of(path):
             old = None
 
 
-def try_row(name, row):
+def try_row(room_of_edits, name, row):
     """What each edit of a row comes to: None where it is refused, and else why not."""
     room = tempfile.mkdtemp(prefix="nbdq-edits-")
     try:
@@ -96,7 +89,7 @@ def try_row(name, row):
                 shutil.rmtree(f"{folder}/{it}")
                 shutil.copytree(f"{TOP}/crates/{name}/{it}", f"{folder}/{it}")
         for edit in row:
-            for file, old, new in pairs_of(f"{TOP}/tests/edits/{name}/{edit}"):
+            for file, old, new in pairs_of(f"{room_of_edits}/{name}/{edit}"):
                 text = open(f"{folder}/{file}", encoding="utf-8").read()
                 if text.count(old) != 1:
                     return {it: f"{edit}: its text is in {file} {text.count(old)} times" for it in row}
@@ -111,6 +104,8 @@ def try_row(name, row):
 
 
 def why_not(name, folder, said, hit):
+    if not hit:
+        return None if re.search(r"^logic=not-proved", said, re.M) else "still proved, or no verdict: " + said[-200:].replace("\n", " / ")
     if not re.search(r"^only=\d+ proved=\d+", said, re.M):
         return "the check gave no verdict: " + " / ".join(it[:200] for it in said.split("\n") if "error" in it)[:400]
     here = {f.path: f for f in all_functions(folder)}
@@ -124,15 +119,15 @@ def why_not(name, folder, said, hit):
 
 def main():
     words = argparse.ArgumentParser(formatter_class=argparse.RawDescriptionHelpFormatter, description=__doc__)
-    words.add_argument("--all", action="store_true")
+    words.add_argument("--beside", action="store_true")
     words.add_argument("--jobs", type=int, default=max(len(os.sched_getaffinity(0)) // 2, 1))
     words.add_argument("names", nargs="*")
     o = words.parse_args()
-    names = o.names or sorted(it for it in os.listdir(f"{TOP}/tests/edits") if os.path.isdir(f"{TOP}/crates/{it}"))
-    rows = [(name, row) for name in names for row in rounds_of(edits_of(name, o.all))]
+    room = f"{TOP}/tests/{'edits' if o.beside else 'gate'}"
+    rows = [(name, row) for name in o.names or sorted(os.listdir(room)) for row in rounds_of(edits_of(name, room))]
     failed = tried = 0
     with ThreadPoolExecutor(o.jobs) as pool:
-        for (name, row), found in zip(rows, pool.map(lambda it: try_row(*it), rows)):
+        for (name, row), found in zip(rows, pool.map(lambda it: try_row(room, *it), rows)):
             for edit, why in found.items():
                 tried, failed = tried + 1, failed + (why is not None)
                 print(f"edit {name}/{edit}: {'NOT REFUSED: ' + why if why else 'refused, as it must be'}", flush=True)

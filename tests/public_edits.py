@@ -1,5 +1,6 @@
 #!/usr/bin/env python3
-"""Which public functions have an edit in their own body, in crates/NAME/must-fail and in tests/edits/NAME.
+"""Which public functions have an edit in their own body: in the gate, which are those of crates/NAME/must-fail and tests/gate/NAME,
+and beside it, in tests/edits/NAME.
 
   tests/public_edits.py [NAME..]          the public functions that have none, and edits whose text is stale
   tests/public_edits.py --all [NAME..]    each public function with its edits, then the edits that lie in none
@@ -160,7 +161,9 @@ def functions_of(path):
         block = next(((t, ty) for a, b, t, ty in blocks if a <= it.start() < b), (None, None))
         # The body's brace is the first after the signature and its clauses at the function's own indent, or on its one line.
         indent = it[1]
-        body = re.compile(rf"^{indent}\{{|^{indent}\) (?:-> [^{{;\n]*)?\{{$|;\n", re.M).search(text, it.end())
+        marks = re.compile(rf"^{indent}\{{|^{indent}\) (?:-> [^{{;\n]*)?\{{$|;\n", re.M).finditer(text, it.end())
+        # A semicolon within a clause's braces ends no signature.
+        body = next((m for m in marks if m[0] != ";\n" or text.count("{", it.end(), m.start()) <= text.count("}", it.end(), m.start())), None)
         line = text[it.start() : text.index("\n", it.start())]
         if line.endswith("{"):
             start = it.start() + len(line) - 1
@@ -242,8 +245,8 @@ def main(words):
                 is_public = (owner or fn) in public and (vis == "pub" or trait is not None)
                 functions.append(Function(short, start, end, label, is_public, has_contract or trait is not None))
         outside = []
-        for room in (f"{folder}/must-fail", f"{TOP}/tests/edits/{name}"):
-            in_gate = room.endswith("must-fail")
+        for room in (f"{folder}/must-fail", f"{TOP}/tests/gate/{name}", f"{TOP}/tests/edits/{name}"):
+            in_gate = "/tests/edits/" not in room
             for it in sorted(os.listdir(room)) if os.path.isdir(room) else []:
                 at, bad = places(f"{room}/{it}", folder)
                 missing += len(bad)
@@ -254,12 +257,12 @@ def main(words):
                     (f.gate if in_gate else f.beside).append(it[:-5])
                 if not any(f.public for f in hit):
                     where = ", ".join(f.label for f in hit) or ", ".join(sorted({path for path, _ in at}))
-                    outside.append(f"{'must-fail' if in_gate else 'tests/edits'}/{it[:-5]} in {where}")
+                    outside.append(f"{'gate' if in_gate else 'beside'}: {it[:-5]} in {where}")
         for f in functions:
             if not f.public:
                 continue
             law = LAWS.get(f"{name} {f.label}")
-            if law and os.path.isfile(f"{folder}/must-fail/{law}.edit"):
+            if law and any(os.path.isfile(f"{room}/{law}.edit") for room in (f"{folder}/must-fail", f"{TOP}/tests/gate/{name}")):
                 f.gate.append(f"{law} (its statement)")
             elif law and os.path.isfile(f"{TOP}/tests/edits/{name}/{law}.edit"):
                 f.beside.append(f"{law} (its statement)")
