@@ -5,11 +5,11 @@
 
 It tries those of tests/gate/NAME, with --beside those of tests/edits/NAME. An edit counts as refused where the prover says at a
 line of the function that it edits that a goal isn't proved; one that lies in none (a constant, a statement) is tried alone, over
-all of its crate. It works in a copy, over what `rt ci` or `rt check` left in out/,
-has N checks beside each other (as many as half the processors), and prints a line for each edit. The last line counts; the
-status is 0 where all are refused.
+all of its crate. It works in a copy, over the libraries that `rt ci` or `rt check` built, has N checks beside each other (as
+many as half the processors), and prints a line for each edit. The last line counts; the status is 0 where all are refused.
 """
 import argparse
+import importlib.util
 import os
 import re
 import shutil
@@ -76,18 +76,25 @@ def pairs_of(path):
             old = None
 
 
-def try_row(room_of_edits, name, row):
+def kit():
+    """The toolchain's own module, which knows how a crate of a repository is checked."""
+    path = os.path.join(os.path.dirname(os.path.realpath(shutil.which("rt"))), "rtlib.py")
+    spec = importlib.util.spec_from_file_location("rtlib", path)
+    sys.modules["rtlib"] = made = importlib.util.module_from_spec(spec)
+    spec.loader.exec_module(made)
+    return made
+
+
+def try_row(rtlib, room_of_edits, name, row):
     """What each edit of a row comes to: None where it is refused, and else why not."""
-    room = tempfile.mkdtemp(prefix="nbdq-edits-")
-    try:
-        for it in ("crates.txt", "HANDLES"):
-            shutil.copy(f"{TOP}/{it}", room)
-        subprocess.run(["cp", "-al", f"{TOP}/crates", room], check=True)
-        folder = f"{room}/crates/{name}"
-        for it in ("src", "specs"):
-            if os.path.isdir(f"{TOP}/crates/{name}/{it}"):
-                shutil.rmtree(f"{folder}/{it}")
-                shutil.copytree(f"{TOP}/crates/{name}/{it}", f"{folder}/{it}")
+    crate = rtlib.Crate(f"{TOP}/crates/{name}", TOP, {})
+    lacking = [it.name for it in crate.below() if not os.path.isdir(it.rlib)]
+    if lacking:
+        return {it: f"{' '.join(lacking)} isn't built: run rt ci, or rt check in crates/{name}" for it in row}
+    with tempfile.TemporaryDirectory(prefix="nbdq-edits-") as folder:
+        for part in rtlib.PARTS:
+            if os.path.isdir(f"{crate.folder}/{part}"):
+                shutil.copytree(f"{crate.folder}/{part}", f"{folder}/{part}")
         for edit in row:
             for file, old, new in pairs_of(f"{room_of_edits}/{name}/{edit}"):
                 text = open(f"{folder}/{file}", encoding="utf-8").read()
@@ -96,11 +103,9 @@ def try_row(room_of_edits, name, row):
                 with open(f"{folder}/{file}", "w", encoding="utf-8") as out:
                     out.write(text.replace(old, new))
         paths = sorted({f.path for hit in row.values() for f in hit})
-        words = ["rt", "check", "--jobs", "1", *(word for it in paths for word in ("--only", it))]
+        words = [rtlib.RATTLE, "check", *crate.words(["--jobs", "1"], keeps=False), *(word for it in paths for word in ("--only", it))]
         ran = subprocess.run(words, cwd=folder, stdin=subprocess.DEVNULL, stdout=subprocess.PIPE, stderr=subprocess.STDOUT, text=True, errors="replace")
         return {edit: why_not(name, folder, ran.stdout, hit) for edit, hit in row.items()}
-    finally:
-        shutil.rmtree(room, ignore_errors=True)
 
 
 def why_not(name, folder, said, hit):
@@ -112,7 +117,10 @@ def why_not(name, folder, said, hit):
     for f in (here[it.path] for it in hit):
         first, last = f.lines(open(f"{folder}/{f.file}", encoding="utf-8").read())
         told = re.findall(rf"^(?:note: )?(?:\./)?{re.escape(f.file)}:(\d+):\d+: (?:error|it is not proved)", said, re.M)
-        if f"fn {name}::{f.path}: proved" not in said and any(first <= int(line) <= last for line in told):
+        # An answer by hand that proves its goal no longer, but for one that names what the edit took away.
+        by_hand = re.findall(rf"^(?:\./)?proofs/{re.escape(f.path.replace('::', '/'))}/\w+\.antt:\d+:\d+: error: (.*)", said, re.M)
+        by_hand = [it for it in by_hand if not re.search("has no field|is not in scope|has no `|was not admitted", it)]
+        if f"fn {name}::{f.path}: proved" not in said and (by_hand or any(first <= int(line) <= last for line in told)):
             return None
     return "still proved: " + ", ".join(f.path for f in hit)
 
@@ -125,9 +133,9 @@ def main():
     o = words.parse_args()
     room = f"{TOP}/tests/{'edits' if o.beside else 'gate'}"
     rows = [(name, row) for name in o.names or sorted(os.listdir(room)) for row in rounds_of(edits_of(name, room))]
-    failed = tried = 0
+    rtlib, failed, tried = kit(), 0, 0
     with ThreadPoolExecutor(o.jobs) as pool:
-        for (name, row), found in zip(rows, pool.map(lambda it: try_row(room, *it), rows)):
+        for (name, row), found in zip(rows, pool.map(lambda it: try_row(rtlib, room, *it), rows)):
             for edit, why in found.items():
                 tried, failed = tried + 1, failed + (why is not None)
                 print(f"edit {name}/{edit}: {'NOT REFUSED: ' + why if why else 'refused, as it must be'}", flush=True)
