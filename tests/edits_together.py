@@ -9,6 +9,7 @@ all of its crate. It works in a copy, over the libraries that `rt ci` or `rt che
 many as half the processors), and prints a line for each edit. The last line counts; the status is 0 where all are refused.
 """
 import argparse
+import contextlib
 import importlib.util
 import os
 import re
@@ -16,6 +17,7 @@ import shutil
 import subprocess
 import sys
 import tempfile
+import threading
 from concurrent.futures import ThreadPoolExecutor
 
 from public_edits import LAWS, TOP, functions_of, places, sources
@@ -76,25 +78,47 @@ def pairs_of(path):
             old = None
 
 
-def kit():
-    """The toolchain's own module, which knows how a crate of a repository is checked."""
+def kit(name):
+    """The toolchain's own module, which knows how a crate of a repository is checked, or None where it isn't as it was here."""
     path = os.path.join(os.path.dirname(os.path.realpath(shutil.which("rt"))), "rtlib.py")
-    spec = importlib.util.spec_from_file_location("rtlib", path)
-    sys.modules["rtlib"] = made = importlib.util.module_from_spec(spec)
-    spec.loader.exec_module(made)
-    return made
+    try:
+        spec = importlib.util.spec_from_file_location("rtlib", path)
+        sys.modules["rtlib"] = made = importlib.util.module_from_spec(spec)
+        spec.loader.exec_module(made)
+        crate = made.Crate(f"{TOP}/crates/{name}", TOP, {})
+        crate.words(["--jobs", "1"], keeps=False)
+        return made if all(isinstance(it.rlib, str) for it in crate.below()) and made.RATTLE and made.PARTS else None
+    except (Exception, SystemExit) as why:  # another toolchain
+        print(f"the toolchain's module can't be used ({why!r}): rt check proves the libraries first, in one copy of the repository")
+        return None
 
 
-def try_row(rtlib, room_of_edits, name, row):
+ONE_COPY = threading.Lock()
+
+
+@contextlib.contextmanager
+def room_of(rtlib, copy, name):
+    """A folder with a copy of a crate, and the words that check it there."""
+    if rtlib:
+        crate = rtlib.Crate(f"{TOP}/crates/{name}", TOP, {})
+        with tempfile.TemporaryDirectory(prefix="nbdq-edits-") as folder:
+            for part in rtlib.PARTS:
+                if os.path.isdir(f"{crate.folder}/{part}"):
+                    shutil.copytree(f"{crate.folder}/{part}", f"{folder}/{part}")
+            yield folder, [rtlib.RATTLE, "check", *crate.words(["--jobs", "1"], keeps=False)]
+        return
+    folder = f"{copy}/crates/{name}"
+    with ONE_COPY:
+        yield folder, ["rt", "check", "--jobs", "1"]
+        for part in ("src", "specs", "proofs"):
+            shutil.rmtree(f"{folder}/{part}", ignore_errors=True)
+            if os.path.isdir(f"{TOP}/crates/{name}/{part}"):
+                shutil.copytree(f"{TOP}/crates/{name}/{part}", f"{folder}/{part}")
+
+
+def try_row(kit_and_copy, room_of_edits, name, row):
     """What each edit of a row comes to: None where it is refused, and else why not."""
-    crate = rtlib.Crate(f"{TOP}/crates/{name}", TOP, {})
-    lacking = [it.name for it in crate.below() if not os.path.isdir(it.rlib)]
-    if lacking:
-        return {it: f"{' '.join(lacking)} isn't built: run rt ci, or rt check in crates/{name}" for it in row}
-    with tempfile.TemporaryDirectory(prefix="nbdq-edits-") as folder:
-        for part in rtlib.PARTS:
-            if os.path.isdir(f"{crate.folder}/{part}"):
-                shutil.copytree(f"{crate.folder}/{part}", f"{folder}/{part}")
+    with room_of(*kit_and_copy, name) as (folder, words):
         for edit in row:
             for file, old, new in pairs_of(f"{room_of_edits}/{name}/{edit}"):
                 text = open(f"{folder}/{file}", encoding="utf-8").read()
@@ -102,17 +126,25 @@ def try_row(rtlib, room_of_edits, name, row):
                     return {it: f"{edit}: its text is in {file} {text.count(old)} times" for it in row}
                 with open(f"{folder}/{file}", "w", encoding="utf-8") as out:
                     out.write(text.replace(old, new))
-        paths = sorted({f.path for hit in row.values() for f in hit})
-        words = [rtlib.RATTLE, "check", *crate.words(["--jobs", "1"], keeps=False), *(word for it in paths for word in ("--only", it))]
+        words = [*words, *(word for it in sorted({f.path for hit in row.values() for f in hit}) for word in ("--only", it))]
         ran = subprocess.run(words, cwd=folder, stdin=subprocess.DEVNULL, stdout=subprocess.PIPE, stderr=subprocess.STDOUT, text=True, errors="replace")
-        return {edit: why_not(name, folder, ran.stdout, hit) for edit, hit in row.items()}
+        found = {edit: why_not(name, folder, ran.stdout, hit) for edit, hit in row.items()}
+    if len(row) > 1 and all((why or "").startswith(NO_VERDICT) for why in found.values()):
+        # One of them hides what the others come to, or the check was killed.
+        edits = list(row)
+        halves = [{it: row[it] for it in half} for half in (edits[: len(edits) // 2], edits[len(edits) // 2 :])]
+        return {edit: why for half in halves for edit, why in try_row(kit_and_copy, room_of_edits, name, half).items()}
+    return found
+
+
+NO_VERDICT = "the check gave no verdict: "
 
 
 def why_not(name, folder, said, hit):
     if not hit:
         return None if re.search(r"^logic=not-proved", said, re.M) else "still proved, or no verdict: " + said[-200:].replace("\n", " / ")
     if not re.search(r"^only=\d+ proved=\d+", said, re.M):
-        return "the check gave no verdict: " + " / ".join(it[:200] for it in said.split("\n") if "error" in it)[:400]
+        return NO_VERDICT + " / ".join(it[:200] for it in said.split("\n") if "error" in it)[:400]
     here = {f.path: f for f in all_functions(folder)}
     for f in (here[it.path] for it in hit):
         first, last = f.lines(open(f"{folder}/{f.file}", encoding="utf-8").read())
@@ -133,9 +165,11 @@ def main():
     o = words.parse_args()
     room = f"{TOP}/tests/{'edits' if o.beside else 'gate'}"
     rows = [(name, row) for name in o.names or sorted(os.listdir(room)) for row in rounds_of(edits_of(name, room))]
-    rtlib, failed, tried = kit(), 0, 0
-    with ThreadPoolExecutor(o.jobs) as pool:
-        for (name, row), found in zip(rows, pool.map(lambda it: try_row(rtlib, room, *it), rows)):
+    rtlib, failed, tried = kit(rows[0][0]) if rows else None, 0, 0
+    with tempfile.TemporaryDirectory(prefix="nbdq-copy-") as copy, ThreadPoolExecutor(o.jobs) as pool:
+        if rows and not rtlib:
+            subprocess.run(["cp", "-r", *(f"{TOP}/{it}" for it in ("crates.txt", "HANDLES", "crates")), copy], check=True)
+        for (name, row), found in zip(rows, pool.map(lambda it: try_row((rtlib, copy), room, *it), rows)):
             for edit, why in found.items():
                 tried, failed = tried + 1, failed + (why is not None)
                 print(f"edit {name}/{edit}: {'NOT REFUSED: ' + why if why else 'refused, as it must be'}", flush=True)
