@@ -23,6 +23,9 @@ from concurrent.futures import ThreadPoolExecutor
 from public_edits import LAWS, TOP, functions_of, places, sources
 
 
+LAWS_BY_NAME = {it.split()[1] for it in LAWS}
+
+
 class Function:
     def __init__(self, file, owner, trait, name, start, end):
         self.file, self.start, self.end, self.name = file, start, end, f"{owner}::{name}" if owner else name
@@ -44,7 +47,7 @@ def all_functions(folder):
 
 
 def edits_of(name, room):
-    """The edits of a crate that lie in a folder, each with the functions that it edits: of the statement of a law, the law."""
+    """The edits of a crate that lie in a folder, each with the functions in whose text it lies, or else the law whose statement it turns."""
     folder = f"{TOP}/crates/{name}"
     functions = list(all_functions(folder))
     found = {}
@@ -56,10 +59,11 @@ def edits_of(name, room):
 
 
 def rounds_of(edits):
-    """Rows of edits no two of which lie in one function or one place."""
-    rows = []
+    """Rows of edits no two of which lie in one function. What several functions may read, as a statement's, is a row of its own."""
+    rows, is_shared = [], lambda hit: not hit or any(it.name in LAWS_BY_NAME for it in hit)
     for edit, hit in edits.items():
-        row = next((row for row in rows if all(hit and other and not set(hit) & set(other) for other in row.values())), None)
+        fits = lambda row: not is_shared(hit) and all(not is_shared(other) and not set(hit) & set(other) for other in row.values())
+        row = next((row for row in rows if fits(row)), None)
         if row is None:
             rows.append(row := {})
         row[edit] = hit
