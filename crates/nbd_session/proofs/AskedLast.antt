@@ -1,7 +1,7 @@
 -- Which session is asked for last, and which are given.
-use Rattle.std.proofs.Common.{◌≡◌, ◌≢◌, ℕ, Bool, List, [], ◌∷◌, ◌++◌, Option, Some, None, Result, Ok, Err, length, refl, sym, ap, subst, ◌∙◌, inl, inr, append_assoc}
+use Rattle.std.proofs.Common.{◌≡◌, ◌≢◌, ℕ, Bool, List, [], ◌∷◌, ◌++◌, Option, Some, None, Result, Ok, Err, length, refl, sym, ap, subst, ◌∙◌, inl, inr}
 use Rattle.std.proofs.lemmas.List.{append-nil}
-use Rattle.std.specs.List.{flat_map, AllByRecursion}
+use Rattle.std.specs.List.{AllByRecursion}
 use Rattle.nbd_options.specs.declared.attach.Attached.{Attached}
 use Rattle.nbd_options.specs.declared.attach.Attached.TheVariants as attached
 use Rattle.nbd_options.specs.declared.answers.Next.{Next}
@@ -9,17 +9,16 @@ use Rattle.nbd_options.specs.declared.answers.Next.TheVariants as nexts
 use Rattle.nbd_options.specs.declared.saying.HaggleEnd.{HaggleEnd}
 use Rattle.nbd_options.specs.declared.saying.HaggleEnd.TheVariants as haggle_ends
 use Rattle.nbd_options.specs.declared.haggle.HeadFault.TheVariants as head_faults
-use Rattle.nbd_base.specs.Logs.{Notes}
 use Rattle.nbd_options.specs.Asking.{Asking, asked_by, one_asking}
 use Rattle.nbd_options.specs.Exports.{ExportFacts}
 use Rattle.nbd_options.specs.Replies.{ReplyMessage, next_after, replies_to}
-use Rattle.nbd_options.specs.Haggled.{Asked, said_by, said_to}
+use Rattle.nbd_options.specs.Haggled.{Asked, said_by}
 use Rattle.nbd_session.specs.declared.outcomes.End.{End}
 use Rattle.nbd_session.specs.declared.outcomes.Entry.{Entry}
 use Rattle.nbd_session.specs.declared.outcomes.Entry.TheVariants as entries
 use Rattle.nbd_session.specs.declared.outcomes.TalkFault.{TalkFault}
 use Rattle.nbd_session.specs.Options.{GoesOn, entry_after}
-use Rattle.nbd_session.specs.Askings.{asked_at, asked_in, asked_last, AskedAtTheEnd, Asks, AsksBehind, EndsAsked, EndsBy, IsFull, IsOutside}
+use Rattle.nbd_session.specs.Askings.{asked_at, asked_in, asked_last, AskedAtTheEnd, EndsAsked, EndsBy, IsFull, IsOutside}
 
 all-then : {A : Type 0} (P : A → Type 0) (xs ys : List A) → AllByRecursion P xs → AllByRecursion P ys → AllByRecursion P (xs ++ ys)
 all-then P [] ys all more = more

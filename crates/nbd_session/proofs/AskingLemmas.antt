@@ -1,5 +1,5 @@
 -- Which sessions were asked for, option by option.
-use Rattle.std.proofs.Common.{◌≡◌, ◌≢◌, ℕ, ◌+◌, ◌≤◌, ◌^◌, Bool, List, [], ◌∷◌, ◌++◌, Option, Some, None, Result, Ok, Err, length, refl, sym, ap, subst, ◌∙◌, inl, inr, append_assoc, arith}
+use Rattle.std.proofs.Common.{◌≡◌, ℕ, ◌+◌, ◌≤◌, Bool, List, [], ◌∷◌, ◌++◌, Option, Some, None, Result, Ok, Err, length, sym, ap, subst, ◌∙◌, inl, inr, append_assoc, arith}
 use Rattle.std.proofs.lemmas.List.{append-nil, length-append}
 use Rattle.std.specs.List.{flat_map, AllByRecursion}
 use Rattle.std.specs.Int.{w32, to_be_bytes}
@@ -19,7 +19,7 @@ use Rattle.nbd_session.specs.declared.option_input.Offer.{Offer}
 use Rattle.nbd_session.specs.declared.option_input.Offer.TheVariants as offers
 use Rattle.nbd_session.specs.Options.{asked_text, GoesOn}
 use Rattle.nbd_session.specs.Haggling.{TakesOption}
-use Rattle.nbd_session.specs.Askings.{asked_at, asked_in, asked_last, last_text, Asks, AsksBehind, EndsBy, IsOutside}
+use Rattle.nbd_session.specs.Askings.{asked_at, asked_in, last_text, Asks, AsksBehind, EndsBy, IsOutside}
 use Rattle.nbd_session.proofs.KnownLemmas.{Consumes-then}
 use Rattle.nbd_session.proofs.BufferLemmas.{Consumes-none}
 

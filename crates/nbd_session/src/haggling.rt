@@ -123,7 +123,7 @@ fn answer<A: Allocator + Copy, W: Write, T: Attach>(
 }
 
 /// Asks for a session, where the client goes to an export.
-#[tactic(auto, using(crate::proofs::AskingLemmas::notes_nothing))]
+#[tactic(auto, using(nbd_base::proofs::Logs::notes_nothing))]
 fn attached_to<T: Attach>(next: Next, attach: &mut T) -> Attached
     ensures may { MayAnswer T.may next result }
     ensures noted { Notes (T.askings attach.old) (T.askings attach.new) (asked_by next result) }

@@ -1,5 +1,5 @@
 -- What the program did, one thing after another.
-use Rattle.std.proofs.Common.{◌≡◌, ℕ, Bool, List, [], ◌∷◌, ◌++◌, Option, Some, None, Result, Ok, Err, refl, sym, ap, subst, ◌∙◌, append_assoc, append-nil}
+use Rattle.std.proofs.Common.{◌≡◌, ℕ, Bool, List, [], ◌∷◌, Option, Result, Ok, Err, refl, subst}
 use Rattle.clap.specs.Words.{kind_of}
 use Rattle.nbd_base.specs.Logs.{Notes}
 use Rattle.nbd_base.proofs.Logs.{notes_nothing, notes_then}

@@ -1,5 +1,5 @@
 -- What the program does by what its command line asks for: which command runs, what the shell is told, and the exit status.
-use Rattle.std.specs.Prelude.{◌≡◌, ℕ, Bool, true, false, List, [], ◌∷◌, ◌++◌, Option, Some, None, Result, Ok, Err, ⊤}
+use Rattle.std.specs.Prelude.{◌≡◌, ℕ, Bool, true, false, List, [], ◌∷◌, ◌++◌, Option, Some, None, Result, Ok, Err}
 use Rattle.clap.specs.Words.{kind_of}
 use Rattle.nbd_base.specs.Logs.{Notes}
 use Rattle.clap.specs.declared.error.Error.{Error}

@@ -116,7 +116,7 @@ fn refuse<C: Commands>(commands: &mut C, error: &Error) -> Ending
 }
 
 /// Tells the line of an end, if it has one.
-#[tactic(auto, using(crate::proofs::DeedLemmas::notes_nothing))]
+#[tactic(auto, using(nbd_base::proofs::Logs::notes_nothing))]
 fn tell_end<C: Commands>(commands: &mut C, end: Ending)
     requires { C.ready commands.old }
     ensures { Notes (C.deeds commands.old) (C.deeds commands.new) (line_told (text_of_end end)) }
