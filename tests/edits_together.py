@@ -168,7 +168,8 @@ def main():
     words.add_argument("names", nargs="*")
     o = words.parse_args()
     room = f"{TOP}/tests/{'edits' if o.beside else 'gate'}"
-    rows = [(name, row) for name in o.names or sorted(os.listdir(room)) for row in rounds_of(edits_of(name, room))]
+    names = o.names or sorted(os.listdir(room))
+    rows = [(name, row) for name in names if os.path.isdir(f"{room}/{name}") for row in rounds_of(edits_of(name, room))]
     rtlib, failed, tried = kit(rows[0][0]) if rows else None, 0, 0
     with tempfile.TemporaryDirectory(prefix="nbdq-copy-") as copy, ThreadPoolExecutor(o.jobs) as pool:
         if rows and not rtlib:
