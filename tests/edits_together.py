@@ -120,16 +120,32 @@ def room_of(rtlib, copy, name):
                 shutil.copytree(f"{TOP}/crates/{name}/{part}", f"{folder}/{part}")
 
 
+def make_all(folder, edits):
+    """Makes the edits in the files of a folder, each where its text stands in the file as it was. Tells which can't be made, or None."""
+    spans = {}
+    for edit, pairs in edits.items():
+        for file, old, new in pairs:
+            text = open(f"{folder}/{file}", encoding="utf-8").read()
+            if text.count(old) != 1:
+                return f"{edit}: its text is in {file} {text.count(old)} times"
+            spans.setdefault(file, []).append((text.index(old), old, new, edit))
+    for file, all_of_it in spans.items():
+        text, last = open(f"{folder}/{file}", encoding="utf-8").read(), None
+        for at, old, new, edit in sorted(all_of_it, reverse=True):
+            if last is not None and at + len(old) > last:
+                return f"{edit}: another edit is in its text"
+            text, last = text[:at] + new + text[at + len(old) :], at
+        with open(f"{folder}/{file}", "w", encoding="utf-8") as out:
+            out.write(text)
+    return None
+
+
 def try_row(kit_and_copy, room_of_edits, name, row):
     """What each edit of a row comes to: None where it is refused, and else why not."""
     with room_of(*kit_and_copy, name) as (folder, words):
-        for edit in row:
-            for file, old, new in pairs_of(f"{room_of_edits}/{name}/{edit}"):
-                text = open(f"{folder}/{file}", encoding="utf-8").read()
-                if text.count(old) != 1:
-                    return {it: f"{edit}: its text is in {file} {text.count(old)} times" for it in row}
-                with open(f"{folder}/{file}", "w", encoding="utf-8") as out:
-                    out.write(text.replace(old, new))
+        wrong = make_all(folder, {edit: list(pairs_of(f"{room_of_edits}/{name}/{edit}")) for edit in row})
+        if wrong:
+            return dict.fromkeys(row, wrong)
         words = [*words, *(word for it in sorted({f.path for hit in row.values() for f in hit}) for word in ("--only", it))]
         ran = subprocess.run(words, cwd=folder, stdin=subprocess.DEVNULL, stdout=subprocess.PIPE, stderr=subprocess.STDOUT, text=True, errors="replace")
         found = {edit: why_not(name, folder, ran.stdout, hit) for edit, hit in row.items()}
