@@ -46,28 +46,54 @@ def all_functions(folder):
             yield Function(os.path.relpath(path, folder), owner, trait, name, start, end)
 
 
-def edits_of(name, room):
-    """The edits of a crate that lie in a folder, each with the functions in whose text it lies, or else the law whose statement it turns."""
-    folder = f"{TOP}/crates/{name}"
+class Edit:
+    """An edit of a crate: the functions in whose text it lies, or else the law whose statement it turns, and what it changes of each file."""
+
+    def __init__(self, path, crate, folder, functions):
+        self.label, self.spans, self.wrong, texts = f"{crate}/{os.path.basename(path)}", {}, None, {}
+        at, _ = places(path, folder)
+        laws = [f for f in functions if LAWS.get(f"{crate} {f.name}") == os.path.basename(path)[: -len(".edit")]]
+        self.hit = [f for f in functions if f.holds(at)] or laws
+        # A statement's definitions may be read by others too.
+        self.is_shared = not self.hit or any(it.name in LAWS_BY_NAME for it in self.hit)
+        for file, old, new in pairs_of(path):
+            was = texts.setdefault(file, [open(f"{folder}/{file}", encoding="utf-8").read()] * 2)
+            if was[1].count(old) != 1:
+                self.wrong = f"its text is in {file} {was[1].count(old)} times"
+            texts[file] = [was[0], was[1].replace(old, new)]
+        for file, (was, made) in texts.items():
+            same = len(os.path.commonprefix([was, made]))
+            behind = len(os.path.commonprefix([was[same:][::-1], made[same:][::-1]]))
+            self.spans[file] = same, len(was) - behind, made[same : len(made) - behind]
+
+    def fits(self, other):
+        """Whether both can be tried in one copy."""
+        apart = lambda one, two: one[1] <= two[0] or two[1] <= one[0]
+        places_differ = all(apart(self.spans[it], other.spans[it]) for it in set(self.spans) & set(other.spans))
+        return places_differ and not (self.is_shared or other.is_shared or set(self.hit) & set(other.hit))
+
+
+def rounds_of(name, room):
+    """The edits of a crate that lie in a folder, in rows of those that are tried in one copy."""
+    folder, rows = f"{TOP}/crates/{name}", []
     functions = list(all_functions(folder))
-    found = {}
-    for edit in sorted(os.listdir(f"{room}/{name}")):
-        at, _ = places(f"{room}/{name}/{edit}", folder)
-        laws = [f for f in functions if LAWS.get(f"{name} {f.name}") == edit[: -len(".edit")]]
-        found[edit] = [f for f in functions if f.holds(at)] or laws
-    return found
-
-
-def rounds_of(edits):
-    """Rows of edits no two of which lie in one function. What several functions may read, as a statement's, is a row of its own."""
-    rows, is_shared = [], lambda hit: not hit or any(it.name in LAWS_BY_NAME for it in hit)
-    for edit, hit in edits.items():
-        fits = lambda row: not is_shared(hit) and all(not is_shared(other) and not set(hit) & set(other) for other in row.values())
-        row = next((row for row in rows if fits(row)), None)
+    for it in sorted(os.listdir(f"{room}/{name}")):
+        edit = Edit(f"{room}/{name}/{it}", name, folder, functions)
+        row = next((row for row in rows if all(edit.fits(other) for other in row)), None)
         if row is None:
-            rows.append(row := {})
-        row[edit] = hit
+            rows.append(row := [])
+        row.append(edit)
     return rows
+
+
+def make(edits, folder):
+    """Makes edits that fit in the files of a copy."""
+    for file in {file for edit in edits for file in edit.spans}:
+        text = open(f"{folder}/{file}", encoding="utf-8").read()
+        for at, end, new in sorted((edit.spans[file] for edit in edits if file in edit.spans), reverse=True):
+            text = text[:at] + new + text[end:]
+        with open(f"{folder}/{file}", "w", encoding="utf-8") as out:
+            out.write(text)
 
 
 def pairs_of(path):
@@ -120,41 +146,22 @@ def room_of(rtlib, copy, name):
                 shutil.copytree(f"{TOP}/crates/{name}/{part}", f"{folder}/{part}")
 
 
-def make_all(folder, edits):
-    """Makes the edits in the files of a folder, each where its text stands in the file as it was. Tells which can't be made, or None."""
-    spans = {}
-    for edit, pairs in edits.items():
-        for file, old, new in pairs:
-            text = open(f"{folder}/{file}", encoding="utf-8").read()
-            if text.count(old) != 1:
-                return f"{edit}: its text is in {file} {text.count(old)} times"
-            spans.setdefault(file, []).append((text.index(old), old, new, edit))
-    for file, all_of_it in spans.items():
-        text, last = open(f"{folder}/{file}", encoding="utf-8").read(), None
-        for at, old, new, edit in sorted(all_of_it, reverse=True):
-            if last is not None and at + len(old) > last:
-                return f"{edit}: another edit is in its text"
-            text, last = text[:at] + new + text[at + len(old) :], at
-        with open(f"{folder}/{file}", "w", encoding="utf-8") as out:
-            out.write(text)
-    return None
-
-
-def try_row(kit_and_copy, room_of_edits, name, row):
+def try_row(kit_and_copy, name, row):
     """What each edit of a row comes to: None where it is refused, and else why not."""
+    wrong = [(it, it.wrong) for it in row if it.wrong]
+    row = [it for it in row if not it.wrong]
+    if not row:
+        return wrong
     with room_of(*kit_and_copy, name) as (folder, words):
-        wrong = make_all(folder, {edit: list(pairs_of(f"{room_of_edits}/{name}/{edit}")) for edit in row})
-        if wrong:
-            return dict.fromkeys(row, wrong)
-        words = [*words, *(word for it in sorted({f.path for hit in row.values() for f in hit}) for word in ("--only", it))]
+        make(row, folder)
+        words = [*words, *(word for it in sorted({f.path for edit in row for f in edit.hit}) for word in ("--only", it))]
         ran = subprocess.run(words, cwd=folder, stdin=subprocess.DEVNULL, stdout=subprocess.PIPE, stderr=subprocess.STDOUT, text=True, errors="replace")
-        found = {edit: why_not(name, folder, ran.stdout, hit) for edit, hit in row.items()}
-    if len(row) > 1 and all((why or "").startswith(NO_VERDICT) for why in found.values()):
+        found = [(it, why_not(name, folder, ran.stdout, it.hit)) for it in row]
+    if len(row) > 1 and all((why or "").startswith(NO_VERDICT) for _, why in found):
         # One of them hides what the others come to, or the check was killed.
-        edits = list(row)
-        halves = [{it: row[it] for it in half} for half in (edits[: len(edits) // 2], edits[len(edits) // 2 :])]
-        return {edit: why for half in halves for edit, why in try_row(kit_and_copy, room_of_edits, name, half).items()}
-    return found
+        half = len(row) // 2
+        found = [*try_row(kit_and_copy, name, row[:half]), *try_row(kit_and_copy, name, row[half:])]
+    return [*wrong, *found]
 
 
 NO_VERDICT = "the check gave no verdict: "
@@ -184,16 +191,16 @@ def main():
     words.add_argument("names", nargs="*")
     o = words.parse_args()
     room = f"{TOP}/tests/{'edits' if o.beside else 'gate'}"
-    names = o.names or sorted(os.listdir(room))
-    rows = [(name, row) for name in names if os.path.isdir(f"{room}/{name}") for row in rounds_of(edits_of(name, room))]
-    rtlib, failed, tried = kit(rows[0][0]) if rows else None, 0, 0
+    names = [it for it in o.names or sorted(os.listdir(room)) if os.path.isdir(f"{room}/{it}")]
+    rows = [(name, row) for name in names for row in rounds_of(name, room)]
+    rtlib, failed, tried = kit(names[0]) if rows else None, 0, 0
     with tempfile.TemporaryDirectory(prefix="nbdq-copy-") as copy, ThreadPoolExecutor(o.jobs) as pool:
         if rows and not rtlib:
             subprocess.run(["cp", "-r", *(f"{TOP}/{it}" for it in ("crates.txt", "HANDLES", "crates")), copy], check=True)
-        for (name, row), found in zip(rows, pool.map(lambda it: try_row((rtlib, copy), room, *it), rows)):
-            for edit, why in found.items():
+        for found in pool.map(lambda it: try_row((rtlib, copy), *it), rows):
+            for edit, why in found:
                 tried, failed = tried + 1, failed + (why is not None)
-                print(f"edit {name}/{edit}: {'NOT REFUSED: ' + why if why else 'refused, as it must be'}", flush=True)
+                print(f"edit {edit.label}: {'NOT REFUSED: ' + why if why else 'refused, as it must be'}", flush=True)
     print(f"{tried - failed} edits refused, {failed} not")
     return 1 if failed else 0
 
