@@ -27,23 +27,27 @@ LAWS_BY_NAME = {it.split()[1] for it in LAWS}
 
 
 class Function:
-    def __init__(self, file, owner, trait, name, start, end):
+    def __init__(self, file, text, owner, trait, name, start, end):
         self.file, self.start, self.end, self.name = file, start, end, f"{owner}::{name}" if owner else name
+        # The end of the name that a check prints: a method's stands under its type, with the trait behind it.
         parts = [it for it in file[len("src/") : -len(".rt")].split("/") if it not in ("lib", "main")]
-        kind = owner + (trait if trait and trait != owner else "") if owner else ""
-        self.path = "::".join([*parts, *([kind] if kind else []), name])
+        if trait == "From":
+            trait += re.findall(r"^impl\b.*\bFrom<(\w+)", text[:start], re.M)[-1]
+        self.path = f"{owner}{trait if trait and trait != owner else ''}::{name}" if owner else "::".join([*parts, name])
+        # A check tells of a function at its first attribute.
+        before = re.search(r"(?:^ *(?:#\[|//).*\n)*\Z", text[:start], re.M)
+        self.first = text.count("\n", 0, before.start()) + 1
+        self.last = text.count("\n", 0, end) + 1
 
     def holds(self, at):
         return any(file == self.file and self.start <= offset < self.end for file, offset in at)
 
-    def lines(self, text):
-        return text.count("\n", 0, self.start) + 1, text.count("\n", 0, self.end) + 1
-
 
 def all_functions(folder):
     for path in sources(folder):
+        text = open(path, encoding="utf-8").read()
         for owner, trait, name, _, start, _, end, _ in functions_of(path):
-            yield Function(os.path.relpath(path, folder), owner, trait, name, start, end)
+            yield Function(os.path.relpath(path, folder), text, owner, trait, name, start, end)
 
 
 class Edit:
@@ -172,14 +176,14 @@ def why_not(name, folder, said, hit):
         return None if re.search(r"^logic=not-proved", said, re.M) else "still proved, or no verdict: " + said[-200:].replace("\n", " / ")
     if not re.search(r"^only=\d+ proved=\d+", said, re.M):
         return NO_VERDICT + " / ".join(it[:200] for it in said.split("\n") if "error" in it)[:400]
-    here = {f.path: f for f in all_functions(folder)}
-    for f in (here[it.path] for it in hit):
-        first, last = f.lines(open(f"{folder}/{f.file}", encoding="utf-8").read())
+    here = {(f.file, f.path): f for f in all_functions(folder)}
+    for f in (here[it.file, it.path] for it in hit):
         told = re.findall(rf"^(?:note: )?(?:\./)?{re.escape(f.file)}:(\d+):\d+: (?:error|it is not proved)", said, re.M)
         # An answer by hand that proves its goal no longer, but for one that names what the edit took away.
-        by_hand = re.findall(rf"^(?:\./)?proofs/{re.escape(f.path.replace('::', '/'))}/\w+\.antt:\d+:\d+: error: (.*)", said, re.M)
+        by_hand = re.findall(rf"^(?:\./)?proofs/(?:\w+/)*{re.escape(f.path.replace('::', '/'))}/\w+\.antt:\d+:\d+: error: (.*)", said, re.M)
         by_hand = [it for it in by_hand if not re.search("has no field|is not in scope|has no `|was not admitted", it)]
-        if f"fn {name}::{f.path}: proved" not in said and (by_hand or any(first <= int(line) <= last for line in told)):
+        is_proved = re.search(rf"^fn {name}::(?:\S+::)?{re.escape(f.path)}: proved", said, re.M)
+        if not is_proved and (by_hand or any(f.first <= int(line) <= f.last for line in told)):
             return None
     return "still proved: " + ", ".join(f.path for f in hit)
 
