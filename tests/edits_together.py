@@ -160,7 +160,7 @@ def try_row(kit_and_copy, name, row):
         make(row, folder)
         words = [*words, *(word for it in sorted({f.path for edit in row for f in edit.hit}) for word in ("--only", it))]
         ran = subprocess.run(words, cwd=folder, stdin=subprocess.DEVNULL, stdout=subprocess.PIPE, stderr=subprocess.STDOUT, text=True, errors="replace")
-        found = [(it, why_not(name, folder, ran.stdout, it)) for it in row]
+        found = [(it, why_not(name, ran.stdout, it)) for it in row]
     if len(row) > 1 and all((why or "").startswith(NO_VERDICT) for _, why in found):
         # One of them hides what the others come to, or the check was killed.
         half = len(row) // 2
@@ -171,14 +171,14 @@ def try_row(kit_and_copy, name, row):
 NO_VERDICT = "the check gave no verdict: "
 
 
-def why_not(name, folder, said, edit):
+def why_not(name, said, edit):
     hit = edit.hit
     if not hit:
         return None if re.search(r"^logic=not-proved", said, re.M) else "still proved, or no verdict: " + said[-200:].replace("\n", " / ")
     if not re.search(r"^only=\d+ proved=\d+", said, re.M):
         return NO_VERDICT + " / ".join(it[:200] for it in said.split("\n") if "error" in it)[:400]
-    here = {(f.file, f.path): f for f in all_functions(folder)}
-    for f in (here[it.file, it.path] for it in hit):
+    # An edit's texts are one line each, so the lines are those of the crate as it is.
+    for f in hit:
         told = re.findall(rf"^(?:note: )?(?:\./)?{re.escape(f.file)}:(\d+):\d+: (?:error|it is not proved)", said, re.M)
         # An answer by hand, or of what a statement is proved by a lemma, that proves its goal no longer, but for one that names what the edit took away.
         proofs = r"\S+" if edit.is_shared else rf"(?:\./)?proofs/(?:\w+/)*{re.escape(f.path.replace('::', '/'))}/\w+\.antt"
