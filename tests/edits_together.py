@@ -6,7 +6,7 @@
 It tries those of tests/gate/NAME, with --beside those of tests/edits/NAME. An edit counts as refused where the prover says at a
 line of the function that it edits that a goal isn't proved; one that lies in none (a constant, a statement) is tried alone, over
 all of its crate. It works in a copy, over the libraries that `rt ci` or `rt check` built, has N checks beside each other (as
-many as half the processors), and prints a line for each edit. The last line counts; the status is 0 where all are refused.
+many as there are processors), and prints a line for each edit. The last line counts; the status is 0 where all are refused.
 """
 import argparse
 import contextlib
@@ -193,7 +193,7 @@ def why_not(name, said, edit):
 def main():
     words = argparse.ArgumentParser(formatter_class=argparse.RawDescriptionHelpFormatter, description=__doc__)
     words.add_argument("--beside", action="store_true")
-    words.add_argument("--jobs", type=int, default=max(len(os.sched_getaffinity(0)) // 2, 1))
+    words.add_argument("--jobs", type=int, default=len(os.sched_getaffinity(0)))
     words.add_argument("names", nargs="*")
     o = words.parse_args()
     room = f"{TOP}/tests/{'edits' if o.beside else 'gate'}"
