@@ -198,7 +198,8 @@ def main():
     o = words.parse_args()
     room = f"{TOP}/tests/{'edits' if o.beside else 'gate'}"
     names = [it for it in o.names or sorted(os.listdir(room)) if os.path.isdir(f"{room}/{it}")]
-    rows = [(name, row) for name in names for row in rounds_of(name, room)]
+    # The longest first, so that none is left alone at the end.
+    rows = sorted(((name, row) for name in names for row in rounds_of(name, room)), key=lambda it: -len(it[1]))
     rtlib, failed, tried = kit(names[0]) if rows else None, 0, 0
     with tempfile.TemporaryDirectory(prefix="nbdq-copy-") as copy, ThreadPoolExecutor(o.jobs) as pool:
         if rows and not rtlib:
