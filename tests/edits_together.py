@@ -20,7 +20,7 @@ import tempfile
 import threading
 from concurrent.futures import ThreadPoolExecutor
 
-from public_edits import LAWS, TOP, functions_of, places, sources
+from public_edits import LAWS, TOP, functions_of, pairs_of, places, sources
 
 
 LAWS_BY_NAME = {it.split()[1] for it in LAWS}
@@ -98,18 +98,6 @@ def make(edits, folder):
             text = text[:at] + new + text[end:]
         with open(f"{folder}/{file}", "w", encoding="utf-8") as out:
             out.write(text)
-
-
-def pairs_of(path):
-    file, old = "", None
-    for line in open(path, encoding="utf-8").read().split("\n"):
-        if line.startswith("file: "):
-            file = line[6:].strip()
-        elif line.startswith("old: "):
-            old = line[5:]
-        elif line.startswith("new:") and old is not None:
-            yield file, old, line[5:]
-            old = None
 
 
 def kit(name):

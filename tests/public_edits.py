@@ -206,25 +206,32 @@ def sources(folder):
                 yield f"{at}/{name}"
 
 
-def places(edit, folder):
-    """Where the edit lies: (file, offset) of each of its texts in the file as it is, and what can't be found."""
-    path, old, texts, found, bad = "", None, {}, [], []
+def pairs_of(edit):
+    """The file, the old text and the new one of each pair of an edit."""
+    path, old = "", None
     for line in open(edit, encoding="utf-8").read().split("\n"):
         if line.startswith("file: "):
             path = line[6:].strip()
         elif line.startswith("old: "):
             old = line[5:]
         elif line.startswith("new:") and old is not None:
-            if path not in texts:
-                text = open(f"{folder}/{path}", encoding="utf-8").read() if os.path.isfile(f"{folder}/{path}") else ""
-                texts[path] = [text, text]
-            if texts[path][1].count(old) != 1:
-                bad.append(f"an 'old:' text is in {path} {texts[path][1].count(old)} times")
-            texts[path][1] = texts[path][1].replace(old, line[5:])
-            at = texts[path][0].find(old)
-            # What matters is the text's first letter: its indent may stand before the function.
-            found.append((path, at + len(old) - len(old.lstrip()) if at >= 0 else -1))
+            yield path, old, line[5:]
             old = None
+
+
+def places(edit, folder):
+    """Where the edit lies: (file, offset) of each of its texts in the file as it is, and what can't be found."""
+    texts, found, bad = {}, [], []
+    for path, old, new in pairs_of(edit):
+        if path not in texts:
+            text = open(f"{folder}/{path}", encoding="utf-8").read() if os.path.isfile(f"{folder}/{path}") else ""
+            texts[path] = [text, text]
+        if texts[path][1].count(old) != 1:
+            bad.append(f"an 'old:' text is in {path} {texts[path][1].count(old)} times")
+        texts[path][1] = texts[path][1].replace(old, new)
+        at = texts[path][0].find(old)
+        # What matters is the text's first letter: its indent may stand before the function.
+        found.append((path, at + len(old) - len(old.lstrip()) if at >= 0 else -1))
     return found, bad
 
 
