@@ -34,6 +34,32 @@ fn outdated_pages_are_handed_out(rt: HostRuntime) {
     assert!(rt; is_but(alloc, &image, 7, 0, 0));
 }
 
+// Whether the two pages of an offer are kept until the next one, and handed out then.
+fn hands_out_an_offer(
+    image: &mut Paged<Global>,
+    other: &Paged<Global>,
+    swept: &mut Swept<Global>,
+) -> bool {
+    image.sweep(swept);
+    image.offer(100, 4096, other);
+    image.sweep(swept);
+    let kept = swept.pages().is_empty();
+    image.sweep(swept);
+    image.offer(8192, 4096, other);
+    image.sweep(swept);
+    kept && swept.pages().len() == 2
+}
+
+#[test]
+fn pages_of_an_offer_are_handed_out(rt: HostRuntime) {
+    let alloc = rt.alloc();
+    let mut other: Paged<Global> = Paged::zeros(alloc, 12288).expect(&rt, "memory");
+    assert!(rt; puts_sevens(alloc, &mut other, 12288));
+    let mut image: Paged<Global> = Paged::zeros(alloc, 12288).expect(&rt, "memory");
+    let mut swept = Swept::with_room(alloc, 4).expect(&rt, "memory");
+    assert!(rt; hands_out_an_offer(&mut image, &other, &mut swept));
+}
+
 // Whether an image hands nothing out.
 fn hands_none_out<I: Image>(alloc: I::Alloc, image: &mut I) -> bool {
     match Swept::with_room(alloc, 4) {
