@@ -1,5 +1,5 @@
 //! Sets of numbers as bits, 64 in a word, the lowest of the first word for 0.
-ghost use Rattle.std.specs.Prelude.{◌≡◌, ◌≢◌, ℕ, ◌+◌, ◌*◌, ◌<◌, ◌≤◌, ◌==◌, length, if◌then◌else◌};
+ghost use Rattle.std.specs.Prelude.{◌≡◌, ◌≢◌, ℕ, ◌+◌, ◌*◌, ◌<◌, ◌≤◌, ◌==◌, length, if◌then◌else◌, true, false, None, IfSome};
 ghost use Rattle.std.specs.Int.{bit_at};
 ghost use Rattle.page_table.specs.Bits.{is_set, any_set, is_between, count_of};
 
@@ -47,6 +47,39 @@ pub(crate) fn count_below(words: &[u64], number: usize) -> usize
     ensures { result ≡ count_of (is_set words.now) 0 number }
 {
     count(&words[..number / 64]) + count_in(words[number / 64], number % 64)
+}
+
+// The number that is looked at behind one that isn't a member: the first of the next word, where no number of its word is one.
+fn behind(words: &[u64], number: usize) -> usize
+    requires within { number < 64 * length words.now }
+    requires absent { is_set words.now number ≡ false }
+    ensures more { number < result }
+    ensures none { (k : ℕ) → number ≤ k → k < result → is_set words.now k ≡ false }
+{
+    if number % 64 == 0 && words[number / 64] == 0 {
+        return number + 64;
+    }
+    number + 1
+}
+
+/// The least member from a number on before an end.
+pub(crate) fn next(words: &[u64], from: usize, end: usize) -> Option<usize>
+    requires within { end ≤ 64 * length words.now }
+    ensures begins { IfSome result (λ number. from ≤ number) }
+    ensures ends { IfSome result (λ number. number < end) }
+    ensures member { IfSome result (λ number. is_set words.now number ≡ true) }
+    ensures first { IfSome result (λ number. (k : ℕ) → from ≤ k → k < number
+        → is_set words.now k ≡ false) }
+    ensures none { result ≡ None → (k : ℕ) → from ≤ k → k < end → is_set words.now k ≡ false }
+{
+    let mut number = from;
+    while number < end {
+        if has(words, number) {
+            return Some(number);
+        }
+        number = behind(words, number);
+    }
+    None
 }
 
 /// A number is a member from now on, or isn't.

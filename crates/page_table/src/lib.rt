@@ -11,6 +11,7 @@ mod holes;
 mod items;
 mod least;
 mod places;
+mod regions;
 mod swept;
 mod table;
 

@@ -1,0 +1,209 @@
+ghost use Rattle.std.specs.Prelude.{◌≡◌, ℕ, ◌+◌, ◌*◌, ◌/◌, ◌%◌, ◌<◌, ◌≤◌, ◌≢◌, [], None, Some, IsSome, IfSome, IfOk, OnOk, OnErr, length, get_or};
+ghost use Rattle.page_table.specs.Table.{chunk_of, in_region};
+
+use crate::chunks::Chunk;
+use crate::places::Places;
+use nbd_base::NoMemory;
+use std::alloc::Allocator;
+use std::marker::Model;
+
+// How many chunks a region has places for.
+const REGION: usize = 256;
+
+/// Places for 256 chunks in a row.
+type Region<A> = Places<Chunk<A>, A>;
+
+/// Chunks by their numbers, in regions of 256 in a row. There is a row of regions up to the last in which there was a chunk; one in
+/// which there is none takes the size of a pointer.
+#[derive(Drop)]
+pub(crate) struct Regions<A: Allocator + Copy> {
+    regions: Vec<Option<Box<Region<A>, A>>, A>,
+}
+
+impl<A: Allocator + Copy> Model for Regions<A> {
+    ghost use Rattle.page_table.specs.Table.{Regions as Seen};
+
+    ghost Value = { Seen };
+
+    ghost view = { λ regions. regions.regions.items };
+}
+
+impl<A: Allocator + Copy> Regions<A> {
+    /// There is no chunk. It takes no memory.
+    pub(crate) fn new(alloc: A) -> Regions<A>
+        ensures { result ≡ [] }
+    {
+        Regions {
+            regions: Vec::new(alloc),
+        }
+    }
+
+    /// The chunk of a number.
+    pub(crate) fn get(&self, number: usize) -> Option<&Chunk<A>>
+        ensures some { IfSome result (λ chunk. chunk_of self.now number ≡ Some chunk.now) }
+        ensures none { result ≡ None → chunk_of self.now number ≡ None }
+    {
+        match self.regions.get(number / REGION) {
+            Some(Some(region)) => region.get(number % REGION),
+            Some(None) => None,
+            None => None,
+        }
+    }
+
+    // Puts a chunk in the place of one, which is the answer. Where there is none, the chunk is handed back.
+    fn exchange(&mut self, number: usize, chunk: Chunk<A>) -> Result<Chunk<A>, Chunk<A>>
+        ensures before { IfOk result (λ before. chunk_of self.old number ≡ Some before) }
+        ensures here { OnOk result (chunk_of self.new number ≡ Some chunk) }
+        ensures others { (q : ℕ) → q ≢ number → chunk_of self.new q ≡ chunk_of self.old q }
+        ensures none { OnErr result (chunk_of self.old number ≡ None) }
+        ensures same { OnErr result (chunk_of self.new number ≡ None) }
+    {
+        match self.regions.get_mut(number / REGION) {
+            Some(Some(region)) => region.exchange(number % REGION, chunk),
+            Some(None) => Err(chunk),
+            None => Err(chunk),
+        }
+    }
+
+    /// Takes the chunk of a number out for a while (`give_back`). One without a page stands in its place.
+    pub(crate) fn lend(&mut self, number: usize) -> Option<Chunk<A>>
+        ensures lent { result ≡ chunk_of self.old number }
+        ensures there { IfSome result (λ chunk. IsSome (chunk_of self.new number)) }
+        ensures none { result ≡ None → chunk_of self.new number ≡ None }
+        ensures others { (q : ℕ) → q ≢ number → chunk_of self.new q ≡ chunk_of self.old q }
+    {
+        let empty = Places::new(*self.regions.allocator());
+        match self.exchange(number, empty) {
+            Ok(chunk) => Some(chunk),
+            Err(_) => None,
+        }
+    }
+
+    /// Puts the chunk of a number back (`lend`).
+    pub(crate) fn give_back(&mut self, number: usize, chunk: Chunk<A>)
+        requires there { IsSome (chunk_of self.old number) }
+        ensures here { chunk_of self.new number ≡ Some chunk }
+        ensures others { (q : ℕ) → q ≢ number → chunk_of self.new q ≡ chunk_of self.old q }
+    {
+        let Ok(_) = self.exchange(number, chunk) else {
+            unreachable!();
+        };
+    }
+
+    // There are so many regions at least, in those of which that weren't there is no chunk.
+    fn lengthen(&mut self, count: usize) -> Result<(), NoMemory>
+        ensures long { OnOk result (count ≤ length self.new) }
+        ensures same { (q : ℕ) → chunk_of self.new q ≡ chunk_of self.old q }
+    {
+        while self.regions.len() < count {
+            let Ok(()) = self.regions.push(None) else {
+                return Err(NoMemory);
+            };
+        }
+        Ok(())
+    }
+
+    // There is a region of a number.
+    fn open(&mut self, alloc: A, region: usize) -> Result<(), NoMemory>
+        ensures there { OnOk result (IsSome (get_or self.new region None)) }
+        ensures same { (q : ℕ) → chunk_of self.new q ≡ chunk_of self.old q }
+    {
+        self.lengthen(region + 1)?;
+        if self.regions[region].is_none() {
+            let made: Region<A> = Places::new(alloc);
+            let made = Box::new(alloc, made)?;
+            self.regions[region] = Some(made);
+        }
+        Ok(())
+    }
+
+    /// A chunk of whose number there is none is there from now on.
+    pub(crate) fn add(&mut self, alloc: A, number: usize, chunk: Chunk<A>) -> Result<(), NoMemory>
+        requires none { chunk_of self.old number ≡ None }
+        ensures here { OnOk result (chunk_of self.new number ≡ Some chunk) }
+        ensures no_memory { OnErr result (chunk_of self.new number ≡ None) }
+        ensures others { (q : ℕ) → q ≢ number → chunk_of self.new q ≡ chunk_of self.old q }
+    {
+        self.open(alloc, number / REGION)?;
+        let Some(region) = &mut self.regions[number / REGION] else {
+            unreachable!();
+        };
+        region.add(number % REGION, chunk)
+    }
+
+    // Takes a chunk out of its region, which stays.
+    fn take_out(&mut self, number: usize) -> Option<Chunk<A>>
+        ensures before { result ≡ chunk_of self.old number }
+        ensures here { chunk_of self.new number ≡ None }
+        ensures others { (q : ℕ) → q ≢ number → chunk_of self.new q ≡ chunk_of self.old q }
+    {
+        match self.regions.get_mut(number / REGION) {
+            Some(Some(region)) => region.take(number % REGION),
+            Some(None) => None,
+            None => None,
+        }
+    }
+
+    // A region goes where there is no chunk in it.
+    fn close(&mut self, region: usize)
+        ensures { (q : ℕ) → chunk_of self.new q ≡ chunk_of self.old q }
+    {
+        let Some(Some(there)) = self.regions.get(region) else {
+            return;
+        };
+        if there.count() == 0 {
+            self.regions[region] = None;
+        }
+    }
+
+    /// Takes the chunk of a number out. A region goes with its last chunk.
+    pub(crate) fn take(&mut self, number: usize) -> Option<Chunk<A>>
+        ensures before { result ≡ chunk_of self.old number }
+        ensures here { chunk_of self.new number ≡ None }
+        ensures others { (q : ℕ) → q ≢ number → chunk_of self.new q ≡ chunk_of self.old q }
+    {
+        let taken = self.take_out(number);
+        self.close(number / REGION);
+        taken
+    }
+
+    // The first chunk of a region, from a place on before an end.
+    fn next_in(&self, region: usize, from: usize, end: usize) -> Option<usize>
+        requires { end ≤ 256 }
+        ensures begins { IfSome result (λ place. from ≤ place) }
+        ensures ends { IfSome result (λ place. place < end) }
+        ensures there { IfSome result (λ place.
+            IsSome (in_region (get_or self.now region None) place)) }
+        ensures first { IfSome result (λ place. (k : ℕ) → from ≤ k → k < place
+            → in_region (get_or self.now region None) k ≡ None) }
+        ensures none { result ≡ None → (k : ℕ) → from ≤ k → k < end
+            → in_region (get_or self.now region None) k ≡ None }
+    {
+        match self.regions.get(region) {
+            Some(Some(there)) => there.next(from, end),
+            Some(None) => None,
+            None => None,
+        }
+    }
+
+    /// The least number from one on before an end of which there is a chunk. It looks at the regions of the range that are there.
+    pub(crate) fn next(&self, from: usize, end: usize) -> Option<usize>
+        ensures begins { IfSome result (λ number. from ≤ number) }
+        ensures ends { IfSome result (λ number. number < end) }
+        ensures there { IfSome result (λ number. IsSome (chunk_of self.now number)) }
+        ensures first { IfSome result (λ number. (q : ℕ) → from ≤ q → q < number
+            → chunk_of self.now q ≡ None) }
+        ensures none { result ≡ None → (q : ℕ) → from ≤ q → q < end → chunk_of self.now q ≡ None }
+    {
+        let mut next = from;
+        while next < end && next / REGION < self.regions.len() {
+            let (region, place) = (next / REGION, next % REGION);
+            let begin = next - place;
+            if let Some(found) = self.next_in(region, place, (end - begin).min(REGION)) {
+                return Some(begin + found);
+            }
+            next = begin + REGION;
+        }
+        None
+    }
+}
