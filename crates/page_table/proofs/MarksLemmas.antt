@@ -1,7 +1,9 @@
 -- A set in bitmaps after one of these has changed.
 use Rattle.std.proofs.Common.{◌≡◌, ◌≢◌, ℕ, ◌+◌, ◌-◌, ◌*◌, ◌/◌, ◌%◌, ◌<◌, ◌≤◌, inl, inr, Bool, true, false, unwrap_or, IsSome, IfSome, Option, None, Some, List, [], min, max, if◌then◌else◌, refl, sym, ap, subst, ◌∙◌, arith}
-use Rattle.std.specs.Ordering.{nat_cmp}
-use Rattle.std.specs.BTreeMap.{BTreeMap, get, UpdatesBy}
+use Rattle.std.specs.Ordering.{nat_cmp, is_eq}
+use Rattle.std.specs.Cmp.{nat_cmp_is}
+use Rattle.std.specs.declared.cmp.Ordering.TheVariants.{Less, Greater}
+use Rattle.std.specs.BTreeMap.{BTreeMap, is_at, get, UpdatesBy}
 use Rattle.std.specs.Int.{div_ceil}
 use Rattle.std.proofs.lemmas.Bool.{cases_lt, cases_eq}
 use Rattle.page_table.specs.Bits.{is_set, any_set, is_between}
@@ -9,10 +11,21 @@ use Rattle.page_table.specs.Marks.{bitmap_of, is_marked, AreUsed}
 use Rattle.page_table.proofs.CountLemmas.{count_of, count-none, count-shift}
 use Rattle.page_table.proofs.RangeLemmas.{between_yes, between_before, between_behind, between_part}
 use Rattle.page_table.proofs.BitsLemmas.{empty_set, not_any}
-use Rattle.page_table.proofs.ChunksLemmas.{updates_others, if_none}
+use Rattle.page_table.proofs.ChunksLemmas.{if_none}
 
 abbrev pub Bitmaps : Type 0
 Bitmaps = List (ℕ × List ℕ)
+
+at_other : (k q : ℕ) → q ≢ k → is_at (nat_cmp k) q ≡ false
+at_other k q apart =
+    elim (cases_lt k q) [
+      | inl lt ↦ ap is_eq (sym (nat_cmp_is k q Less lt))
+      | inr le ↦ let lt : q < k = omega arith in ap is_eq (sym (nat_cmp_is k q Greater lt))
+    ]
+
+-- the other entries of a map once one was put, changed or taken out
+updates_others : {X : Type 0} (m n : BTreeMap ℕ X) (q : ℕ) (w : Option X) → UpdatesBy nat_cmp (nat_cmp q) m n w → (p : ℕ) → p ≢ q → get nat_cmp n p ≡ get nat_cmp m p
+updates_others m n q w updates p apart = updates.2 p (at_other q p apart)
 
 -- what is said of a number
 pub marked_is : (bitmaps : Bitmaps) (k q : ℕ) → k / 16384 ≡ q → is_marked bitmaps k ≡ is_set (unwrap_or (bitmap_of bitmaps q) []) (k % 16384)
