@@ -17,6 +17,10 @@ pub then_ok : {T E : Type 0} (r : Result T E) (P Q : Type 0) → (P → Q) → O
 then_ok (Ok x) P Q so p = so p
 then_ok (Err e) P Q so p = tt
 
+pub either_way : {T E : Type 0} (r : Result T E) (P Q R : Type 0) → (P → R) → (Q → R) → OnOk r P → OnErr r Q → R
+either_way (Ok x) P Q R left right p q = left p
+either_way (Err e) P Q R left right p q = right q
+
 pub then_err : {T E : Type 0} (r : Result T E) (P Q : Type 0) → (P → Q) → OnErr r P → OnErr r Q
 then_err (Ok x) P Q so p = tt
 then_err (Err e) P Q so p = so p
@@ -92,19 +96,21 @@ module _ (old new : Regions) (q : ℕ) (others : (p : ℕ) → p ≢ q → chunk
   pub taken_gone : AreTaken old → chunk_of new q ≡ None → AreTaken new
   taken_gone was gone = taken_after was (if_none (chunk_of new q) (λ chunk. 0 < taken chunk) gone)
 
--- One chunk has changed to another, or has come.
-module _ (old new : Regions) (q : ℕ) (after : Chunk) (here : chunk_of new q ≡ Some after) where
+-- A chunk was taken out of its place, and another has been put there.
+module _ (old mid new : Regions) (q : ℕ) (after : Chunk) (lent : (p : ℕ) → p ≢ q → chunk_of mid p ≡ chunk_of old p) (back : (p : ℕ) → p ≢ q → chunk_of new p ≡ chunk_of mid p)
+    (here : chunk_of new q ≡ Some after) where
   pub put_here : (k : ℕ) (page : Option (List ℕ)) → k / 256 ≡ q → get_or after (k % 256) None ≡ page → in_chunks new k ≡ page
   put_here k page is same = sym (found_is new k q after is (sym here)) ∙ same
 
-  pub put_apart : ((p : ℕ) → p ≢ q → chunk_of new p ≡ chunk_of old p) → (before : Option Chunk) (number : ℕ) → number / 256 ≡ q → before ≡ chunk_of old q
-      → ((k : ℕ) → k ≢ number % 256 → get_or after k None ≡ in_chunk before k) → (k : ℕ) → k ≢ number → in_chunks new k ≡ in_chunks old k
-  put_apart others before number is found same =
-      other_places old new q others number is
+  pub put_apart : (before : Option Chunk) (number : ℕ) → number / 256 ≡ q → before ≡ chunk_of old q → ((k : ℕ) → k ≢ number % 256 → get_or after k None ≡ in_chunk before k)
+      → (k : ℕ) → k ≢ number → in_chunks new k ≡ in_chunks old k
+  put_apart before number is found same =
+      other_places old new q (λ p apart. back p apart ∙ lent p apart) number is
       (λ k apart. ap (λ (c : Option Chunk). in_chunk c k) here ∙ same k apart ∙ ap (λ (c : Option Chunk). in_chunk c k) found)
 
-  pub taken_put : ((p : ℕ) → p ≢ q → chunk_of new p ≡ chunk_of old p) → AreTaken old → 0 < taken after → AreTaken new
-  taken_put others was some = taken_after old new q others was (subst (λ (c : Option Chunk). IfSome c (λ chunk. 0 < taken chunk)) (sym here) some)
+  pub taken_put : AreTaken old → 0 < taken after → AreTaken new
+  taken_put was some =
+      taken_after old new q (λ p apart. back p apart ∙ lent p apart) was (subst (λ (c : Option Chunk). IfSome c (λ chunk. 0 < taken chunk)) (sym here) some)
 
 -- how many pages of a chunk are stored
 pub count_chunk : (chunks : Regions) (q n begin : ℕ) (chunk : Chunk) → n ≡ 256 → begin ≡ 256 * q → length chunk ≡ n → Some chunk ≡ chunk_of chunks q

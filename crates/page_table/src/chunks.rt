@@ -127,7 +127,10 @@ impl<A: Allocator + Copy> Chunks<A> {
         };
         let exchanged = chunk.exchange(number % CHUNK, page);
         self.chunks.give_back(number / CHUNK, chunk);
-        let before = exchanged?;
+        let before = match exchanged {
+            Ok(before) => before,
+            Err(page) => return Err(page),
+        };
         swept.take_page(before);
         Ok(())
     }
