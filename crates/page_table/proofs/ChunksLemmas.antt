@@ -17,13 +17,13 @@ pub then_ok : {T E : Type 0} (r : Result T E) (P Q : Type 0) → (P → Q) → O
 then_ok (Ok x) P Q so p = so p
 then_ok (Err e) P Q so p = tt
 
-pub either_way : {T E : Type 0} (r : Result T E) (P Q R : Type 0) → (P → R) → (Q → R) → OnOk r P → OnErr r Q → R
-either_way (Ok x) P Q R left right p q = left p
-either_way (Err e) P Q R left right p q = right q
-
 pub then_err : {T E : Type 0} (r : Result T E) (P Q : Type 0) → (P → Q) → OnErr r P → OnErr r Q
 then_err (Ok x) P Q so p = tt
 then_err (Err e) P Q so p = so p
+
+pub either_way : {T E : Type 0} (r : Result T E) (P Q R : Type 0) → (P → R) → (Q → R) → OnOk r P → OnErr r Q → R
+either_way (Ok x) P Q R left right p q = left p
+either_way (Err e) P Q R left right p q = right q
 
 -- what holds of what is there by what is told of it
 pub if_there : {X : Type 0} (o : Option X) (P Q : X → Type 0) → ((x : X) → P x → Q x) → IfSome o P → IfSome o Q
@@ -40,9 +40,6 @@ found_is chunks k q chunk is found = ap (λ (c : Option Chunk). in_chunk c (k % 
 
 pub absent_is : (chunks : Regions) (k q : ℕ) → k / 256 ≡ q → chunk_of chunks q ≡ None → in_chunks chunks k ≡ None
 absent_is chunks k q is absent = table_is chunks k q is ∙ ap (λ (c : Option Chunk). in_chunk c (k % 256)) absent
-
-pub not_stored : (chunks : Regions) (k q : ℕ) → k / 256 ≡ q → chunk_of chunks q ≡ None → is_some (in_chunks chunks k) ≡ true → ⊥
-not_stored chunks k q is absent stored = let bad : false ≡ true = ap is_some (sym (absent_is chunks k q is absent)) ∙ stored in cc
 
 -- there is no chunk where there is no region
 no_chunk : (chunks : Regions) → chunks ≡ [] → (q : ℕ) → chunk_of chunks q ≡ None
@@ -163,19 +160,12 @@ none_in_chunk : (chunk : Option Chunk) (n k : ℕ) → IfSome chunk (λ c. n ≡
 none_in_chunk None n k left none = refl
 none_in_chunk (Some chunk) n k left none = none_taken_place chunk k (sym left ∙ none)
 
-some_in_chunk : (chunk : Option Chunk) (n : ℕ) → IfSome chunk (λ c. n ≡ taken c) → 0 < n → IfSome chunk (λ c. 0 < taken c)
-some_in_chunk None n left some = tt
-some_in_chunk (Some chunk) n left some = omega (arith, left)
-
 -- the same where it is empty and goes
 pub places_all_gone : (old mid new : Regions) (q first end from to n : ℕ) → from ≡ first - q * 256 → to ≡ min (end - q * 256) 256 → ((p : ℕ) → p ≢ q → chunk_of mid p ≡ chunk_of old p)
     → ((k : ℕ) → in_chunk (chunk_of mid q) k ≡ (if is_between from to k then None else in_chunk (chunk_of old q) k))
     → IfSome (chunk_of mid q) (λ c. n ≡ taken c) → n ≡ 0 → chunk_of new q ≡ None → (k : ℕ) → k / 256 ≡ q → in_chunks new k ≡ (if is_between first end k then None else in_chunks old k)
 places_all_gone old mid new q first end from to n begins ends others here left none gone k is =
     absent_is new k q is gone ∙ sym (table_is mid k q is ∙ none_in_chunk (chunk_of mid q) n (k % 256) left none) ∙ places_gone old mid q first end others from to begins ends here k is
-
-pub taken_left : (old mid : Regions) (q n : ℕ) → ((p : ℕ) → p ≢ q → chunk_of mid p ≡ chunk_of old p) → AreTaken old → IfSome (chunk_of mid q) (λ c. n ≡ taken c) → (n ≡ 0 → ⊥) → AreTaken mid
-taken_left old mid q n others was left some = taken_after old mid q others was (some_in_chunk (chunk_of mid q) n left (omega arith))
 
 -- fewer lie in so many places where some went
 less_cond : (a b : Bool) → (b ≡ true → a ≡ true) → cond b 1 0 ≤ cond a 1 0

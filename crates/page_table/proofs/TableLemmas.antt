@@ -1,6 +1,6 @@
 -- A table after its chunks or its holes have changed.
-use Rattle.std.proofs.Common.{◌≡◌, ◌≢◌, ℕ, ◌+◌, ◌-◌, ◌*◌, ◌/◌, ◌<◌, ◌≤◌, ◌^◌, Bool, true, false, not, ◌||◌, ◌&&◌, ◌==◌, nat_eq, is_some, IfOk, OnOk, OnErr, Result, Ok, Err, inl, inr, Option, Some, None, List, [], length, replicate, take, if◌then◌else◌, refl, sym, ap, ◌∙◌, arith}
-use Rattle.std.proofs.lemmas.Bool.{cases_lt, cases_eq, cases_Bool}
+use Rattle.std.proofs.Common.{◌≡◌, ◌≢◌, ℕ, ◌+◌, ◌-◌, ◌*◌, ◌/◌, ◌<◌, ◌≤◌, ◌^◌, Bool, true, false, not, ◌||◌, ◌&&◌, ◌==◌, nat_eq, is_some, IfOk, Result, Ok, Err, inl, inr, Option, Some, None, List, [], length, replicate, take, if◌then◌else◌, refl, sym, ap, ◌∙◌, arith}
+use Rattle.std.proofs.lemmas.Bool.{cases_eq, cases_Bool}
 use Rattle.std.proofs.lemmas.Bool.Decides.{nat_tests}
 use Rattle.std.proofs.lemmas.List.{take-replicate}
 use Rattle.payload.specs.Rows.{zero_page}
@@ -11,7 +11,7 @@ use Rattle.page_table.proofs.CountLemmas.{count_of, count-none, count-append, co
 use Rattle.page_table.proofs.PlacesLemmas.{count_added, count_same}
 use Rattle.page_table.proofs.ChunksLemmas.{other_chunk}
 use Rattle.page_table.proofs.HolesLemmas.{Rows, no_hole, rows_fewer}
-use Rattle.page_table.proofs.ShownLemmas.{shown_none, shown_same, page_none, page_same, page_dug}
+use Rattle.page_table.proofs.ShownLemmas.{page_none, page_same, page_dug}
 
 -- what holds of a result by what is told of it
 pub if_ok : {T E : Type 0} (r : Result T E) (P Q : T → Type 0) → ((x : T) → P x → Q x) → IfOk r P → IfOk r Q
@@ -72,10 +72,6 @@ filled_here old new page filled k = filled page k ∙ filled_bit (is_hole old pa
 
 pub filled_others : (old new : Rows) (page : ℕ) → ((p k : ℕ) → is_hole new p k ≡ (is_hole old p k && not (p == page))) → (p : ℕ) → p ≢ page → (k : ℕ) → is_hole new p k ≡ is_hole old p k
 filled_others old new page filled p apart k = filled p k ∙ kept_bit (is_hole old p k) (nat_eq p page) (eq_other p page apart)
-
-left_bit : (a b : Bool) → (a && b) ≡ true → a ≡ true
-left_bit true b both = refl
-left_bit false b both = absurd (cc)
 
 -- A range of a page is noted as zeros.
 or_and_true : (a b c : Bool) → b ≡ true → (a || (b && c)) ≡ (a || c)
@@ -155,29 +151,6 @@ module _ (old new : Regions) (before after : Holes) (number : ℕ) (below : numb
         | inl e ↦ ap (is_kept new) e ∙ ap is_some (here ∙ sym none) ∙ ap (is_kept old) (sym e)
         | inr apart ↦ ap is_some (others k apart)
       ]) pages (λ k noted. sym (ap (λ (all : Rows). is_noted all k) rows) ∙ noted)
-
--- where one takes the place of another
-pub kept_same : (old new : Regions) (number : ℕ) → is_kept old number ≡ is_kept new number → ((k : ℕ) → k ≢ number → in_chunks new k ≡ in_chunks old k) → (k : ℕ) → is_kept new k ≡ is_kept old k
-kept_same old new number here others k =
-    elim (cases_eq k number) [
-      | inl e ↦ ap (is_kept new) e ∙ sym here ∙ ap (is_kept old) (sym e)
-      | inr apart ↦ ap is_some (others k apart)
-    ]
-
-is_eq : (p q : ℕ) → nat_eq p q ≡ true → p ≡ q
-is_eq p q same = grind (arith, nat_tests, same)
-
-either : (a b c : Bool) → (a || b) ≡ true → (a ≡ true → c ≡ true) → (b ≡ true → c ≡ true) → c ≡ true
-either true b c some left right = left refl
-either false b c some left right = right some
-
--- where bytes of one are noted
-pub room_dug : (chunks : Regions) (before after : Holes) (page : ℕ) → HaveRoom chunks before → is_kept chunks page ≡ true → after.pages ≡ before.pages
-    → ((p : ℕ) → is_noted after.rows p ≡ (is_noted before.rows p || (p == page))) → HaveRoom chunks after
-room_dug chunks before after page was here pages noted = record {
-  pages = was.pages ∙ sym pages;
-  rows = λ k is. either (is_noted before.rows k) (k == page) (is_kept chunks k) (sym (noted k) ∙ is) (was.rows k) (λ same. ap (is_kept chunks) (is_eq k page same) ∙ here);
-}
 
 -- so there is room for the row of a page that has none
 pub room_for : (chunks : Regions) (holes : Holes) (page : ℕ) → HaveRoom chunks holes → is_kept chunks page ≡ true → page < 2 ^ 64 → AreOrdered 0 holes.rows → is_noted holes.rows page ≡ false → length holes.rows < holes.pages

@@ -1,4 +1,4 @@
-use Rattle.std.proofs.Common.{◌≡◌, ◌≢◌, ◌∙◌, ◌/◌, ◌%◌, ◌<◌, ℕ, List, Option, Some, None, get_or, set, length, refl, sym, ap, arith}
+use Rattle.std.proofs.Common.{◌≡◌, ◌∙◌, ◌/◌, ◌%◌, ℕ, Option, Some, None, get_or, set, refl, ap, arith}
 use Rattle.page_table.specs.Table.{Chunk, Regions, AreTaken, chunk_of, in_chunk, in_chunks}
 use Rattle.page_table.proofs.ChunksLemmas.{on_err, then_ok, then_err, either_way, found_is, absent_is, taken_found, taken_gone, same_table, put_here, put_apart, taken_put, set_here, set_others, put_others, put_taken, set_taken, nones_at}
 use Rattle.page_table.proofs.chunks.Chunks.add.Goals as goal

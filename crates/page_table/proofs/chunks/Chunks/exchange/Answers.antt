@@ -1,5 +1,5 @@
-use Rattle.std.proofs.Common.{◌≡◌, ◌≢◌, ◌∙◌, ◌/◌, ◌%◌, ◌<◌, ℕ, List, Option, Some, None, is_some, get_or, set, length, refl, sym, ap, arith}
-use Rattle.page_table.specs.Table.{Chunk, Regions, chunk_of, in_chunk, in_chunks, is_kept}
+use Rattle.std.proofs.Common.{◌∙◌, ◌/◌, ◌%◌, ℕ, Option, Some, None, is_some, get_or, refl, sym, ap, arith}
+use Rattle.page_table.specs.Table.{Chunk, Regions, in_chunk, in_chunks, is_kept}
 use Rattle.page_table.proofs.ChunksLemmas.{found_is, absent_is, taken_found, same_table, put_here, put_apart, taken_put, set_here, put_others, put_taken, some_of}
 use Rattle.page_table.proofs.chunks.Chunks.exchange.Goals as goal
 

@@ -1,4 +1,4 @@
-use Rattle.std.proofs.Common.{◌≡◌, ◌∙◌, ◌/◌, ◌%◌, ℕ, List, Option, Some, None, get_or, refl, sym, ap}
+use Rattle.std.proofs.Common.{◌≡◌, ◌∙◌, ◌/◌, ◌%◌, ℕ, Some, None, get_or, refl, sym, ap}
 use Rattle.page_table.specs.Table.{Regions, in_chunks}
 use Rattle.page_table.proofs.ChunksLemmas.{if_there, found_is, absent_is}
 use Rattle.page_table.proofs.chunks.Chunks.get.Goals as goal

@@ -1,7 +1,7 @@
-use Rattle.std.proofs.Common.{◌≡◌, ◌∙◌, ℕ, List, Option, Some, refl, sym, ap}
+use Rattle.std.proofs.Common.{◌≡◌, ◌∙◌, ℕ, List, Some, refl, sym, ap}
 use Rattle.page_table.specs.Bits.{is_set}
 use Rattle.page_table.specs.Holes.{is_hole}
-use Rattle.page_table.specs.Table.{Stored, in_chunks, in_table, shown}
+use Rattle.page_table.specs.Table.{Stored, in_table, shown}
 use Rattle.page_table.proofs.ShownLemmas.{shown_same}
 use Rattle.page_table.proofs.TableLemmas.{if_ok, shown_is, whole_is}
 use Rattle.page_table.proofs.table.Table.current.Goals as goal
