@@ -1,4 +1,5 @@
 ghost use Rattle.std.specs.Prelude.{◌≡◌, ℕ, ◌+◌, ◌*◌, ◌/◌, ◌%◌, ◌<◌, ◌≤◌, ◌≢◌, [], None, Some, IsSome, IfSome, IfOk, OnOk, OnErr, length, get_or};
+ghost use Rattle.page_table.specs.Boxed.{unboxed};
 ghost use Rattle.page_table.specs.Table.{chunk_of, in_region};
 
 use crate::chunks::Chunk;
@@ -13,19 +14,77 @@ const REGION: usize = 256;
 /// Places for 256 chunks in a row.
 type Region<A> = Places<Chunk<A>, A>;
 
+/// A region in a box, where there is one.
+type Boxed<A> = Option<Box<Region<A>, A>>;
+
+// Puts a chunk in the place of one, where there is a region (`Regions::exchange`).
+fn exchange_in<A: Allocator + Copy>(
+    region: &mut Boxed<A>,
+    place: usize,
+    chunk: Chunk<A>,
+) -> Result<Chunk<A>, Chunk<A>>
+    requires { place < 256 }
+    ensures before { IfOk result (λ before. in_region (unboxed region.old) place ≡ Some before) }
+    ensures here { OnOk result (in_region (unboxed region.new) place ≡ Some chunk) }
+    ensures others { (k : ℕ) → k ≢ place
+        → in_region (unboxed region.new) k ≡ in_region (unboxed region.old) k }
+    ensures none { OnErr result (in_region (unboxed region.old) place ≡ None) }
+    ensures same { OnErr result (in_region (unboxed region.new) place ≡ None) }
+{
+    match region {
+        Some(region) => region.exchange(place, chunk),
+        None => Err(chunk),
+    }
+}
+
+// Puts a chunk where there is none, in a region that is there.
+fn add_in<A: Allocator + Copy>(
+    region: &mut Boxed<A>,
+    place: usize,
+    chunk: Chunk<A>,
+) -> Result<(), NoMemory>
+    requires place { place < 256 }
+    requires there { IsSome region.old }
+    requires none { in_region (unboxed region.old) place ≡ None }
+    ensures here { OnOk result (in_region (unboxed region.new) place ≡ Some chunk) }
+    ensures no_memory { OnErr result (in_region (unboxed region.new) place ≡ None) }
+    ensures others { (k : ℕ) → k ≢ place
+        → in_region (unboxed region.new) k ≡ in_region (unboxed region.old) k }
+{
+    let Some(region) = region else {
+        unreachable!();
+    };
+    region.add(place, chunk)
+}
+
+// Takes a chunk out, where there is a region.
+fn take_in<A: Allocator + Copy>(region: &mut Boxed<A>, place: usize) -> Option<Chunk<A>>
+    requires { place < 256 }
+    ensures before { result ≡ in_region (unboxed region.old) place }
+    ensures here { in_region (unboxed region.new) place ≡ None }
+    ensures others { (k : ℕ) → k ≢ place
+        → in_region (unboxed region.new) k ≡ in_region (unboxed region.old) k }
+{
+    match region {
+        Some(region) => region.take(place),
+        None => None,
+    }
+}
+
 /// Chunks by their numbers, in regions of 256 in a row. There is a row of regions up to the last in which there was a chunk; one in
 /// which there is none takes the size of a pointer.
 #[derive(Drop)]
 pub(crate) struct Regions<A: Allocator + Copy> {
-    regions: Vec<Option<Box<Region<A>, A>>, A>,
+    regions: Vec<Boxed<A>, A>,
 }
 
 impl<A: Allocator + Copy> Model for Regions<A> {
+    ghost use Rattle.page_table.specs.Boxed.{all_unboxed};
     ghost use Rattle.page_table.specs.Table.{Regions as Seen};
 
     ghost Value = { Seen };
 
-    ghost view = { λ regions. regions.regions.items };
+    ghost view = { λ regions. all_unboxed regions.regions.items };
 }
 
 impl<A: Allocator + Copy> Regions<A> {
@@ -58,11 +117,10 @@ impl<A: Allocator + Copy> Regions<A> {
         ensures none { OnErr result (chunk_of self.old number ≡ None) }
         ensures same { OnErr result (chunk_of self.new number ≡ None) }
     {
-        match self.regions.get_mut(number / REGION) {
-            Some(Some(region)) => region.exchange(number % REGION, chunk),
-            Some(None) => Err(chunk),
-            None => Err(chunk),
+        if number / REGION >= self.regions.len() {
+            return Err(chunk);
         }
+        exchange_in(&mut self.regions[number / REGION], number % REGION, chunk)
     }
 
     /// Takes the chunk of a number out for a while (`give_back`). One without a page stands in its place.
@@ -125,10 +183,7 @@ impl<A: Allocator + Copy> Regions<A> {
         ensures others { (q : ℕ) → q ≢ number → chunk_of self.new q ≡ chunk_of self.old q }
     {
         self.open(alloc, number / REGION)?;
-        let Some(region) = &mut self.regions[number / REGION] else {
-            unreachable!();
-        };
-        region.add(number % REGION, chunk)
+        add_in(&mut self.regions[number / REGION], number % REGION, chunk)
     }
 
     // Takes a chunk out of its region, which stays.
@@ -137,11 +192,10 @@ impl<A: Allocator + Copy> Regions<A> {
         ensures here { chunk_of self.new number ≡ None }
         ensures others { (q : ℕ) → q ≢ number → chunk_of self.new q ≡ chunk_of self.old q }
     {
-        match self.regions.get_mut(number / REGION) {
-            Some(Some(region)) => region.take(number % REGION),
-            Some(None) => None,
-            None => None,
+        if number / REGION >= self.regions.len() {
+            return None;
         }
+        take_in(&mut self.regions[number / REGION], number % REGION)
     }
 
     // A region goes where there is no chunk in it.
