@@ -1,4 +1,4 @@
-ghost use Rattle.std.specs.Prelude.{◌≡◌, ℕ, ◌+◌, ◌*◌, ◌/◌, ◌%◌, ◌<◌, ◌≤◌, ◌≢◌, [], None, Some, IsSome, IfSome, IfOk, OnOk, OnErr, length, get_or};
+ghost use Rattle.std.specs.Prelude.{◌≡◌, ℕ, ◌+◌, ◌*◌, ◌/◌, ◌%◌, ◌<◌, ◌≤◌, ◌≢◌, true, [], None, Some, IsSome, IfSome, IfOk, OnOk, OnErr, length, get_or};
 ghost use Rattle.page_table.specs.Boxed.{unboxed};
 ghost use Rattle.page_table.specs.Table.{chunk_of, in_region};
 
@@ -69,6 +69,57 @@ fn take_in<A: Allocator + Copy>(region: &mut Boxed<A>, place: usize) -> Option<C
         Some(region) => region.take(place),
         None => None,
     }
+}
+
+// There is a region, in which there is no chunk if it is new.
+fn open_in<A: Allocator + Copy>(alloc: A, region: &mut Boxed<A>) -> Result<(), NoMemory>
+    ensures there { OnOk result (IsSome region.new) }
+    ensures same { (k : ℕ) → in_region (unboxed region.new) k ≡ in_region (unboxed region.old) k }
+{
+    if region.is_some() {
+        return Ok(());
+    }
+    let made: Region<A> = Places::new(alloc);
+    let Ok(made) = Box::new(alloc, made) else {
+        return Err(NoMemory);
+    };
+    *region = Some(made);
+    Ok(())
+}
+
+// Whether there is no chunk in a region.
+fn is_empty<A: Allocator + Copy>(region: &Boxed<A>) -> bool
+    ensures { result ≡ true → (k : ℕ) → in_region (unboxed region.now) k ≡ None }
+{
+    match region {
+        Some(region) => region.count() == 0,
+        None => true,
+    }
+}
+
+// A region goes where there is no chunk in it.
+fn close_in<A: Allocator + Copy>(region: &mut Boxed<A>)
+    ensures { (k : ℕ) → in_region (unboxed region.new) k ≡ in_region (unboxed region.old) k }
+{
+    if is_empty(region) {
+        *region = None;
+    }
+}
+
+// There is a place for a region, in which there is none if it is new.
+fn lengthen_to<A: Allocator + Copy>(
+    regions: &mut Vec<Boxed<A>, A>,
+    region: usize,
+) -> Result<(), NoMemory>
+    ensures long { OnOk result (region < length regions.new.items) }
+    ensures same { (k : ℕ) → get_or regions.new.items k None ≡ get_or regions.old.items k None }
+{
+    while regions.len() <= region {
+        let Ok(()) = regions.push(None) else {
+            return Err(NoMemory);
+        };
+    }
+    Ok(())
 }
 
 /// Chunks by their numbers, in regions of 256 in a row. There is a row of regions up to the last in which there was a chunk; one in
@@ -148,17 +199,12 @@ impl<A: Allocator + Copy> Regions<A> {
         };
     }
 
-    // There are so many regions at least, in those of which that weren't there is no chunk.
-    fn lengthen(&mut self, count: usize) -> Result<(), NoMemory>
-        ensures long { OnOk result (count ≤ length self.new) }
+    // There is a place for a region.
+    fn lengthen(&mut self, region: usize) -> Result<(), NoMemory>
+        ensures long { OnOk result (region < length self.new) }
         ensures same { (q : ℕ) → chunk_of self.new q ≡ chunk_of self.old q }
     {
-        while self.regions.len() < count {
-            let Ok(()) = self.regions.push(None) else {
-                return Err(NoMemory);
-            };
-        }
-        Ok(())
+        lengthen_to(&mut self.regions, region)
     }
 
     // There is a region of a number.
@@ -166,13 +212,10 @@ impl<A: Allocator + Copy> Regions<A> {
         ensures there { OnOk result (IsSome (get_or self.new region None)) }
         ensures same { (q : ℕ) → chunk_of self.new q ≡ chunk_of self.old q }
     {
-        self.lengthen(region + 1)?;
-        if self.regions[region].is_none() {
-            let made: Region<A> = Places::new(alloc);
-            let made = Box::new(alloc, made)?;
-            self.regions[region] = Some(made);
-        }
-        Ok(())
+        let Ok(()) = self.lengthen(region) else {
+            return Err(NoMemory);
+        };
+        open_in(alloc, &mut self.regions[region])
     }
 
     /// A chunk of whose number there is none is there from now on.
@@ -182,7 +225,9 @@ impl<A: Allocator + Copy> Regions<A> {
         ensures no_memory { OnErr result (chunk_of self.new number ≡ None) }
         ensures others { (q : ℕ) → q ≢ number → chunk_of self.new q ≡ chunk_of self.old q }
     {
-        self.open(alloc, number / REGION)?;
+        let Ok(()) = self.open(alloc, number / REGION) else {
+            return Err(NoMemory);
+        };
         add_in(&mut self.regions[number / REGION], number % REGION, chunk)
     }
 
@@ -202,11 +247,8 @@ impl<A: Allocator + Copy> Regions<A> {
     fn close(&mut self, region: usize)
         ensures { (q : ℕ) → chunk_of self.new q ≡ chunk_of self.old q }
     {
-        let Some(Some(there)) = self.regions.get(region) else {
-            return;
-        };
-        if there.count() == 0 {
-            self.regions[region] = None;
+        if region < self.regions.len() {
+            close_in(&mut self.regions[region]);
         }
     }
 
