@@ -5,6 +5,7 @@ pub mod ItemsLemmas
 pub mod PlacesLemmas
 pub mod ShownLemmas
 pub mod HolesLemmas
+pub mod RegionsLemmas
 pub mod ChunksLemmas
 pub mod TableLemmas
 pub mod MarksLemmas

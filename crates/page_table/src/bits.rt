@@ -49,15 +49,17 @@ pub(crate) fn count_below(words: &[u64], number: usize) -> usize
     count(&words[..number / 64]) + count_in(words[number / 64], number % 64)
 }
 
-// The number that is looked at behind one that isn't a member: the first of the next word, where no number of its word is one.
-fn behind(words: &[u64], number: usize) -> usize
-    requires within { number < 64 * length words.now }
+// The number that is looked at behind one that isn't a member: the first of the next word, where no number of its word is one. It
+// isn't behind the end.
+fn behind(words: &[u64], number: usize, end: usize) -> usize
+    requires some { number < end }
+    requires within { end ≤ 64 * length words.now }
     requires absent { is_set words.now number ≡ false }
     ensures more { number < result }
     ensures none { (k : ℕ) → number ≤ k → k < result → is_set words.now k ≡ false }
 {
     if number % 64 == 0 && words[number / 64] == 0 {
-        return number + 64;
+        return number + (end - number).min(64);
     }
     number + 1
 }
@@ -77,7 +79,7 @@ pub(crate) fn next(words: &[u64], from: usize, end: usize) -> Option<usize>
         if has(words, number) {
             return Some(number);
         }
-        number = behind(words, number);
+        number = behind(words, number, end);
     }
     None
 }

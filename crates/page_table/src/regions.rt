@@ -1,4 +1,5 @@
-ghost use Rattle.std.specs.Prelude.{◌≡◌, ℕ, ◌+◌, ◌*◌, ◌/◌, ◌%◌, ◌<◌, ◌≤◌, ◌≢◌, [], None, Some, IsSome, IfSome, IfOk, OnOk, OnErr, length, get_or};
+ghost use Rattle.std.specs.Prelude.{◌≡◌, ℕ, ◌+◌, ◌*◌, ◌/◌, ◌%◌, ◌<◌, ◌≤◌, ◌≢◌, true, [], None, Some, IsSome, IfSome, IfOk, OnOk, OnErr, length, get_or};
+ghost use Rattle.page_table.specs.Boxed.{unboxed};
 ghost use Rattle.page_table.specs.Table.{chunk_of, in_region};
 
 use crate::chunks::Chunk;
@@ -13,19 +14,128 @@ const REGION: usize = 256;
 /// Places for 256 chunks in a row.
 type Region<A> = Places<Chunk<A>, A>;
 
+/// A region in a box, where there is one.
+type Boxed<A> = Option<Box<Region<A>, A>>;
+
+// Puts a chunk in the place of one, where there is a region (`Regions::exchange`).
+fn exchange_in<A: Allocator + Copy>(
+    region: &mut Boxed<A>,
+    place: usize,
+    chunk: Chunk<A>,
+) -> Result<Chunk<A>, Chunk<A>>
+    requires { place < 256 }
+    ensures before { IfOk result (λ before. in_region (unboxed region.old) place ≡ Some before) }
+    ensures here { OnOk result (in_region (unboxed region.new) place ≡ Some chunk) }
+    ensures others { (k : ℕ) → k ≢ place
+        → in_region (unboxed region.new) k ≡ in_region (unboxed region.old) k }
+    ensures none { OnErr result (in_region (unboxed region.old) place ≡ None) }
+    ensures same { OnErr result (in_region (unboxed region.new) place ≡ None) }
+{
+    match region {
+        Some(region) => region.exchange(place, chunk),
+        None => Err(chunk),
+    }
+}
+
+// Puts a chunk where there is none, in a region that is there.
+fn add_in<A: Allocator + Copy>(
+    region: &mut Boxed<A>,
+    place: usize,
+    chunk: Chunk<A>,
+) -> Result<(), NoMemory>
+    requires place { place < 256 }
+    requires there { IsSome region.old }
+    requires none { in_region (unboxed region.old) place ≡ None }
+    ensures here { OnOk result (in_region (unboxed region.new) place ≡ Some chunk) }
+    ensures no_memory { OnErr result (in_region (unboxed region.new) place ≡ None) }
+    ensures others { (k : ℕ) → k ≢ place
+        → in_region (unboxed region.new) k ≡ in_region (unboxed region.old) k }
+{
+    let Some(region) = region else {
+        unreachable!();
+    };
+    region.add(place, chunk)
+}
+
+// Takes a chunk out, where there is a region.
+fn take_in<A: Allocator + Copy>(region: &mut Boxed<A>, place: usize) -> Option<Chunk<A>>
+    requires { place < 256 }
+    ensures before { result ≡ in_region (unboxed region.old) place }
+    ensures here { in_region (unboxed region.new) place ≡ None }
+    ensures others { (k : ℕ) → k ≢ place
+        → in_region (unboxed region.new) k ≡ in_region (unboxed region.old) k }
+{
+    match region {
+        Some(region) => region.take(place),
+        None => None,
+    }
+}
+
+// There is a region, in which there is no chunk if it is new.
+fn open_in<A: Allocator + Copy>(alloc: A, region: &mut Boxed<A>) -> Result<(), NoMemory>
+    ensures there { OnOk result (IsSome region.new) }
+    ensures same { (k : ℕ) → in_region (unboxed region.new) k ≡ in_region (unboxed region.old) k }
+{
+    if region.is_some() {
+        return Ok(());
+    }
+    let made: Region<A> = Places::new(alloc);
+    let Ok(made) = Box::new(alloc, made) else {
+        return Err(NoMemory);
+    };
+    *region = Some(made);
+    Ok(())
+}
+
+// Whether there is no chunk in a region.
+fn is_empty<A: Allocator + Copy>(region: &Boxed<A>) -> bool
+    ensures { result ≡ true → (k : ℕ) → in_region (unboxed region.now) k ≡ None }
+{
+    match region {
+        Some(region) => region.count() == 0,
+        None => true,
+    }
+}
+
+// A region goes where there is no chunk in it.
+fn close_in<A: Allocator + Copy>(region: &mut Boxed<A>)
+    ensures { (k : ℕ) → in_region (unboxed region.new) k ≡ in_region (unboxed region.old) k }
+{
+    if is_empty(region) {
+        *region = None;
+    }
+}
+
+// There is a place for a region, in which there is none if it is new.
+fn lengthen_to<A: Allocator + Copy>(
+    regions: &mut Vec<Boxed<A>, A>,
+    region: usize,
+) -> Result<(), NoMemory>
+    ensures long { OnOk result (region < length regions.new.items) }
+    ensures same { (k : ℕ) → get_or regions.new.items k None ≡ get_or regions.old.items k None }
+{
+    while regions.len() <= region {
+        let Ok(()) = regions.push(None) else {
+            return Err(NoMemory);
+        };
+    }
+    Ok(())
+}
+
 /// Chunks by their numbers, in regions of 256 in a row. There is a row of regions up to the last in which there was a chunk; one in
 /// which there is none takes the size of a pointer.
 #[derive(Drop)]
 pub(crate) struct Regions<A: Allocator + Copy> {
-    regions: Vec<Option<Box<Region<A>, A>>, A>,
+    regions: Vec<Boxed<A>, A>,
 }
 
 impl<A: Allocator + Copy> Model for Regions<A> {
+    ghost use Rattle.page_table.specs.Boxed.{all_unboxed};
     ghost use Rattle.page_table.specs.Table.{Regions as Seen};
 
     ghost Value = { Seen };
 
-    ghost view = { λ regions. regions.regions.items };
+    ghost view = { λ regions. all_unboxed regions.regions.items };
 }
 
 impl<A: Allocator + Copy> Regions<A> {
@@ -58,11 +168,10 @@ impl<A: Allocator + Copy> Regions<A> {
         ensures none { OnErr result (chunk_of self.old number ≡ None) }
         ensures same { OnErr result (chunk_of self.new number ≡ None) }
     {
-        match self.regions.get_mut(number / REGION) {
-            Some(Some(region)) => region.exchange(number % REGION, chunk),
-            Some(None) => Err(chunk),
-            None => Err(chunk),
+        if number / REGION >= self.regions.len() {
+            return Err(chunk);
         }
+        exchange_in(&mut self.regions[number / REGION], number % REGION, chunk)
     }
 
     /// Takes the chunk of a number out for a while (`give_back`). One without a page stands in its place.
@@ -90,17 +199,12 @@ impl<A: Allocator + Copy> Regions<A> {
         };
     }
 
-    // There are so many regions at least, in those of which that weren't there is no chunk.
-    fn lengthen(&mut self, count: usize) -> Result<(), NoMemory>
-        ensures long { OnOk result (count ≤ length self.new) }
+    // There is a place for a region.
+    fn lengthen(&mut self, region: usize) -> Result<(), NoMemory>
+        ensures long { OnOk result (region < length self.new) }
         ensures same { (q : ℕ) → chunk_of self.new q ≡ chunk_of self.old q }
     {
-        while self.regions.len() < count {
-            let Ok(()) = self.regions.push(None) else {
-                return Err(NoMemory);
-            };
-        }
-        Ok(())
+        lengthen_to(&mut self.regions, region)
     }
 
     // There is a region of a number.
@@ -108,13 +212,10 @@ impl<A: Allocator + Copy> Regions<A> {
         ensures there { OnOk result (IsSome (get_or self.new region None)) }
         ensures same { (q : ℕ) → chunk_of self.new q ≡ chunk_of self.old q }
     {
-        self.lengthen(region + 1)?;
-        if self.regions[region].is_none() {
-            let made: Region<A> = Places::new(alloc);
-            let made = Box::new(alloc, made)?;
-            self.regions[region] = Some(made);
-        }
-        Ok(())
+        let Ok(()) = self.lengthen(region) else {
+            return Err(NoMemory);
+        };
+        open_in(alloc, &mut self.regions[region])
     }
 
     /// A chunk of whose number there is none is there from now on.
@@ -124,11 +225,10 @@ impl<A: Allocator + Copy> Regions<A> {
         ensures no_memory { OnErr result (chunk_of self.new number ≡ None) }
         ensures others { (q : ℕ) → q ≢ number → chunk_of self.new q ≡ chunk_of self.old q }
     {
-        self.open(alloc, number / REGION)?;
-        let Some(region) = &mut self.regions[number / REGION] else {
-            unreachable!();
+        let Ok(()) = self.open(alloc, number / REGION) else {
+            return Err(NoMemory);
         };
-        region.add(number % REGION, chunk)
+        add_in(&mut self.regions[number / REGION], number % REGION, chunk)
     }
 
     // Takes a chunk out of its region, which stays.
@@ -137,22 +237,18 @@ impl<A: Allocator + Copy> Regions<A> {
         ensures here { chunk_of self.new number ≡ None }
         ensures others { (q : ℕ) → q ≢ number → chunk_of self.new q ≡ chunk_of self.old q }
     {
-        match self.regions.get_mut(number / REGION) {
-            Some(Some(region)) => region.take(number % REGION),
-            Some(None) => None,
-            None => None,
+        if number / REGION >= self.regions.len() {
+            return None;
         }
+        take_in(&mut self.regions[number / REGION], number % REGION)
     }
 
     // A region goes where there is no chunk in it.
     fn close(&mut self, region: usize)
         ensures { (q : ℕ) → chunk_of self.new q ≡ chunk_of self.old q }
     {
-        let Some(Some(there)) = self.regions.get(region) else {
-            return;
-        };
-        if there.count() == 0 {
-            self.regions[region] = None;
+        if region < self.regions.len() {
+            close_in(&mut self.regions[region]);
         }
     }
 
