@@ -2,10 +2,11 @@
 use Rattle.std.proofs.Common.{◌≡◌, ◌≢◌, ℕ, ◌+◌, ◌-◌, ◌*◌, ◌/◌, ◌%◌, ◌<◌, ◌≤◌, inl, inr, Bool, true, false, cond, zero, suc, set, replicate, min, is_some, IfSome, Result, Ok, Err, OnOk, OnErr, Option, None, Some, List, [], length, get_or, if◌then◌else◌, refl, sym, ap, subst, ◌∙◌, arith}
 use Rattle.std.proofs.lemmas.Bool.{cases_lt, cases_eq, cases_Bool}
 use Rattle.std.proofs.lemmas.List.{get_or_past, get_or-set_same, get_or-set_other}
-use Rattle.page_table.specs.Bits.{is_between}
+use Rattle.number_sets.specs.Bits.{is_between}
+use Rattle.number_sets.proofs.MarksLemmas.{if_none, none_there}
 use Rattle.page_table.specs.Table.{Chunk, Regions, in_chunk, chunk_of, in_chunks, is_kept, taken, AreTaken}
-use Rattle.page_table.proofs.CountLemmas.{count_of, count-zero, count-cons, count-none, count_list, count_zero, count_set, count_some, cond_le}
-use Rattle.page_table.proofs.RangeLemmas.{between_yes, between_part}
+use Rattle.number_sets.proofs.CountLemmas.{count_of, count-zero, count-cons, count-none, count_list, count_zero, count_set, count_some, cond_le}
+use Rattle.number_sets.proofs.RangeLemmas.{between_yes, between_part}
 
 -- what holds anyhow holds after a failure
 pub on_err : {T E : Type 0} (r : Result T E) (P : Type 0) → P → OnErr r P
@@ -48,9 +49,6 @@ no_chunk chunks none q = ap (λ (all : Regions). chunk_of all q) none
 
 pub none_in_chunks : (chunks : Regions) → chunks ≡ [] → (k : ℕ) → in_chunks chunks k ≡ None
 none_in_chunks chunks none k = absent_is chunks k (k / 256) refl (no_chunk chunks none (k / 256))
-
-pub if_none : {X : Type 0} (o : Option X) (P : X → Type 0) → o ≡ None → IfSome o P
-if_none o P none = subst (λ (p : Option _). IfSome p P) (sym none) tt
 
 -- no chunk is there, so each that is has a place that is taken
 pub none_taken : (chunks : Regions) → chunks ≡ [] → AreTaken chunks
@@ -143,15 +141,11 @@ module _ (old new : Regions) (q first end : ℕ) (others : (p : ℕ) → p ≢ q
 pub some_of : (page : Option (List ℕ)) (bytes : List ℕ) → page ≡ Some bytes → true ≡ is_some page
 some_of page bytes there = sym (ap is_some there)
 
-pub absent_page : (page : Option (List ℕ)) → is_some page ≡ false → page ≡ None
-absent_page None absent = refl
-absent_page (Some page) absent = absurd (cc)
-
 -- where no place is taken
 none_taken_place : (chunk : Chunk) (k : ℕ) → taken chunk ≡ 0 → get_or chunk k None ≡ None
 none_taken_place chunk k none =
     elim (cases_lt k (length chunk)) [
-      | inl lt ↦ absent_page (get_or chunk k None) (count_zero is_some chunk none k lt)
+      | inl lt ↦ none_there (get_or chunk k None) (count_zero is_some chunk none k lt)
       | inr le ↦ get_or_past chunk k None le
     ]
 

@@ -1,6 +1,3 @@
-pub mod CountLemmas
-pub mod RangeLemmas
-pub mod BitsLemmas
 pub mod ItemsLemmas
 pub mod PlacesLemmas
 pub mod ShownLemmas
@@ -8,5 +5,3 @@ pub mod HolesLemmas
 pub mod RegionsLemmas
 pub mod ChunksLemmas
 pub mod TableLemmas
-pub mod MarksLemmas
-pub mod LeastLemmas

@@ -4,9 +4,9 @@ use Rattle.std.specs.Prelude.{IsSome, IfSome}
 use Rattle.std.specs.List.{filter, insert, remove}
 use Rattle.std.proofs.lemmas.Bool.{cases_Bool}
 use Rattle.std.proofs.lemmas.List.{set-get_or}
-use Rattle.page_table.specs.Bits.{is_set}
+use Rattle.number_sets.specs.Bits.{is_set}
 use Rattle.page_table.specs.Places.{spread, in_places}
-use Rattle.page_table.proofs.CountLemmas.{count_of, count-zero, count-cons}
+use Rattle.number_sets.proofs.CountLemmas.{count_of, count-zero, count-cons}
 
 -- what a test says of the next places
 next_is : (p : ℕ → Bool) (from i : ℕ) (b : Bool) → p (from + suc i) ≡ b → p ((from + 1) + i) ≡ b

@@ -8,7 +8,7 @@ use Rattle.std.proofs.lemmas.List.{length-map, get_or_past, get_or-set_same, get
 use Rattle.std.specs.List.{filter}
 use Rattle.page_table.specs.Boxed.{unboxed, all_unboxed}
 use Rattle.page_table.specs.Table.{Chunk, Regions, in_region, chunk_of}
-use Rattle.page_table.proofs.CountLemmas.{count_zero}
+use Rattle.number_sets.proofs.CountLemmas.{count_zero}
 
 abbrev pub Region : Type 0
 Region = List (Option Chunk)

@@ -4,10 +4,10 @@ use Rattle.std.proofs.lemmas.Bool.{cases_eq, cases_Bool}
 use Rattle.std.proofs.lemmas.Bool.Decides.{nat_tests}
 use Rattle.std.proofs.lemmas.List.{take-replicate}
 use Rattle.payload.specs.Rows.{zero_page}
-use Rattle.page_table.specs.Bits.{is_between}
+use Rattle.number_sets.specs.Bits.{is_between}
 use Rattle.page_table.specs.Holes.{Holes, is_hole, is_noted, AreOrdered}
 use Rattle.page_table.specs.Table.{Regions, Stored, chunk_of, in_chunks, in_table, is_kept, kept, shown, shown_page, cleared, HaveRoom}
-use Rattle.page_table.proofs.CountLemmas.{count_of, count-none, count-append, count-shift}
+use Rattle.number_sets.proofs.CountLemmas.{count_of, count-none, count-append, count-shift}
 use Rattle.page_table.proofs.PlacesLemmas.{count_added, count_same}
 use Rattle.page_table.proofs.ChunksLemmas.{other_chunk}
 use Rattle.page_table.proofs.HolesLemmas.{Rows, no_hole, rows_fewer}

@@ -2,7 +2,7 @@
 use Rattle.std.specs.Prelude.{◌≡◌, ℕ, suc, ◌/◌, ◌%◌, ◌<◌, ◌^◌, Bool, true, Option, None, Some, is_some, IfSome, List, [], ◌∷◌, length, replicate, get_or, if◌then◌else◌}
 use Rattle.std.specs.List.{filter}
 use Rattle.payload.specs.Bytes.{overwritten}
-use Rattle.page_table.specs.Bits.{count_of}
+use Rattle.number_sets.specs.Bits.{count_of}
 use Rattle.page_table.specs.Holes.{Holes, is_hole, is_noted}
 
 -- what is in the places of a chunk

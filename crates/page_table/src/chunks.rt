@@ -1,5 +1,5 @@
 ghost use Rattle.std.specs.Prelude.{◌≡◌, ℕ, ◌+◌, ◌*◌, ◌/◌, ◌%◌, ◌<◌, ◌≤◌, ◌^◌, ◌≢◌, None, Some, IsSome, IfSome, IfErr, OnOk, OnErr, is_some, is_ok, if◌then◌else◌};
-ghost use Rattle.page_table.specs.Bits.{is_between, count_of};
+ghost use Rattle.number_sets.specs.Bits.{is_between, count_of};
 ghost use Rattle.page_table.specs.Table.{Chunk as Seen, chunk_of, in_chunk, in_chunks, is_kept, taken};
 
 use crate::places::Places;

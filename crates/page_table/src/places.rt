@@ -1,7 +1,7 @@
 ghost use Rattle.std.specs.Prelude.{◌≡◌, ℕ, ◌<◌, ◌≤◌, ◌==◌, None, Some, IsSome, IfSome, IfOk, IfErr, OnOk, OnErr, is_some, length, get_or, set, replicate};
 ghost use Rattle.std.specs.List.{filter};
 
-use crate::bits;
+use number_sets::bits;
 use crate::items::Items;
 use nbd_base::NoMemory;
 use std::alloc::Allocator;
@@ -18,7 +18,7 @@ pub(crate) struct Places<T: Drop, A: Allocator + Copy> {
 
 impl<T: Drop, A: Allocator + Copy> Model for Places<T, A> {
     ghost use Rattle.std.specs.Prelude.{◌≡◌, Option, List, length};
-    ghost use Rattle.page_table.specs.Bits.{is_set, count_of};
+    ghost use Rattle.number_sets.specs.Bits.{is_set, count_of};
     ghost use Rattle.page_table.specs.Places.{in_places};
 
     ghost Value = { List (Option T) };

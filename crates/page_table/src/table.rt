@@ -1,9 +1,9 @@
 ghost use Rattle.std.specs.Prelude.{◌≡◌, ℕ, ◌+◌, ◌*◌, ◌/◌, ◌<◌, ◌≤◌, ◌^◌, ◌≢◌, None, Some, IfOk, IsOk, IsSome, IfSome, OnOk, OnErr, is_some, true, false, if◌then◌else◌};
-ghost use Rattle.page_table.specs.Bits.{is_set, is_between, count_of};
+ghost use Rattle.number_sets.specs.Bits.{is_set, is_between, count_of};
 ghost use Rattle.page_table.specs.Table.{in_table, in_chunks, shown, cleared, chunk_of};
 ghost use Rattle.page_table.specs.Holes.{is_noted};
 
-use crate::bits;
+use number_sets::bits;
 use crate::chunks::{CHUNK, Chunks};
 use crate::holes::Holes;
 use crate::swept::Swept;

@@ -1,5 +1,5 @@
 use Rattle.std.proofs.Common.{◌≡◌, ◌∙◌, ℕ, List, ap}
-use Rattle.page_table.specs.Bits.{is_set}
+use Rattle.number_sets.specs.Bits.{is_set}
 use Rattle.page_table.specs.Table.{shown}
 use Rattle.page_table.proofs.TableLemmas.{if_ok}
 use Rattle.page_table.proofs.table.copied.Goals as goal

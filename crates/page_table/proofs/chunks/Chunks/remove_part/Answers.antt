@@ -1,5 +1,5 @@
 use Rattle.std.proofs.Common.{◌≡◌, ◌≢◌, ◌∙◌, ℕ, None, if◌then◌else◌, ap, arith}
-use Rattle.page_table.specs.Bits.{is_between}
+use Rattle.number_sets.specs.Bits.{is_between}
 use Rattle.page_table.specs.Table.{Regions, chunk_of, in_chunks}
 use Rattle.page_table.proofs.ChunksLemmas.{whole_gone, places_gone, places_all_gone}
 use Rattle.page_table.proofs.chunks.Chunks.remove_part.Goals as goal

@@ -1,6 +1,6 @@
 use Rattle.std.proofs.Common.{◌∙◌, ◌*◌, ℕ, refl, sym, ap}
 use Rattle.page_table.specs.Table.{Regions, is_kept}
-use Rattle.page_table.proofs.CountLemmas.{count_of}
+use Rattle.number_sets.proofs.CountLemmas.{count_of}
 use Rattle.page_table.proofs.ChunksLemmas.{count_chunk, count_absent}
 use Rattle.page_table.proofs.chunks.Chunks.stored_in.Goals as goal
 

@@ -1,6 +1,6 @@
 use Rattle.std.proofs.Common.{◌≡◌, ◌∙◌, ◌<◌, ◌≤◌, ℕ, None, true, false, get_or, sym, ap, subst, arith}
 use Rattle.std.specs.Prelude.{IsSome}
-use Rattle.page_table.specs.Bits.{is_set}
+use Rattle.number_sets.specs.Bits.{is_set}
 use Rattle.page_table.proofs.PlacesLemmas.{place_none, place_taken, some_both}
 use Rattle.page_table.proofs.places.Places.next.Goals as goal
 

@@ -1,5 +1,5 @@
 use Rattle.std.proofs.Common.{◌≡◌, ◌∙◌, ℕ, List, Some, refl, sym, ap}
-use Rattle.page_table.specs.Bits.{is_set}
+use Rattle.number_sets.specs.Bits.{is_set}
 use Rattle.page_table.specs.Holes.{is_hole}
 use Rattle.page_table.specs.Table.{Stored, in_table, shown}
 use Rattle.page_table.proofs.ShownLemmas.{shown_same}

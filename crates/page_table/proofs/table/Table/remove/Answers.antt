@@ -1,8 +1,8 @@
 use Rattle.std.proofs.Common.{◌≡◌, ◌∙◌, ◌/◌, ◌&&◌, None, ℕ, not, true, refl, sym, ap, subst, arith}
-use Rattle.page_table.specs.Bits.{is_between}
+use Rattle.number_sets.specs.Bits.{is_between}
 use Rattle.page_table.specs.Holes.{is_hole, is_noted}
 use Rattle.page_table.specs.Table.{Stored, in_chunks}
-use Rattle.page_table.proofs.RangeLemmas.{ArePut, between_before, between_behind, put_begun, put_more, put_done}
+use Rattle.number_sets.proofs.RangeLemmas.{ArePut, between_before, between_behind, put_begun, put_more, put_done}
 use Rattle.page_table.proofs.ChunksLemmas.{other_chunk, absent_is}
 use Rattle.page_table.proofs.HolesLemmas.{Rows}
 use Rattle.page_table.proofs.TableLemmas.{gone_is, filled_noted}

@@ -1,8 +1,8 @@
 use Rattle.std.proofs.Common.{◌≡◌, ◌-◌, ◌/◌, ◌≤◌, ◌&&◌, ℕ, None, not, true, false}
-use Rattle.page_table.specs.Bits.{is_between}
+use Rattle.number_sets.specs.Bits.{is_between}
 use Rattle.page_table.specs.Holes.{is_hole, is_noted}
 use Rattle.page_table.specs.Table.{in_chunks}
-use Rattle.page_table.proofs.RangeLemmas.{ArePut}
+use Rattle.number_sets.proofs.RangeLemmas.{ArePut}
 use Rattle.page_table.proofs.table.Table.remove.Given as goal
 
 abbrev pub invariant-loop-chunk : goal.invariant-loop-chunk

@@ -1,6 +1,6 @@
 use Rattle.std.proofs.Common.{◌∙◌, ◌+◌, ◌*◌, is_some, refl, sym, ap, arith}
 use Rattle.page_table.specs.Table.{in_table}
-use Rattle.page_table.proofs.CountLemmas.{count-zero, count_le, count_more, count-upto}
+use Rattle.number_sets.proofs.CountLemmas.{count-zero, count_le, count_more, count-upto}
 use Rattle.page_table.proofs.ChunksLemmas.{none_between}
 use Rattle.page_table.proofs.TableLemmas.{none_is}
 use Rattle.page_table.proofs.table.Table.stored.Goals as goal

@@ -1,6 +1,6 @@
 use Rattle.std.proofs.Common.{◌≡◌, ◌*◌, ◌-◌, ◌≤◌, is_some}
 use Rattle.page_table.specs.Table.{in_table}
-use Rattle.page_table.proofs.CountLemmas.{count_of}
+use Rattle.number_sets.proofs.CountLemmas.{count_of}
 use Rattle.page_table.proofs.table.Table.stored.Given as goal
 
 abbrev pub invariant-loop-chunk : goal.invariant-loop-chunk
