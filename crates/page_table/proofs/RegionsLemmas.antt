@@ -1,5 +1,5 @@
 -- Chunks in regions after one of them has changed.
-use Rattle.std.proofs.Common.{◌≡◌, ◌≢◌, ℕ, zero, suc, ◌+◌, ◌*◌, ◌/◌, ◌%◌, ◌<◌, ◌≤◌, true, false, nat_lt, is_some, Option, None, Some, List, [], ◌∷◌, ◌++◌, map, length, get_or, set, replicate, inl, inr, refl, sym, ap, subst, ◌∙◌, arith}
+use Rattle.std.proofs.Common.{◌≡◌, ◌≢◌, ℕ, zero, suc, ◌+◌, ◌-◌, ◌*◌, ◌/◌, ◌%◌, ◌<◌, ◌≤◌, true, false, nat_lt, is_some, Option, None, Some, List, [], ◌∷◌, ◌++◌, map, length, get_or, set, replicate, inl, inr, refl, sym, ap, subst, ◌∙◌, arith}
 use Rattle.std.specs.Prelude.{Box, IfSome, IsSome, Result, Ok, Err, OnOk, OnErr, IfOk}
 use Rattle.std.proofs.Math.ListN.{get_or-map}
 use Rattle.std.proofs.lemmas.Bool.{cases_lt, cases_eq}
@@ -144,6 +144,30 @@ put_there boxes region after below there =
 pub put_here : {A : Type 0} (boxes : List (Option (Box Region A))) (number : ℕ) (after : Option (Box Region A)) → number / 256 < length boxes
     → chunk_of (all_unboxed (set boxes (number / 256) after)) number ≡ in_region (unboxed after) (number % 256)
 put_here boxes number after below = chunk_at (set boxes (number / 256) after) number after (get_or-set_same boxes (number / 256) after None below)
+
+-- a chunk by its region and its place there
+pub chunk_in : (regions : Regions) (number region place : ℕ) → number ≡ 256 * region + place → place < 256 → chunk_of regions number ≡ in_region (get_or regions region None) place
+chunk_in regions number region place at below =
+    let one : number / 256 ≡ region = omega arith in
+    let other : number % 256 ≡ place = omega arith in
+    chunk_is regions number
+    ∙ ap (λ (i : ℕ). in_region (get_or regions i None) (number % 256)) one
+    ∙ ap (λ (k : ℕ). in_region (get_or regions region None) k) other
+
+-- behind the regions there is no chunk
+pub chunk_behind : (regions : Regions) (number region : ℕ) → length regions ≤ region → region ≤ number / 256 → chunk_of regions number ≡ None
+chunk_behind regions number region behind at =
+    chunk_is regions number ∙ ap (λ (o : Option Region). in_region o (number % 256)) (get_or_past regions (number / 256) None (omega arith))
+
+-- there is no chunk before a number, nor in the next places of its region
+pub none_next : (regions : Regions) (from next begin upto : ℕ) → begin ≡ 256 * (next / 256) → upto ≤ 256 → ((q : ℕ) → from ≤ q → q < next → chunk_of regions q ≡ None)
+    → ((k : ℕ) → next % 256 ≤ k → k < upto → in_region (get_or regions (next / 256) None) k ≡ None)
+    → (q : ℕ) → from ≤ q → q < begin + upto → chunk_of regions q ≡ None
+none_next regions from next begin upto at few before none q above below =
+    elim (cases_lt q next) [
+      | inl lt ↦ before q above lt
+      | inr ge ↦ chunk_in regions q (next / 256) (q - begin) (omega arith) (omega arith) ∙ none (q - begin) (omega arith) (omega arith)
+    ]
 
 -- what follows for what is there, or from a success or a failure
 pub some_so : {X : Type 0} (o : Option X) (P Q : X → Type 0) → ((x : X) → P x → Q x) → IfSome o P → IfSome o Q

@@ -292,13 +292,16 @@ impl<A: Allocator + Copy> Regions<A> {
         ensures none { result ≡ None → (q : ℕ) → from ≤ q → q < end → chunk_of self.now q ≡ None }
     {
         let mut next = from;
-        while next < end && next / REGION < self.regions.len() {
-            let (region, place) = (next / REGION, next % REGION);
-            let begin = next - place;
-            if let Some(found) = self.next_in(region, place, (end - begin).min(REGION)) {
-                return Some(begin + found);
+        while next < end {
+            if next / REGION >= self.regions.len() {
+                return None;
             }
-            next = begin + REGION;
+            let begin = next - next % REGION;
+            let upto = (end - begin).min(REGION);
+            if let Some(place) = self.next_in(next / REGION, next % REGION, upto) {
+                return Some(begin + place);
+            }
+            next = begin + upto;
         }
         None
     }
