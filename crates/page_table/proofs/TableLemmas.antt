@@ -6,7 +6,7 @@ use Rattle.std.proofs.lemmas.List.{take-replicate}
 use Rattle.payload.specs.Rows.{zero_page}
 use Rattle.number_sets.specs.Bits.{is_between}
 use Rattle.page_table.specs.Holes.{Holes, is_hole, is_noted, AreOrdered}
-use Rattle.page_table.specs.Table.{Regions, Stored, chunk_of, in_chunks, in_table, is_kept, kept, shown, shown_page, cleared, HaveRoom}
+use Rattle.page_table.specs.Table.{Regions, Stored, chunk_of, in_chunks, in_table, is_kept, shown, shown_page, cleared, HaveRoom}
 use Rattle.number_sets.proofs.CountLemmas.{count_of, count-none, count-append, count-shift}
 use Rattle.page_table.proofs.PlacesLemmas.{count_added, count_same}
 use Rattle.page_table.proofs.ChunksLemmas.{other_chunk}

@@ -2,8 +2,8 @@ ghost use Rattle.std.specs.Prelude.{◌≡◌, ℕ, ◌+◌, ◌-◌, ◌<◌, �
 ghost use Rattle.number_sets.specs.Bits.{is_set, is_between};
 ghost use Rattle.page_table.specs.Holes.{is_hole, is_noted, rows_before, AreOrdered};
 
-use number_sets::bits;
 use nbd_base::NoMemory;
+use number_sets::bits;
 use std::alloc::Allocator;
 use std::marker::Model;
 

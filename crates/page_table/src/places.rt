@@ -1,9 +1,9 @@
 ghost use Rattle.std.specs.Prelude.{◌≡◌, ℕ, ◌<◌, ◌≤◌, ◌==◌, None, Some, IsSome, IfSome, IfOk, IfErr, OnOk, OnErr, is_some, length, get_or, set, replicate};
 ghost use Rattle.std.specs.List.{filter};
 
-use number_sets::bits;
 use crate::items::Items;
 use nbd_base::NoMemory;
+use number_sets::bits;
 use std::alloc::Allocator;
 use std::marker::Model;
 

@@ -3,11 +3,11 @@ ghost use Rattle.number_sets.specs.Bits.{is_set, is_between, count_of};
 ghost use Rattle.page_table.specs.Table.{in_table, in_chunks, shown, cleared, chunk_of};
 ghost use Rattle.page_table.specs.Holes.{is_noted};
 
-use number_sets::bits;
 use crate::chunks::{CHUNK, Chunks};
 use crate::holes::Holes;
 use crate::swept::Swept;
 use nbd_base::NoMemory;
+use number_sets::bits;
 use payload::{PAGE, Page};
 use std::alloc::Allocator;
 use std::marker::Model;

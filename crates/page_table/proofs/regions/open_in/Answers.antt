@@ -1,4 +1,3 @@
-use Rattle.std.proofs.Common.{◌≡◌, ◌∙◌, sym, arith}
 use Rattle.page_table.proofs.RegionsLemmas.{new_region}
 use Rattle.page_table.proofs.regions.open_in.Goals as goal
 

@@ -1,4 +1,4 @@
-use Rattle.std.proofs.Common.{◌≡◌, ◌∙◌, ◌<◌, ℕ, List, true, length, sym, ap, arith}
+use Rattle.std.proofs.Common.{◌≡◌, ◌∙◌, ℕ, List, true, sym, ap, arith}
 use Rattle.number_sets.specs.Bits.{is_set}
 use Rattle.page_table.specs.Holes.{Holes, is_hole, is_noted, rows_before}
 use Rattle.page_table.proofs.HolesLemmas.{Row, noted_within, no_hole, hole_at}

@@ -1,4 +1,4 @@
-use Rattle.std.proofs.Common.{◌≡◌, ◌∙◌, Some, None, true, false, length, get_or, set, sym, ap}
+use Rattle.std.proofs.Common.{◌≡◌, ◌∙◌, Some, None, true, length, get_or, set, sym, ap}
 use Rattle.number_sets.specs.Bits.{is_set}
 use Rattle.page_table.specs.Places.{in_places}
 use Rattle.page_table.proofs.PlacesLemmas.{places-length, place_none, place_some, place_set, place_below}

@@ -1,4 +1,4 @@
-use Rattle.std.proofs.Common.{◌≡◌, ◌∙◌, ℕ, List, None, Some, is_some, true, false, inl, inr, refl, sym, ap}
+use Rattle.std.proofs.Common.{◌≡◌, ◌∙◌, ℕ, None, true, false, inl, inr, refl, sym, ap}
 use Rattle.std.proofs.lemmas.Bool.{cases_eq}
 use Rattle.page_table.specs.Table.{Stored, in_chunks, in_table, is_kept}
 use Rattle.page_table.proofs.ChunksLemmas.{then_err}
