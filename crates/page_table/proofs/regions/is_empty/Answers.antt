@@ -1,4 +1,4 @@
-use Rattle.std.proofs.Common.{◌≡◌, ◌∙◌, nat_eq, ℕ, Option, None, Some, List, length, get_or, is_some, sym, ap, arith}
+use Rattle.std.proofs.Common.{◌≡◌, ◌∙◌, Option, List, length, is_some, sym, ap, arith}
 use Rattle.std.specs.List.{filter}
 use Rattle.std.proofs.lemmas.Bool.Decides.{nat_tests}
 use Rattle.page_table.specs.Boxed.{unboxed}

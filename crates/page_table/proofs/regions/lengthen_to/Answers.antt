@@ -1,4 +1,4 @@
-use Rattle.std.proofs.Common.{◌≡◌, ◌∙◌, ◌++◌, ◌∷◌, [], None, get_or, ap}
+use Rattle.std.proofs.Common.{◌∙◌, None, get_or, ap}
 use Rattle.page_table.proofs.RegionsLemmas.{more_none}
 use Rattle.page_table.proofs.regions.lengthen_to.Goals as goal
 

@@ -1,4 +1,4 @@
-use Rattle.std.proofs.Common.{◌≡◌, ◌∙◌, ◌/◌, ◌%◌, ◌<◌, ◌≤◌, ◌≢◌, ℕ, None, Some, length, set, sym, arith}
+use Rattle.std.proofs.Common.{◌≡◌, ◌∙◌, ◌/◌, ◌%◌, ◌<◌, ℕ, None, Some, length, set, arith}
 use Rattle.page_table.specs.Boxed.{unboxed, all_unboxed}
 use Rattle.page_table.specs.Table.{chunk_of, in_region}
 use Rattle.page_table.proofs.RegionsLemmas.{seen_at, seen_past, seen_others, put_here, if_ok_so, ok_so, err_so}

@@ -1,4 +1,4 @@
-use Rattle.std.proofs.Common.{◌≡◌, ◌<◌, ℕ, length, refl, arith}
+use Rattle.std.proofs.Common.{◌<◌, length, refl, arith}
 use Rattle.page_table.specs.Boxed.{all_unboxed}
 use Rattle.page_table.proofs.RegionsLemmas.{seen_length, seen_longer, ok_so}
 use Rattle.page_table.proofs.regions.Regions.lengthen.Goals as goal

@@ -1,7 +1,7 @@
-use Rattle.std.proofs.Common.{◌≡◌, ◌∙◌, ◌+◌, ◌-◌, ◌*◌, ◌/◌, ◌%◌, ◌<◌, ◌≤◌, ℕ, Option, None, get_or, length, inl, inr, refl, sym, subst, arith}
+use Rattle.std.proofs.Common.{◌≡◌, ◌+◌, ◌-◌, ◌*◌, ◌/◌, ◌%◌, ◌<◌, ◌≤◌, ℕ, Option, length, inl, inr, refl, sym, subst, arith}
 use Rattle.std.specs.Prelude.{IsSome}
 use Rattle.std.proofs.lemmas.Bool.{cases_lt}
-use Rattle.page_table.specs.Table.{Chunk, chunk_of, in_region}
+use Rattle.page_table.specs.Table.{Chunk}
 use Rattle.page_table.proofs.RegionsLemmas.{seen_length, chunk_in, chunk_behind, none_next}
 use Rattle.page_table.proofs.regions.Regions.next.Goals as goal
 

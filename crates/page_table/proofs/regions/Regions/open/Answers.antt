@@ -1,4 +1,4 @@
-use Rattle.std.proofs.Common.{◌≡◌, ◌∙◌, ◌<◌, ℕ, None, length, get_or, set, arith}
+use Rattle.std.proofs.Common.{◌∙◌, ◌<◌, None, length, get_or, set, arith}
 use Rattle.std.specs.Prelude.{IsSome}
 use Rattle.page_table.specs.Boxed.{all_unboxed}
 use Rattle.page_table.proofs.RegionsLemmas.{seen_length, seen_same, put_there, ok_so}

@@ -1,5 +1,4 @@
-use Rattle.std.proofs.Common.{◌≡◌, ◌∙◌, ◌/◌, ◌<◌, ◌≤◌, ◌≢◌, ℕ, None, Some, length, sym, arith}
-use Rattle.page_table.specs.Table.{chunk_of, in_region}
+use Rattle.std.proofs.Common.{◌∙◌, ◌/◌, ◌<◌, ℕ, length, sym, arith}
 use Rattle.page_table.proofs.RegionsLemmas.{seen_at, seen_past, seen_others, put_here}
 use Rattle.page_table.proofs.regions.Regions.take_out.Goals as goal
 
