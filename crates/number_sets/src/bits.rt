@@ -49,8 +49,8 @@ pub fn count_below(words: &[u64], number: usize) -> usize
     count(&words[..number / 64]) + count_in(words[number / 64], number % 64)
 }
 
-// The number that is looked at behind one that isn't a member: the first of the next word, where no number of its word is one. It
-// isn't behind the end.
+// The number that is looked at behind one that isn't a member: the first of the next word, or the
+// end, where no number of its word is one.
 fn behind(words: &[u64], number: usize, end: usize) -> usize
     requires some { number < end }
     requires within { end ≤ 64 * length words.now }

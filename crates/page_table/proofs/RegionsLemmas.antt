@@ -22,11 +22,11 @@ any_default (y ∷ xs) (suc i) x d below is = any_default xs i x d (omega arith)
 less_true : (a b : ℕ) → true ≡ nat_lt a b → a < b
 less_true a b is = grind (arith, nat_tests)
 
--- where none is counted in a row, there is none
 none_there : {X : Type 0} (o : Option X) → is_some o ≡ false → o ≡ None
 none_there None none = refl
 none_there (Some x) none = absurd (cc)
 
+-- where none is counted in a row, there is none
 pub none_counted : {X : Type 0} (row : List (Option X)) (k : ℕ) → length (filter is_some row) ≡ 0 → get_or row k None ≡ None
 none_counted row k none =
     elim (cases_lt k (length row)) [

@@ -1,4 +1,4 @@
-ghost use Rattle.std.specs.Prelude.{◌≡◌, ℕ, ◌+◌, ◌*◌, ◌/◌, ◌%◌, ◌<◌, ◌≤◌, ◌≢◌, true, [], None, Some, IsSome, IfSome, IfOk, OnOk, OnErr, length, get_or};
+ghost use Rattle.std.specs.Prelude.{◌≡◌, ℕ, ◌<◌, ◌≤◌, ◌≢◌, true, [], None, Some, IsSome, IfSome, IfOk, OnOk, OnErr, length, get_or};
 ghost use Rattle.page_table.specs.Boxed.{unboxed};
 ghost use Rattle.page_table.specs.Table.{chunk_of, in_region};
 
@@ -122,8 +122,8 @@ fn lengthen_to<A: Allocator + Copy>(
     Ok(())
 }
 
-/// Chunks by their numbers, in regions of 256 in a row. There is a row of regions up to the last in which there was a chunk; one in
-/// which there is none takes the size of a pointer.
+/// Chunks by their numbers, in regions of 256 in a row. There is a row of regions up to the last in
+/// which there was a chunk; one in which there is none takes the size of a pointer.
 #[derive(Drop)]
 pub(crate) struct Regions<A: Allocator + Copy> {
     regions: Vec<Boxed<A>, A>,
@@ -282,7 +282,8 @@ impl<A: Allocator + Copy> Regions<A> {
         }
     }
 
-    /// The least number from one on before an end of which there is a chunk. It looks at the regions of the range that are there.
+    /// The least number from one on before an end of which there is a chunk. It looks at the regions
+    /// of the range that are there.
     pub(crate) fn next(&self, from: usize, end: usize) -> Option<usize>
         ensures begins { IfSome result (λ number. from ≤ number) }
         ensures ends { IfSome result (λ number. number < end) }
