@@ -49,37 +49,38 @@ pub fn count_below(words: &[u64], number: usize) -> usize
     count(&words[..number / 64]) + count_in(words[number / 64], number % 64)
 }
 
-// The number that is looked at behind one that isn't a member: the first of the next word, or the
-// end, where no number of its word is one.
-fn behind(words: &[u64], number: usize, end: usize) -> usize
-    requires some { number < end }
+// The end before which the next number is looked for, where the one right before an end is no member: the first of its word, where no
+// number of that is one.
+fn ahead(words: &[u64], from: usize, end: usize) -> usize
+    requires some { from < end }
     requires within { end ≤ 64 * length words.now }
-    requires absent { is_set words.now number ≡ false }
-    ensures more { number < result }
-    ensures none { (k : ℕ) → number ≤ k → k < result → is_set words.now k ≡ false }
+    requires absent { is_set words.now (end - 1) ≡ false }
+    ensures less { result < end }
+    ensures from { from ≤ result }
+    ensures none { (k : ℕ) → result ≤ k → k < end → is_set words.now k ≡ false }
 {
-    if number % 64 == 0 && words[number / 64] == 0 {
-        return number + (end - number).min(64);
+    if end % 64 == 0 && words[end / 64 - 1] == 0 {
+        return (end - 64).max(from);
     }
-    number + 1
+    end - 1
 }
 
-/// The least member from a number on before an end.
-pub fn next(words: &[u64], from: usize, end: usize) -> Option<usize>
+/// The greatest member from a number on before an end.
+pub fn last(words: &[u64], from: usize, end: usize) -> Option<usize>
     requires within { end ≤ 64 * length words.now }
     ensures begins { IfSome result (λ number. from ≤ number) }
     ensures ends { IfSome result (λ number. number < end) }
     ensures member { IfSome result (λ number. is_set words.now number ≡ true) }
-    ensures first { IfSome result (λ number. (k : ℕ) → from ≤ k → k < number
+    ensures last { IfSome result (λ number. (k : ℕ) → number < k → k < end
         → is_set words.now k ≡ false) }
     ensures none { result ≡ None → (k : ℕ) → from ≤ k → k < end → is_set words.now k ≡ false }
 {
-    let mut number = from;
-    while number < end {
-        if has(words, number) {
-            return Some(number);
+    let mut upto = end;
+    while from < upto {
+        if has(words, upto - 1) {
+            return Some(upto - 1);
         }
-        number = behind(words, number, end);
+        upto = ahead(words, from, upto);
     }
     None
 }

@@ -152,17 +152,16 @@ impl<A: Allocator + Copy> Chunks<A> {
         self.chunks.add(alloc, number / CHUNK, made)
     }
 
-    /// The first chunk that is there, from one on before an end.
-    pub(crate) fn next_chunk(&self, from: usize, end: usize) -> Option<usize>
-        requires { from ≤ end }
+    /// The last chunk that is there, from one on before an end.
+    pub(crate) fn last_chunk(&self, from: usize, end: usize) -> Option<usize>
         ensures begins { IfSome result (λ number. from ≤ number) }
         ensures ends { IfSome result (λ number. number < end) }
         ensures there { IfSome result (λ number. IsSome (chunk_of self.now number)) }
-        ensures first { IfSome result (λ number. (q : ℕ) → from ≤ q → q < number
+        ensures last { IfSome result (λ number. (q : ℕ) → number < q → q < end
             → chunk_of self.now q ≡ None) }
         ensures none { result ≡ None → (q : ℕ) → from ≤ q → q < end → chunk_of self.now q ≡ None }
     {
-        self.chunks.next(from, end)
+        self.chunks.last(from, end)
     }
 
     // Pages of a chunk that is there are stored no longer, from a number on before an end. Where that is the whole chunk, it isn't

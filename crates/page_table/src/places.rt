@@ -62,17 +62,17 @@ impl<T: Drop, A: Allocator + Copy> Places<T, A> {
         Some(self.items.get(bits::count_below(&self.marks, place)))
     }
 
-    /// The first place in which there is an item, from one on before an end.
-    pub(crate) fn next(&self, from: usize, end: usize) -> Option<usize>
+    /// The last place in which there is an item, from one on before an end.
+    pub(crate) fn last(&self, from: usize, end: usize) -> Option<usize>
         requires { end ≤ 256 }
         ensures begins { IfSome result (λ place. from ≤ place) }
         ensures ends { IfSome result (λ place. place < end) }
         ensures there { IfSome result (λ place. IsSome (get_or self.now place None)) }
-        ensures first { IfSome result (λ place. (k : ℕ) → from ≤ k → k < place
+        ensures last { IfSome result (λ place. (k : ℕ) → place < k → k < end
             → get_or self.now k None ≡ None) }
         ensures none { result ≡ None → (k : ℕ) → from ≤ k → k < end → get_or self.now k None ≡ None }
     {
-        bits::next(&self.marks, from, end)
+        bits::last(&self.marks, from, end)
     }
 
     /// Puts an item in the place of one, which is the answer. Where there is none, the item is handed back.

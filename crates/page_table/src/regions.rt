@@ -263,46 +263,44 @@ impl<A: Allocator + Copy> Regions<A> {
         taken
     }
 
-    // The first chunk of a region, from a place on before an end.
-    fn next_in(&self, region: usize, from: usize, end: usize) -> Option<usize>
+    // The last chunk of a region, from a place on before an end.
+    fn last_in(&self, region: usize, from: usize, end: usize) -> Option<usize>
         requires { end ≤ 256 }
         ensures begins { IfSome result (λ place. from ≤ place) }
         ensures ends { IfSome result (λ place. place < end) }
         ensures there { IfSome result (λ place.
             IsSome (in_region (get_or self.now region None) place)) }
-        ensures first { IfSome result (λ place. (k : ℕ) → from ≤ k → k < place
+        ensures last { IfSome result (λ place. (k : ℕ) → place < k → k < end
             → in_region (get_or self.now region None) k ≡ None) }
         ensures none { result ≡ None → (k : ℕ) → from ≤ k → k < end
             → in_region (get_or self.now region None) k ≡ None }
     {
         match self.regions.get(region) {
-            Some(Some(there)) => there.next(from, end),
+            Some(Some(there)) => there.last(from, end),
             Some(None) => None,
             None => None,
         }
     }
 
-    /// The least number from one on before an end of which there is a chunk. It looks at the regions
-    /// of the range that are there.
-    pub(crate) fn next(&self, from: usize, end: usize) -> Option<usize>
+    /// The greatest number from one on before an end of which there is a chunk. It looks at the regions
+    /// of the range. From the last on, chunks are taken out without moving others.
+    pub(crate) fn last(&self, from: usize, end: usize) -> Option<usize>
         ensures begins { IfSome result (λ number. from ≤ number) }
         ensures ends { IfSome result (λ number. number < end) }
         ensures there { IfSome result (λ number. IsSome (chunk_of self.now number)) }
-        ensures first { IfSome result (λ number. (q : ℕ) → from ≤ q → q < number
+        ensures last { IfSome result (λ number. (q : ℕ) → number < q → q < end
             → chunk_of self.now q ≡ None) }
         ensures none { result ≡ None → (q : ℕ) → from ≤ q → q < end → chunk_of self.now q ≡ None }
     {
-        let mut next = from;
-        while next < end {
-            if next / REGION >= self.regions.len() {
-                return None;
-            }
-            let begin = next - next % REGION;
-            let upto = (end - begin).min(REGION);
-            if let Some(place) = self.next_in(next / REGION, next % REGION, upto) {
+        let mut upto = end;
+        while from < upto {
+            let region = (upto - 1) / REGION;
+            let begin = region * REGION;
+            let first = from.max(begin);
+            if let Some(place) = self.last_in(region, first - begin, upto - begin) {
                 return Some(begin + place);
             }
-            next = begin + upto;
+            upto = first;
         }
         None
     }
