@@ -1,5 +1,5 @@
 //! Sets of numbers as bits, 64 in a word, the lowest of the first word for 0.
-ghost use Rattle.std.specs.Prelude.{◌≡◌, ◌≢◌, ℕ, ◌+◌, ◌*◌, ◌<◌, ◌≤◌, ◌==◌, length, if◌then◌else◌, true, false, None, IfSome};
+ghost use Rattle.std.specs.Prelude.{◌≡◌, ◌≢◌, ℕ, ◌+◌, ◌-◌, ◌*◌, ◌<◌, ◌≤◌, ◌==◌, length, if◌then◌else◌, true, false, None, IfSome};
 ghost use Rattle.std.specs.Int.{bit_at};
 ghost use Rattle.number_sets.specs.Bits.{is_set, any_set, is_between, count_of};
 

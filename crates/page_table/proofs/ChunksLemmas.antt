@@ -1,35 +1,23 @@
 -- Chunks after one of them has changed.
-use Rattle.std.proofs.Common.{◌≡◌, ◌≢◌, ℕ, ◌+◌, ◌-◌, ◌*◌, ◌/◌, ◌%◌, ◌<◌, ◌≤◌, inl, inr, Bool, true, false, cond, zero, suc, set, replicate, min, is_some, IfSome, Result, Ok, Err, OnOk, OnErr, Option, None, Some, List, [], length, get_or, if◌then◌else◌, refl, sym, ap, subst, ◌∙◌, arith}
-use Rattle.std.proofs.lemmas.Bool.{cases_lt, cases_eq, cases_Bool}
-use Rattle.std.proofs.lemmas.List.{get_or_past, get_or-set_same, get_or-set_other}
+use Rattle.std.proofs.Common.{◌≡◌, ◌≢◌, ℕ, ◌+◌, ◌-◌, ◌*◌, ◌/◌, ◌%◌, ◌<◌, ◌≤◌, inl, inr, Bool, true, false, cond, zero, suc, set, min, is_some, IfSome, Result, Ok, Err, OnOk, OnErr, Option, None, Some, List, [], length, get_or, if◌then◌else◌, refl, sym, ap, subst, ◌∙◌, arith}
+use Rattle.std.proofs.lemmas.Bool.{cases_eq, cases_Bool}
+use Rattle.std.proofs.lemmas.List.{get_or-set_same, get_or-set_other}
 use Rattle.number_sets.specs.Bits.{is_between}
-use Rattle.number_sets.proofs.MarksLemmas.{if_none, none_there}
+use Rattle.number_sets.proofs.MarksLemmas.{if_none}
 use Rattle.page_table.specs.Table.{Chunk, Regions, in_chunk, chunk_of, in_chunks, is_kept, taken, AreTaken}
-use Rattle.number_sets.proofs.CountLemmas.{count_of, count-zero, count-cons, count-none, count_list, count_zero, count_set, count_some, cond_le}
+use Rattle.number_sets.proofs.CountLemmas.{count_of, count-zero, count-cons, count-none, count_list, count_set, count_some, cond_le}
 use Rattle.number_sets.proofs.RangeLemmas.{between_yes, between_part}
+use Rattle.page_table.proofs.RegionsLemmas.{none_counted}
 
 -- what holds anyhow holds after a failure
 pub on_err : {T E : Type 0} (r : Result T E) (P : Type 0) → P → OnErr r P
 on_err (Ok x) P p = tt
 on_err (Err e) P p = p
 
--- what follows from what is told of a result
-pub then_ok : {T E : Type 0} (r : Result T E) (P Q : Type 0) → (P → Q) → OnOk r P → OnOk r Q
-then_ok (Ok x) P Q so p = so p
-then_ok (Err e) P Q so p = tt
-
-pub then_err : {T E : Type 0} (r : Result T E) (P Q : Type 0) → (P → Q) → OnErr r P → OnErr r Q
-then_err (Ok x) P Q so p = tt
-then_err (Err e) P Q so p = so p
-
+-- what follows from both
 pub either_way : {T E : Type 0} (r : Result T E) (P Q R : Type 0) → (P → R) → (Q → R) → OnOk r P → OnErr r Q → R
 either_way (Ok x) P Q R left right p q = left p
 either_way (Err e) P Q R left right p q = right q
-
--- what holds of what is there by what is told of it
-pub if_there : {X : Type 0} (o : Option X) (P Q : X → Type 0) → ((x : X) → P x → Q x) → IfSome o P → IfSome o Q
-if_there None P Q so p = tt
-if_there (Some x) P Q so p = so x p
 
 -- what is under a number
 pub table_is : (chunks : Regions) (k q : ℕ) → k / 256 ≡ q → in_chunks chunks k ≡ in_chunk (chunk_of chunks q) (k % 256)
@@ -141,18 +129,10 @@ module _ (old new : Regions) (q first end : ℕ) (others : (p : ℕ) → p ≢ q
 pub some_of : (page : Option (List ℕ)) (bytes : List ℕ) → page ≡ Some bytes → true ≡ is_some page
 some_of page bytes there = sym (ap is_some there)
 
--- where no place is taken
-none_taken_place : (chunk : Chunk) (k : ℕ) → taken chunk ≡ 0 → get_or chunk k None ≡ None
-none_taken_place chunk k none =
-    elim (cases_lt k (length chunk)) [
-      | inl lt ↦ none_there (get_or chunk k None) (count_zero is_some chunk none k lt)
-      | inr le ↦ get_or_past chunk k None le
-    ]
-
 -- of a chunk in which no place is taken nothing is stored
 none_in_chunk : (chunk : Option Chunk) (n k : ℕ) → IfSome chunk (λ c. n ≡ taken c) → n ≡ 0 → in_chunk chunk k ≡ None
 none_in_chunk None n k left none = refl
-none_in_chunk (Some chunk) n k left none = none_taken_place chunk k (sym left ∙ none)
+none_in_chunk (Some chunk) n k left none = none_counted chunk k (sym left ∙ none)
 
 -- the same where it is empty and goes
 pub places_all_gone : (old mid new : Regions) (q first end from to n : ℕ) → from ≡ first - q * 256 → to ≡ min (end - q * 256) 256 → ((p : ℕ) → p ≢ q → chunk_of mid p ≡ chunk_of old p)
@@ -207,9 +187,3 @@ set_taken old new place page below put =
       | inl there ↦ omega (arith, ap taken put, count_set is_some old place (Some page) below, cond_le (is_some (get_or old place None)), count_some is_some old place below there)
       | inr none ↦ omega (arith, ap taken put, count_set is_some old place (Some page) below, ap {B = ℕ} (λ (b : Bool). cond b 1 0) none)
     ]
-
--- places in none of which a page is stored
-pub nones_at : (n i : ℕ) → ◌≡◌ {A = Option (List ℕ)} (get_or (replicate n None) i None) None
-nones_at zero i = refl
-nones_at (suc n) zero = refl
-nones_at (suc n) (suc i) = nones_at n i

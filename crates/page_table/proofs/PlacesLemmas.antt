@@ -274,7 +274,11 @@ pub place_taken : {X : Type 0} (marks : List ℕ) (xs : List X) (i : ℕ) → i 
 place_taken marks [] i below is all = absurd (omega (arith, place_below marks i 0 (count_of (is_set marks) 0 i) below is all refl))
 place_taken {X} marks (x ∷ xs) i below is all = subst (λ (o : Option X). IsSome o) (sym (place_some marks (x ∷ xs) i (count_of (is_set marks) 0 i) x below is all refl)) refl
 
--- what two facts say of what is there
+-- what a fact says of what is there, or two
+pub some_so : {X : Type 0} (o : Option X) (P Q : X → Type 0) → ((x : X) → P x → Q x) → IfSome o P → IfSome o Q
+some_so None P Q so p = tt
+some_so (Some x) P Q so p = so x p
+
 pub some_both : {X : Type 0} (o : Option X) (P Q R : X → Type 0) → ((x : X) → P x → Q x → R x) → IfSome o P → IfSome o Q → IfSome o R
 some_both None P Q R so p q = tt
 some_both (Some x) P Q R so p q = so x p q

@@ -1,6 +1,6 @@
 -- Chunks in regions after one of them has changed.
 use Rattle.std.proofs.Common.{◌≡◌, ◌≢◌, ℕ, zero, suc, ◌+◌, ◌-◌, ◌*◌, ◌/◌, ◌%◌, ◌<◌, ◌≤◌, true, false, nat_lt, is_some, Option, None, Some, List, [], ◌∷◌, ◌++◌, length, get_or, set, replicate, inl, inr, refl, sym, ap, subst, ◌∙◌, arith}
-use Rattle.std.specs.Prelude.{Box, IfSome, IsSome, Result, Ok, Err, OnOk, OnErr, IfOk}
+use Rattle.std.specs.Prelude.{Box, IsSome, Result, Ok, Err, OnOk, OnErr, IfOk}
 use Rattle.std.proofs.Math.ListN.{get_or-map}
 use Rattle.std.proofs.lemmas.Bool.{cases_lt, cases_eq}
 use Rattle.std.proofs.lemmas.Bool.Decides.{nat_tests}
@@ -9,6 +9,7 @@ use Rattle.std.specs.List.{filter}
 use Rattle.page_table.specs.Boxed.{unboxed, all_unboxed}
 use Rattle.page_table.specs.Table.{Chunk, Regions, in_region, chunk_of}
 use Rattle.number_sets.proofs.CountLemmas.{count_zero}
+use Rattle.number_sets.proofs.MarksLemmas.{none_there}
 
 abbrev pub Region : Type 0
 Region = List (Option Chunk)
@@ -22,10 +23,6 @@ any_default (y ∷ xs) (suc i) x d below is = any_default xs i x d (omega arith)
 less_true : (a b : ℕ) → true ≡ nat_lt a b → a < b
 less_true a b is = grind (arith, nat_tests)
 
-none_there : {X : Type 0} (o : Option X) → is_some o ≡ false → o ≡ None
-none_there None none = refl
-none_there (Some x) none = absurd (cc)
-
 -- where none is counted in a row, there is none
 pub none_counted : {X : Type 0} (row : List (Option X)) (k : ℕ) → length (filter is_some row) ≡ 0 → get_or row k None ≡ None
 none_counted row k none =
@@ -35,7 +32,7 @@ none_counted row k none =
     ]
 
 -- nor is there in one of none
-nones_at : {X : Type 0} (n k : ℕ) → ◌≡◌ {A = Option X} (get_or (replicate n None) k None) None
+pub nones_at : {X : Type 0} (n k : ℕ) → ◌≡◌ {A = Option X} (get_or (replicate n None) k None) None
 nones_at zero k = refl
 nones_at (suc n) zero = refl
 nones_at (suc n) (suc k) = nones_at n k
@@ -154,26 +151,17 @@ chunk_in regions number region place at below =
     ∙ ap (λ (i : ℕ). in_region (get_or regions i None) (number % 256)) one
     ∙ ap (λ (k : ℕ). in_region (get_or regions region None) k) other
 
--- behind the regions there is no chunk
-pub chunk_behind : (regions : Regions) (number region : ℕ) → length regions ≤ region → region ≤ number / 256 → chunk_of regions number ≡ None
-chunk_behind regions number region behind at =
-    chunk_is regions number ∙ ap (λ (o : Option Region). in_region o (number % 256)) (get_or_past regions (number / 256) None (omega arith))
-
--- there is no chunk before a number, nor in the next places of its region
-pub none_next : (regions : Regions) (from next begin upto : ℕ) → begin ≡ 256 * (next / 256) → upto ≤ 256 → ((q : ℕ) → from ≤ q → q < next → chunk_of regions q ≡ None)
-    → ((k : ℕ) → next % 256 ≤ k → k < upto → in_region (get_or regions (next / 256) None) k ≡ None)
-    → (q : ℕ) → from ≤ q → q < begin + upto → chunk_of regions q ≡ None
-none_next regions from next begin upto at few before none q above below =
-    elim (cases_lt q next) [
-      | inl lt ↦ before q above lt
-      | inr ge ↦ chunk_in regions q (next / 256) (q - begin) (omega arith) (omega arith) ∙ none (q - begin) (omega arith) (omega arith)
+-- there is no chunk from a number on, nor in the last places of the region before it
+pub none_last : (regions : Regions) (region begin place upto end : ℕ) → begin ≡ 256 * region → upto ≤ begin + 256 → ((q : ℕ) → upto ≤ q → q < end → chunk_of regions q ≡ None)
+    → ((k : ℕ) → place ≤ k → k < upto - begin → in_region (get_or regions region None) k ≡ None)
+    → (q : ℕ) → begin + place ≤ q → q < end → chunk_of regions q ≡ None
+none_last regions region begin place upto end at few behind none q above below =
+    elim (cases_lt q upto) [
+      | inl lt ↦ chunk_in regions q region (q - begin) (omega arith) (omega arith) ∙ none (q - begin) (omega arith) (omega arith)
+      | inr ge ↦ behind q ge below
     ]
 
--- what follows for what is there, or from a success or a failure
-pub some_so : {X : Type 0} (o : Option X) (P Q : X → Type 0) → ((x : X) → P x → Q x) → IfSome o P → IfSome o Q
-some_so None P Q so p = tt
-some_so (Some x) P Q so p = so x p
-
+-- what follows from a success or a failure
 pub ok_so : {T E : Type 0} (r : Result T E) (P Q : Type 0) → (P → Q) → OnOk r P → OnOk r Q
 ok_so (Ok x) P Q so p = so p
 ok_so (Err e) P Q so p = tt

@@ -1,5 +1,5 @@
 -- A table after its chunks or its holes have changed.
-use Rattle.std.proofs.Common.{◌≡◌, ◌≢◌, ℕ, ◌+◌, ◌-◌, ◌*◌, ◌/◌, ◌<◌, ◌≤◌, ◌^◌, Bool, true, false, not, ◌||◌, ◌&&◌, ◌==◌, nat_eq, is_some, IfOk, Result, Ok, Err, inl, inr, Option, Some, None, List, [], length, replicate, take, if◌then◌else◌, refl, sym, ap, ◌∙◌, arith}
+use Rattle.std.proofs.Common.{◌≡◌, ◌≢◌, ℕ, ◌+◌, ◌-◌, ◌*◌, ◌/◌, ◌<◌, ◌≤◌, ◌^◌, Bool, true, false, not, ◌||◌, ◌&&◌, ◌==◌, nat_eq, is_some, inl, inr, Option, Some, None, List, [], length, replicate, take, if◌then◌else◌, refl, sym, ap, ◌∙◌, arith}
 use Rattle.std.proofs.lemmas.Bool.{cases_eq, cases_Bool}
 use Rattle.std.proofs.lemmas.Bool.Decides.{nat_tests}
 use Rattle.std.proofs.lemmas.List.{take-replicate}
@@ -12,11 +12,6 @@ use Rattle.page_table.proofs.PlacesLemmas.{count_added, count_same}
 use Rattle.page_table.proofs.ChunksLemmas.{other_chunk}
 use Rattle.page_table.proofs.HolesLemmas.{Rows, no_hole, rows_fewer}
 use Rattle.page_table.proofs.ShownLemmas.{page_none, page_same, page_dug}
-
--- what holds of a result by what is told of it
-pub if_ok : {T E : Type 0} (r : Result T E) (P Q : T → Type 0) → ((x : T) → P x → Q x) → IfOk r P → IfOk r Q
-if_ok (Ok x) P Q so p = so x p
-if_ok (Err e) P Q so p = tt
 
 -- the page of a number
 pub page_is : (table : Stored) (k : ℕ) → in_table table k ≡ shown_page (is_hole table.holes k) (in_chunks table.chunks k)

@@ -1,6 +1,7 @@
 use Rattle.std.proofs.Common.{◌≡◌, ◌∙◌, ◌/◌, ◌%◌, ℕ, Option, Some, None, get_or, set, refl, ap, arith}
 use Rattle.page_table.specs.Table.{Chunk, Regions, AreTaken, chunk_of, in_chunk, in_chunks}
-use Rattle.page_table.proofs.ChunksLemmas.{on_err, then_ok, then_err, either_way, found_is, absent_is, taken_found, taken_gone, same_table, put_here, put_apart, taken_put, set_here, set_others, put_others, put_taken, set_taken, nones_at}
+use Rattle.page_table.proofs.ChunksLemmas.{on_err, either_way, found_is, absent_is, taken_found, taken_gone, same_table, put_here, put_apart, taken_put, set_here, set_others, put_others, put_taken, set_taken}
+use Rattle.page_table.proofs.RegionsLemmas.{nones_at, ok_so, err_so}
 use Rattle.page_table.proofs.chunks.Chunks.add.Goals as goal
 
 pub add-added-requires-clause-none : goal.add-added-requires-clause-none
@@ -21,7 +22,7 @@ pub returns-in-Some-clause-here : goal.returns-in-Some-clause-here
 returns-in-Some-clause-here g c =
     let n : ℕ = c.args.number in
     let written : Chunk = c.add-added.new.self in
-    then_ok c.add-added.result (written ≡ set c.in-Some.chunk (n % 256) (Some c.args.page)) (in_chunks c.give_back.new.self n ≡ Some c.args.page)
+    ok_so c.add-added.result (written ≡ set c.in-Some.chunk (n % 256) (Some c.args.page)) (in_chunks c.give_back.new.self n ≡ Some c.args.page)
     (λ put. put_here c.self.inside.chunks c.lend.new.self c.give_back.new.self (n / 256) written c.lend.ensures.others c.give_back.ensures.others c.give_back.ensures.here n (Some c.args.page) refl
     (ap (λ (chunk : Chunk). get_or chunk (n % 256) None) put ∙ set_here c.in-Some.chunk (n % 256) (Some c.args.page) (omega (arith, c.add-added.ensures.long)))) c.add-added.ensures.added
 
@@ -38,7 +39,7 @@ pub returns-in-Some-clause-no_memory : goal.returns-in-Some-clause-no_memory
 returns-in-Some-clause-no_memory g c =
     let n : ℕ = c.args.number in
     let written : Chunk = c.add-added.new.self in
-    then_err c.add-added.result (written ≡ c.in-Some.chunk) (in_chunks c.give_back.new.self n ≡ None)
+    err_so c.add-added.result (written ≡ c.in-Some.chunk) (in_chunks c.give_back.new.self n ≡ None)
     (λ same. put_here c.self.inside.chunks c.lend.new.self c.give_back.new.self (n / 256) written c.lend.ensures.others c.give_back.ensures.others c.give_back.ensures.here n None refl
     (ap (λ (chunk : Chunk). get_or chunk (n % 256) None) same
     ∙ found_is c.self.inside.chunks n (n / 256) c.in-Some.chunk refl c.in-Some.ensures.lent
@@ -76,7 +77,7 @@ returns-clause-here g c =
     let n : ℕ = c.args.number in
     let new : Regions = c.add-2.new.self in
     let written : Chunk = c.add.new.self in
-    then_ok c.add-2.result (chunk_of new (n / 256) ≡ Some written) (in_chunks new n ≡ Some c.args.page)
+    ok_so c.add-2.result (chunk_of new (n / 256) ≡ Some written) (in_chunks new n ≡ Some c.args.page)
     (λ here. put_here c.self.inside.chunks c.lend.new.self new (n / 256) written c.lend.ensures.others c.add-2.ensures.others here n (Some c.args.page) refl
     (ap (λ (chunk : Chunk). get_or chunk (n % 256) None) c.in_ok-add.ensures.added ∙ set_here c.new-made.result (n % 256) (Some c.args.page) (omega (arith, c.add.ensures.long)))) c.add-2.ensures.here
 
@@ -99,4 +100,4 @@ pub returns-clause-no_memory : goal.returns-clause-no_memory
 returns-clause-no_memory g c =
     let n : ℕ = c.args.number in
     let new : Regions = c.add-2.new.self in
-    then_err c.add-2.result (chunk_of new (n / 256) ≡ None) (in_chunks new n ≡ None) (absent_is new n (n / 256) refl) c.add-2.ensures.no_memory
+    err_so c.add-2.result (chunk_of new (n / 256) ≡ None) (in_chunks new n ≡ None) (absent_is new n (n / 256) refl) c.add-2.ensures.no_memory

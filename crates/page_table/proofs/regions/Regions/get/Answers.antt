@@ -1,7 +1,8 @@
 use Rattle.std.proofs.Common.{◌≡◌, ◌∙◌, ◌%◌, ℕ, List, Option, None, Some, get_or, sym, ap, arith}
 use Rattle.page_table.specs.Boxed.{unboxed, all_unboxed}
 use Rattle.page_table.specs.Table.{Chunk, chunk_of, in_region}
-use Rattle.page_table.proofs.RegionsLemmas.{seen_found, seen_past, some_so}
+use Rattle.page_table.proofs.PlacesLemmas.{some_so}
+use Rattle.page_table.proofs.RegionsLemmas.{seen_found, seen_past}
 use Rattle.page_table.proofs.regions.Regions.get.Goals as goal
 
 pub returns-in-Some-Some-clause-some : goal.returns-in-Some-Some-clause-some

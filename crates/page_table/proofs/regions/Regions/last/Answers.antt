@@ -1,39 +1,30 @@
-use Rattle.std.proofs.Common.{◌≡◌, ◌+◌, ◌-◌, ◌*◌, ◌/◌, ◌%◌, ◌<◌, ◌≤◌, ℕ, Option, length, inl, inr, refl, sym, subst, arith}
+use Rattle.std.proofs.Common.{◌≡◌, ◌+◌, ◌-◌, ◌*◌, ◌/◌, ◌<◌, ◌≤◌, ℕ, Option, refl, sym, subst, arith}
 use Rattle.std.specs.Prelude.{IsSome}
-use Rattle.std.proofs.lemmas.Bool.{cases_lt}
 use Rattle.page_table.specs.Table.{Chunk}
-use Rattle.page_table.proofs.RegionsLemmas.{seen_length, chunk_in, chunk_behind, none_next}
-use Rattle.page_table.proofs.regions.Regions.next.Goals as goal
-
-pub returns-then-next-len-clause-none : goal.returns-then-next-len-clause-none
-returns-then-next-len-clause-none g c = λ none q above below.
-    let i = c.self.inside in
-    let next : ℕ = c.loop-next.next in
-    let behind : length c.args.self.now ≤ next / 256 = omega (arith, c.len.ensures, c.if-next-len.true, i.regions.ok.0, seen_length i.regions.items c.args.self.now c.self.view_is) in
-    elim (cases_lt q next) [
-      | inl lt ↦ c.loop-next.invariant.none q above lt
-      | inr ge ↦ chunk_behind c.args.self.now q (next / 256) behind (omega arith)
-    ]
+use Rattle.page_table.proofs.RegionsLemmas.{chunk_in, none_last}
+use Rattle.page_table.proofs.regions.Regions.last.Goals as goal
 
 pub returns-in-Some-clause-there : goal.returns-in-Some-clause-there
 returns-in-Some-clause-there g c =
-    let next : ℕ = c.loop-next.next in
+    let region : ℕ = (c.loop-upto.upto - 1) / 256 in
     let place : ℕ = c.in-Some.place in
-    let begins : next - next % 256 ≡ 256 * (next / 256) = omega arith in
-    let less : place < 256 = omega (arith, c.min-upto.ensures, c.in-Some.ensures.ends) in
-    subst (λ (o : Option Chunk). IsSome o) (sym (chunk_in c.args.self.now (next - next % 256 + place) (next / 256) place (omega arith) less)) c.in-Some.ensures.there
+    let less : place < 256 = omega (arith, c.in-Some.ensures.ends) in
+    subst (λ (o : Option Chunk). IsSome o) (sym (chunk_in c.args.self.now (region * 256 + place) region place (omega arith) less)) c.in-Some.ensures.there
 
-pub returns-in-Some-clause-first : goal.returns-in-Some-clause-first
-returns-in-Some-clause-first g c =
-    let next : ℕ = c.loop-next.next in
-    let begins : next - next % 256 ≡ 256 * (next / 256) = omega arith in
-    none_next c.args.self.now c.args.from next (next - next % 256) c.in-Some.place begins (omega (arith, c.min-upto.ensures, c.in-Some.ensures.ends)) c.loop-next.invariant.none c.in-Some.ensures.first
+pub returns-in-Some-clause-last : goal.returns-in-Some-clause-last
+returns-in-Some-clause-last g c = λ q above below.
+    let upto : ℕ = c.loop-upto.upto in
+    let region : ℕ = (upto - 1) / 256 in
+    none_last c.args.self.now region (region * 256) (c.in-Some.place + 1) upto c.args.end (omega arith) (omega arith) c.loop-upto.invariant.none
+    (λ k behind less. c.in-Some.ensures.last k (omega (arith, behind)) less) q (omega (arith, above)) below
 
-pub loop-next-preserved : goal.loop-next-preserved
-loop-next-preserved g c =
-    let next : ℕ = c.loop-next.next in
-    let begins : next - next % 256 ≡ 256 * (next / 256) = omega arith in
+pub loop-upto-preserved : goal.loop-upto-preserved
+loop-upto-preserved g c =
+    let upto : ℕ = c.loop-upto.upto in
+    let region : ℕ = (upto - 1) / 256 in
+    let first : ℕ = c.max-first.result in
     record {
-      begun = omega (arith, c.min-upto.ensures, c.loop-next.invariant.begun, c.loop-next-test.true);
-      none = none_next c.args.self.now c.args.from next (next - next % 256) c.min-upto.result begins (omega (arith, c.min-upto.ensures)) c.loop-next.invariant.none (c.in_default.ensures.none refl);
+      within = omega (arith, c.max-first.ensures, c.loop-upto.invariant.within, c.loop-upto-test.true);
+      none = λ q above below. none_last c.args.self.now region (region * 256) (first - region * 256) upto c.args.end (omega arith) (omega arith) c.loop-upto.invariant.none
+          (c.in_default.ensures.none refl) q (omega (arith, above, c.max-first.ensures)) below;
     }
