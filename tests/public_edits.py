@@ -74,7 +74,7 @@ NONE = {
     "payload Page::as_bytes": ONE_FIELD,
     "payload Page::into_bytes": MADE_OF,
     "nbd_session Counted::into_inner": MADE_OF,
-    "page_table HeldZeros::none": NO_MEMORY,
+    "number_sets HeldZeros::none": NO_MEMORY,
     "page_table Swept::new": NO_MEMORY,
     "page_table Table::new": NO_MEMORY,
     "session_turns Door::into_pass": MADE_OF,

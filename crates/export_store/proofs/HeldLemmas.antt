@@ -1,8 +1,8 @@
 -- How many pages are held.
 use Rattle.std.proofs.Common.{◌≡◌, ℕ, ◌+◌, ◌*◌, ◌<◌, ◌≤◌, inl, inr, false, arith}
 use Rattle.std.specs.Int.{div_ceil}
-use Rattle.page_table.specs.Bits.{count_of}
-use Rattle.page_table.proofs.CountLemmas.{count-upto, count_both}
+use Rattle.number_sets.specs.Bits.{count_of}
+use Rattle.number_sets.proofs.CountLemmas.{count-upto, count_both}
 use Rattle.export_store.specs.Pages.{Pages, IsPaged, is_stored, is_held_zeros, is_held}
 use Rattle.export_store.proofs.ImageLemmas.{held_of_stored}
 use Rattle.export_store.proofs.ZeroLemmas.{either, held_of_zeros}

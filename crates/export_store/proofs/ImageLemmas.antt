@@ -6,10 +6,10 @@ use Rattle.std.proofs.lemmas.List.{length-take, length-replicate, replicate-appe
 use Rattle.payload.specs.Bytes.{range_of, overwritten}
 use Rattle.payload.specs.Rows.{zero_page}
 use Rattle.payload.proofs.Overwriting.{take-overwritten, range_of-take}
-use Rattle.page_table.specs.Bits.{is_between}
+use Rattle.number_sets.specs.Bits.{is_between}
 use Rattle.page_table.specs.Table.{Stored, in_table}
-use Rattle.page_table.specs.Marks.{is_marked}
-use Rattle.page_table.proofs.RangeLemmas.{between_yes}
+use Rattle.number_sets.specs.Marks.{is_marked}
+use Rattle.number_sets.proofs.RangeLemmas.{between_yes}
 use Rattle.export_store.specs.Pages.{Pages, stored_page, is_stored, is_held_zeros, is_held, page_of, in_a_row, image_of, IsPaged}
 use Rattle.export_store.proofs.PageLemmas.{length-in_a_row, same_row, range_of-in_a_row, range_of-pages, overwritten-in_a_row, at_row}
 

@@ -6,9 +6,9 @@ use Rattle.std.proofs.lemmas.List.{places, same_lists, length-replicate}
 use Rattle.payload.specs.Bytes.{overwritten}
 use Rattle.payload.specs.Rows.{zero_page}
 use Rattle.payload.proofs.BytesLemmas.{length-overwritten}
-use Rattle.page_table.specs.Bits.{is_between}
+use Rattle.number_sets.specs.Bits.{is_between}
 use Rattle.page_table.specs.Table.{cleared}
-use Rattle.page_table.proofs.RangeLemmas.{between_yes, between_before, between_behind}
+use Rattle.number_sets.proofs.RangeLemmas.{between_yes, between_before, between_behind}
 use Rattle.export_store.specs.Pages.{Pages, IsPaged, stored_page, is_stored, is_held_zeros, is_held, page_of, image_of, has_byte_of, lies_whole_in, zeroed}
 use Rattle.export_store.proofs.ImageLemmas.{shown, at_zero_page, length-zero_page, length-image_of, at_image}
 use Rattle.export_store.proofs.RangeLemmas.{whole_touched, untouched_at, edge_at, byte_places}

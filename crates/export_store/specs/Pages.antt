@@ -5,7 +5,7 @@ use Rattle.std.specs.List.{filter, range_with_len}
 use Rattle.payload.specs.Bytes.{range_of, overwritten}
 use Rattle.payload.specs.Rows.{zero_page}
 use Rattle.page_table.specs.Table.{Stored, in_table, cleared}
-use Rattle.page_table.specs.Marks.{is_marked}
+use Rattle.number_sets.specs.Marks.{is_marked}
 
 -- how many bytes an image has, the pages that are stored, in chunks, and which others are held zeros, in bitmaps: each page has
 -- its number, from 0

@@ -4,7 +4,7 @@ ghost use Rattle.std.specs.Int.{div_ceil};
 ghost use Rattle.std.specs.List.{concat};
 ghost use Rattle.payload.specs.Bytes.{range_of, overwritten};
 ghost use Rattle.payload.specs.Rows.{AreWhole};
-ghost use Rattle.page_table.specs.Bits.{is_between};
+ghost use Rattle.number_sets.specs.Bits.{is_between};
 ghost use Rattle.page_table.specs.Table.{in_table};
 ghost use Rattle.export_store.specs.Pages.{IsPaged, in_a_row, image_of, stored_page, is_stored, is_held, held_pages, page_of, page_after, pages_after, has_byte_of, lies_whole_in, zeroed};
 
@@ -12,7 +12,8 @@ use crate::image::Image;
 use crate::offers::{Offer, Offers};
 use crate::zeroing::{emptied_pages, whole_pages, zero_pages};
 use nbd_base::NoMemory;
-use page_table::{BITMAP, CHUNK, HeldZeros, Swept, Table};
+use number_sets::{BITMAP, HeldZeros};
+use page_table::{CHUNK, Swept, Table};
 use payload::{PAGE, Page, Payload};
 use std::alloc::Allocator;
 use std::marker::Model;

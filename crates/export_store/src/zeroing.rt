@@ -1,6 +1,6 @@
 //! How a range of an image in pages is made zero.
 ghost use Rattle.std.specs.Prelude.{◌≡◌, ℕ, ◌+◌, ◌*◌, ◌<◌, ◌≤◌, ◌&&◌, ◌^◌, not, is_some, true, if◌then◌else◌};
-ghost use Rattle.page_table.specs.Bits.{is_between};
+ghost use Rattle.number_sets.specs.Bits.{is_between};
 ghost use Rattle.page_table.specs.Table.{in_table};
 ghost use Rattle.export_store.specs.Pages.{has_byte_of, lies_whole_in, zeroed};
 

@@ -1,76 +1,53 @@
 -- Chunks after one of them has changed.
-use Rattle.std.proofs.Common.{◌≡◌, ◌≢◌, ℕ, ◌+◌, ◌-◌, ◌*◌, ◌/◌, ◌%◌, ◌<◌, ◌≤◌, inl, inr, Bool, true, false, cond, zero, suc, set, replicate, min, is_some, IfSome, Result, Ok, Err, OnOk, OnErr, Option, None, Some, List, [], length, get_or, if◌then◌else◌, refl, sym, ap, subst, ◌∙◌, arith}
-use Rattle.std.specs.Ordering.{nat_cmp, is_eq}
-use Rattle.std.specs.Cmp.{nat_cmp_is}
-use Rattle.std.specs.declared.cmp.Ordering.TheVariants.{Less, Greater}
-use Rattle.std.specs.BTreeMap.{BTreeMap, is_at, get, UpdatesBy}
-use Rattle.std.proofs.lemmas.Bool.{cases_lt, cases_eq, cases_Bool}
-use Rattle.std.proofs.lemmas.List.{get_or_past, get_or-set_same, get_or-set_other}
-use Rattle.page_table.specs.Bits.{is_between}
-use Rattle.page_table.specs.Table.{Chunk, in_chunk, chunk_of, in_chunks, is_kept, taken, AreTaken}
-use Rattle.page_table.proofs.CountLemmas.{count_of, count-zero, count-cons, count-none, count_list, count_zero, count_set, count_some, cond_le}
-use Rattle.page_table.proofs.RangeLemmas.{between_yes, between_part}
+use Rattle.std.proofs.Common.{◌≡◌, ◌≢◌, ℕ, ◌+◌, ◌-◌, ◌*◌, ◌/◌, ◌%◌, ◌<◌, ◌≤◌, inl, inr, Bool, true, false, cond, zero, suc, set, min, is_some, IfSome, Result, Ok, Err, OnOk, OnErr, Option, None, Some, List, [], length, get_or, if◌then◌else◌, refl, sym, ap, subst, ◌∙◌, arith}
+use Rattle.std.proofs.lemmas.Bool.{cases_eq, cases_Bool}
+use Rattle.std.proofs.lemmas.List.{get_or-set_same, get_or-set_other}
+use Rattle.number_sets.specs.Bits.{is_between}
+use Rattle.number_sets.proofs.MarksLemmas.{if_none}
+use Rattle.page_table.specs.Table.{Chunk, Regions, in_chunk, chunk_of, in_chunks, is_kept, taken, AreTaken}
+use Rattle.number_sets.proofs.CountLemmas.{count_of, count-zero, count-cons, count-none, count_list, count_set, count_some, cond_le}
+use Rattle.number_sets.proofs.RangeLemmas.{between_yes, between_part}
+use Rattle.page_table.proofs.RegionsLemmas.{none_counted}
 
 -- what holds anyhow holds after a failure
 pub on_err : {T E : Type 0} (r : Result T E) (P : Type 0) → P → OnErr r P
 on_err (Ok x) P p = tt
 on_err (Err e) P p = p
 
--- what follows from what is told of a result
-pub then_ok : {T E : Type 0} (r : Result T E) (P Q : Type 0) → (P → Q) → OnOk r P → OnOk r Q
-then_ok (Ok x) P Q so p = so p
-then_ok (Err e) P Q so p = tt
-
-pub then_err : {T E : Type 0} (r : Result T E) (P Q : Type 0) → (P → Q) → OnErr r P → OnErr r Q
-then_err (Ok x) P Q so p = tt
-then_err (Err e) P Q so p = so p
-
--- what holds of what is there by what is told of it
-pub if_there : {X : Type 0} (o : Option X) (P Q : X → Type 0) → ((x : X) → P x → Q x) → IfSome o P → IfSome o Q
-if_there None P Q so p = tt
-if_there (Some x) P Q so p = so x p
-
-at_other : (k q : ℕ) → q ≢ k → is_at (nat_cmp k) q ≡ false
-at_other k q apart =
-    elim (cases_lt k q) [
-      | inl lt ↦ ap is_eq (sym (nat_cmp_is k q Less lt))
-      | inr le ↦ let lt : q < k = omega arith in ap is_eq (sym (nat_cmp_is k q Greater lt))
-    ]
-
--- the other entries of a map once one was put, changed or taken out
-pub updates_others : {X : Type 0} (m n : BTreeMap ℕ X) (q : ℕ) (w : Option X) → UpdatesBy nat_cmp (nat_cmp q) m n w → (p : ℕ) → p ≢ q → get nat_cmp n p ≡ get nat_cmp m p
-updates_others m n q w updates p apart = updates.2 p (at_other q p apart)
+-- what follows from both
+pub either_way : {T E : Type 0} (r : Result T E) (P Q R : Type 0) → (P → R) → (Q → R) → OnOk r P → OnErr r Q → R
+either_way (Ok x) P Q R left right p q = left p
+either_way (Err e) P Q R left right p q = right q
 
 -- what is under a number
-pub table_is : (chunks : List (ℕ × Chunk)) (k q : ℕ) → k / 256 ≡ q → in_chunks chunks k ≡ in_chunk (chunk_of chunks q) (k % 256)
+pub table_is : (chunks : Regions) (k q : ℕ) → k / 256 ≡ q → in_chunks chunks k ≡ in_chunk (chunk_of chunks q) (k % 256)
 unfolding in_chunks
 table_is chunks k q is = ap (λ (p : ℕ). in_chunk (chunk_of chunks p) (k % 256)) is
 
-pub found_is : (chunks : List (ℕ × Chunk)) (k q : ℕ) (chunk : Chunk) → k / 256 ≡ q → Some chunk ≡ chunk_of chunks q → get_or chunk (k % 256) None ≡ in_chunks chunks k
+pub found_is : (chunks : Regions) (k q : ℕ) (chunk : Chunk) → k / 256 ≡ q → Some chunk ≡ chunk_of chunks q → get_or chunk (k % 256) None ≡ in_chunks chunks k
 found_is chunks k q chunk is found = ap (λ (c : Option Chunk). in_chunk c (k % 256)) found ∙ sym (table_is chunks k q is)
 
-pub absent_is : (chunks : List (ℕ × Chunk)) (k q : ℕ) → k / 256 ≡ q → chunk_of chunks q ≡ None → in_chunks chunks k ≡ None
+pub absent_is : (chunks : Regions) (k q : ℕ) → k / 256 ≡ q → chunk_of chunks q ≡ None → in_chunks chunks k ≡ None
 absent_is chunks k q is absent = table_is chunks k q is ∙ ap (λ (c : Option Chunk). in_chunk c (k % 256)) absent
 
-pub not_stored : (chunks : List (ℕ × Chunk)) (k q : ℕ) → k / 256 ≡ q → chunk_of chunks q ≡ None → is_some (in_chunks chunks k) ≡ true → ⊥
-not_stored chunks k q is absent stored = let bad : false ≡ true = ap is_some (sym (absent_is chunks k q is absent)) ∙ stored in cc
+-- there is no chunk where there is no region
+no_chunk : (chunks : Regions) → chunks ≡ [] → (q : ℕ) → chunk_of chunks q ≡ None
+unfolding chunk_of
+no_chunk chunks none q = ap (λ (all : Regions). chunk_of all q) none
 
-pub none_in_chunks : (chunks : List (ℕ × Chunk)) → chunks ≡ [] → (k : ℕ) → in_chunks chunks k ≡ None
-none_in_chunks chunks none k = absent_is chunks k (k / 256) refl (ap (λ (all : List (ℕ × Chunk)). chunk_of all (k / 256)) none)
+pub none_in_chunks : (chunks : Regions) → chunks ≡ [] → (k : ℕ) → in_chunks chunks k ≡ None
+none_in_chunks chunks none k = absent_is chunks k (k / 256) refl (no_chunk chunks none (k / 256))
 
 -- no chunk is there, so each that is has a place that is taken
-pub none_taken : (chunks : List (ℕ × Chunk)) → chunks ≡ [] → AreTaken chunks
-none_taken chunks none number = subst (λ (all : List (ℕ × Chunk)). IfSome (chunk_of all number) (λ chunk. 0 < taken chunk)) (sym none) tt
-
-pub if_none : {X : Type 0} (o : Option X) (P : X → Type 0) → o ≡ None → IfSome o P
-if_none o P none = subst (λ (p : Option _). IfSome p P) (sym none) tt
+pub none_taken : (chunks : Regions) → chunks ≡ [] → AreTaken chunks
+none_taken chunks none number = if_none (chunk_of chunks number) (λ chunk. 0 < taken chunk) (no_chunk chunks none number)
 
 -- a chunk that is there
-pub taken_found : (chunks : List (ℕ × Chunk)) (q : ℕ) (chunk : Chunk) → AreTaken chunks → Some chunk ≡ chunk_of chunks q → 0 < taken chunk
+pub taken_found : (chunks : Regions) (q : ℕ) (chunk : Chunk) → AreTaken chunks → Some chunk ≡ chunk_of chunks q → 0 < taken chunk
 taken_found chunks q chunk all found = subst (λ (c : Option Chunk). IfSome c (λ chunk. 0 < taken chunk)) (sym found) (all q)
 
 -- One chunk has changed.
-module _ (old new : List (ℕ × Chunk)) (q : ℕ) (others : (p : ℕ) → p ≢ q → chunk_of new p ≡ chunk_of old p) where
+module _ (old new : Regions) (q : ℕ) (others : (p : ℕ) → p ≢ q → chunk_of new p ≡ chunk_of old p) where
   pub other_chunk : (k : ℕ) → k / 256 ≢ q → in_chunks new k ≡ in_chunks old k
   other_chunk k apart =
       table_is new k (k / 256) refl ∙ ap (λ (chunk : Option Chunk). in_chunk chunk (k % 256)) (others (k / 256) apart) ∙ sym (table_is old k (k / 256) refl)
@@ -102,28 +79,24 @@ module _ (old new : List (ℕ × Chunk)) (q : ℕ) (others : (p : ℕ) → p ≢
   pub taken_gone : AreTaken old → chunk_of new q ≡ None → AreTaken new
   taken_gone was gone = taken_after was (if_none (chunk_of new q) (λ chunk. 0 < taken chunk) gone)
 
--- Where the chunks are those of a map that has changed at one number.
-module _ (m n : BTreeMap ℕ Chunk) (q : ℕ) (after : Chunk) (updates : UpdatesBy nat_cmp (nat_cmp q) m n (Some after)) where
-  pub map_here : (k : ℕ) (page : Option (List ℕ)) → k / 256 ≡ q → get_or after (k % 256) None ≡ page → in_chunks n.entries k ≡ page
-  map_here k page is here = sym (found_is n.entries k q after is (sym updates.1)) ∙ here
+-- A chunk was taken out of its place, and another has been put there.
+module _ (old mid new : Regions) (q : ℕ) (after : Chunk) (lent : (p : ℕ) → p ≢ q → chunk_of mid p ≡ chunk_of old p) (back : (p : ℕ) → p ≢ q → chunk_of new p ≡ chunk_of mid p)
+    (here : chunk_of new q ≡ Some after) where
+  pub put_here : (k : ℕ) (page : Option (List ℕ)) → k / 256 ≡ q → get_or after (k % 256) None ≡ page → in_chunks new k ≡ page
+  put_here k page is same = sym (found_is new k q after is (sym here)) ∙ same
 
-  pub map_others : (before : Option Chunk) (number : ℕ) → number / 256 ≡ q → before ≡ get nat_cmp m q → ((k : ℕ) → k ≢ number % 256 → get_or after k None ≡ in_chunk before k)
-      → (k : ℕ) → k ≢ number → in_chunks n.entries k ≡ in_chunks m.entries k
-  map_others before number is found same =
-      other_places m.entries n.entries q (updates_others m n q (Some after) updates) number is
-      (λ k apart. ap (λ (c : Option Chunk). in_chunk c k) updates.1 ∙ same k apart ∙ ap (λ (c : Option Chunk). in_chunk c k) found)
+  pub put_apart : (before : Option Chunk) (number : ℕ) → number / 256 ≡ q → before ≡ chunk_of old q → ((k : ℕ) → k ≢ number % 256 → get_or after k None ≡ in_chunk before k)
+      → (k : ℕ) → k ≢ number → in_chunks new k ≡ in_chunks old k
+  put_apart before number is found same =
+      other_places old new q (λ p apart. back p apart ∙ lent p apart) number is
+      (λ k apart. ap (λ (c : Option Chunk). in_chunk c k) here ∙ same k apart ∙ ap (λ (c : Option Chunk). in_chunk c k) found)
 
-  pub map_same : (before : Chunk) → Some before ≡ get nat_cmp m q → after ≡ before → (k : ℕ) → in_chunks n.entries k ≡ in_chunks m.entries k
-  map_same before found same =
-      same_table m.entries n.entries q (updates_others m n q (Some after) updates)
-      (λ k. ap (λ (c : Option Chunk). in_chunk c k) updates.1 ∙ ap (λ (chunk : Chunk). get_or chunk k None) same ∙ ap (λ (c : Option Chunk). in_chunk c k) found)
-
-  pub map_taken : AreTaken m.entries → 0 < taken after → AreTaken n.entries
-  map_taken was here =
-      taken_after m.entries n.entries q (updates_others m n q (Some after) updates) was (subst (λ (c : Option Chunk). IfSome c (λ chunk. 0 < taken chunk)) (sym updates.1) here)
+  pub taken_put : AreTaken old → 0 < taken after → AreTaken new
+  taken_put was some =
+      taken_after old new q (λ p apart. back p apart ∙ lent p apart) was (subst (λ (c : Option Chunk). IfSome c (λ chunk. 0 < taken chunk)) (sym here) some)
 
 -- how many pages of a chunk are stored
-pub count_chunk : (chunks : List (ℕ × Chunk)) (q n begin : ℕ) (chunk : Chunk) → n ≡ 256 → begin ≡ 256 * q → length chunk ≡ n → Some chunk ≡ chunk_of chunks q
+pub count_chunk : (chunks : Regions) (q n begin : ℕ) (chunk : Chunk) → n ≡ 256 → begin ≡ 256 * q → length chunk ≡ n → Some chunk ≡ chunk_of chunks q
     → taken chunk ≡ count_of (is_kept chunks) begin n
 count_chunk chunks q n begin chunk all begins long found =
     sym (count_list is_some chunk (is_kept chunks) begin n (sym long) (λ i j below at.
@@ -131,16 +104,16 @@ count_chunk chunks q n begin chunk all begins long found =
     let place : j % 256 ≡ i = omega arith in
     ap is_some (sym (found_is chunks j q chunk block found)) ∙ ap (λ (p : ℕ). is_some (get_or chunk p None)) place))
 
-pub count_absent : (chunks : List (ℕ × Chunk)) (q n begin : ℕ) → n ≡ 256 → begin ≡ 256 * q → chunk_of chunks q ≡ None → count_of (is_kept chunks) begin n ≡ 0
+pub count_absent : (chunks : Regions) (q n begin : ℕ) → n ≡ 256 → begin ≡ 256 * q → chunk_of chunks q ≡ None → count_of (is_kept chunks) begin n ≡ 0
 count_absent chunks q n begin all begins absent =
     count-none (is_kept chunks) begin n (λ k above below. ap is_some (absent_is chunks k q (omega arith) absent))
 
 -- between two chunks where there is none
-pub none_between : (chunks : List (ℕ × Chunk)) (from to : ℕ) → ((q : ℕ) → from ≤ q → q < to → chunk_of chunks q ≡ None) → (k : ℕ) → 256 * from ≤ k → k < 256 * to → in_chunks chunks k ≡ None
+pub none_between : (chunks : Regions) (from to : ℕ) → ((q : ℕ) → from ≤ q → q < to → chunk_of chunks q ≡ None) → (k : ℕ) → 256 * from ≤ k → k < 256 * to → in_chunks chunks k ≡ None
 none_between chunks from to none k above below = absent_is chunks k (k / 256) refl (none (k / 256) (omega arith) (omega arith))
 
 -- Pages of a chunk are stored no longer, and the chunk goes, or stays as long as a place is taken.
-module _ (old new : List (ℕ × Chunk)) (q first end : ℕ) (others : (p : ℕ) → p ≢ q → chunk_of new p ≡ chunk_of old p) where
+module _ (old new : Regions) (q first end : ℕ) (others : (p : ℕ) → p ≢ q → chunk_of new p ≡ chunk_of old p) where
   pub whole_gone : first ≤ q * 256 → q * 256 + 256 ≤ end → chunk_of new q ≡ None → (k : ℕ) → k / 256 ≡ q → in_chunks new k ≡ (if is_between first end k then None else in_chunks old k)
   whole_gone above below gone k is =
       let inside : is_between first end k ≡ true = between_yes first end k (omega arith) (omega arith) in
@@ -156,36 +129,17 @@ module _ (old new : List (ℕ × Chunk)) (q first end : ℕ) (others : (p : ℕ)
 pub some_of : (page : Option (List ℕ)) (bytes : List ℕ) → page ≡ Some bytes → true ≡ is_some page
 some_of page bytes there = sym (ap is_some there)
 
-pub absent_page : (page : Option (List ℕ)) → is_some page ≡ false → page ≡ None
-absent_page None absent = refl
-absent_page (Some page) absent = absurd (cc)
-
--- where no place is taken
-none_taken_place : (chunk : Chunk) (k : ℕ) → taken chunk ≡ 0 → get_or chunk k None ≡ None
-none_taken_place chunk k none =
-    elim (cases_lt k (length chunk)) [
-      | inl lt ↦ absent_page (get_or chunk k None) (count_zero is_some chunk none k lt)
-      | inr le ↦ get_or_past chunk k None le
-    ]
-
 -- of a chunk in which no place is taken nothing is stored
 none_in_chunk : (chunk : Option Chunk) (n k : ℕ) → IfSome chunk (λ c. n ≡ taken c) → n ≡ 0 → in_chunk chunk k ≡ None
 none_in_chunk None n k left none = refl
-none_in_chunk (Some chunk) n k left none = none_taken_place chunk k (sym left ∙ none)
-
-some_in_chunk : (chunk : Option Chunk) (n : ℕ) → IfSome chunk (λ c. n ≡ taken c) → 0 < n → IfSome chunk (λ c. 0 < taken c)
-some_in_chunk None n left some = tt
-some_in_chunk (Some chunk) n left some = omega (arith, left)
+none_in_chunk (Some chunk) n k left none = none_counted chunk k (sym left ∙ none)
 
 -- the same where it is empty and goes
-pub places_all_gone : (old mid new : List (ℕ × Chunk)) (q first end from to n : ℕ) → from ≡ first - q * 256 → to ≡ min (end - q * 256) 256 → ((p : ℕ) → p ≢ q → chunk_of mid p ≡ chunk_of old p)
+pub places_all_gone : (old mid new : Regions) (q first end from to n : ℕ) → from ≡ first - q * 256 → to ≡ min (end - q * 256) 256 → ((p : ℕ) → p ≢ q → chunk_of mid p ≡ chunk_of old p)
     → ((k : ℕ) → in_chunk (chunk_of mid q) k ≡ (if is_between from to k then None else in_chunk (chunk_of old q) k))
     → IfSome (chunk_of mid q) (λ c. n ≡ taken c) → n ≡ 0 → chunk_of new q ≡ None → (k : ℕ) → k / 256 ≡ q → in_chunks new k ≡ (if is_between first end k then None else in_chunks old k)
 places_all_gone old mid new q first end from to n begins ends others here left none gone k is =
     absent_is new k q is gone ∙ sym (table_is mid k q is ∙ none_in_chunk (chunk_of mid q) n (k % 256) left none) ∙ places_gone old mid q first end others from to begins ends here k is
-
-pub taken_left : (old mid : List (ℕ × Chunk)) (q n : ℕ) → ((p : ℕ) → p ≢ q → chunk_of mid p ≡ chunk_of old p) → AreTaken old → IfSome (chunk_of mid q) (λ c. n ≡ taken c) → (n ≡ 0 → ⊥) → AreTaken mid
-taken_left old mid q n others was left some = taken_after old mid q others was (some_in_chunk (chunk_of mid q) n left (omega arith))
 
 -- fewer lie in so many places where some went
 less_cond : (a b : Bool) → (b ≡ true → a ≡ true) → cond b 1 0 ≤ cond a 1 0
@@ -203,7 +157,7 @@ left_in : (b : Bool) (page : Option (List ℕ)) → is_some (if b then None else
 left_in true page left = absurd (cc)
 left_in false page left = left
 
-pub count_left : (old new : List (ℕ × Chunk)) (q first end : ℕ) → ((k : ℕ) → k / 256 ≡ q → in_chunks new k ≡ (if is_between first end k then None else in_chunks old k))
+pub count_left : (old new : Regions) (q first end : ℕ) → ((k : ℕ) → k / 256 ≡ q → in_chunks new k ≡ (if is_between first end k then None else in_chunks old k))
     → count_of (is_kept new) (256 * q) 256 ≤ count_of (is_kept old) (256 * q) 256
 count_left old new q first end here =
     count_less (is_kept old) (is_kept new) (256 * q) 256 (λ k above below left. left_in (is_between first end k) (in_chunks old k) (sym (ap is_some (here k (omega arith))) ∙ left))
@@ -233,9 +187,3 @@ set_taken old new place page below put =
       | inl there ↦ omega (arith, ap taken put, count_set is_some old place (Some page) below, cond_le (is_some (get_or old place None)), count_some is_some old place below there)
       | inr none ↦ omega (arith, ap taken put, count_set is_some old place (Some page) below, ap {B = ℕ} (λ (b : Bool). cond b 1 0) none)
     ]
-
--- places in none of which a page is stored
-pub nones_at : (n i : ℕ) → ◌≡◌ {A = Option (List ℕ)} (get_or (replicate n None) i None) None
-nones_at zero i = refl
-nones_at (suc n) zero = refl
-nones_at (suc n) (suc i) = nones_at n i

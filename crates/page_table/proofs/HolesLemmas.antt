@@ -1,13 +1,13 @@
 -- Rows of pages, in order, after one came or some went.
 use Rattle.std.proofs.Common.{◌≡◌, ◌≢◌, ℕ, zero, suc, ◌+◌, ◌-◌, ◌<◌, ◌≤◌, ◌^◌, Bool, true, false, not, ◌||◌, ◌&&◌, ◌==◌, nat_eq, nat_lt, cond, inl, inr, List, [], ◌∷◌, length, get_or, set, take, drop, ◌++◌, if◌then◌else◌, refl, sym, ap, subst, ◌∙◌, arith}
 use Rattle.std.specs.List.{insert, remove}
-use Rattle.std.proofs.lemmas.Bool.{cases_lt, cases_eq, cases_Bool}
+use Rattle.std.proofs.lemmas.Bool.{cases_lt, cases_eq}
 use Rattle.std.proofs.lemmas.Bool.Decides.{nat_tests}
 use Rattle.std.proofs.lemmas.List.Edits.{length-insert}
-use Rattle.page_table.specs.Bits.{is_set, is_between}
+use Rattle.number_sets.specs.Bits.{is_set, is_between}
 use Rattle.page_table.specs.Holes.{is_hole, is_noted, rows_before, AreOrdered}
-use Rattle.page_table.proofs.RangeLemmas.{between_yes, between_before, between_behind}
-use Rattle.page_table.proofs.CountLemmas.{count_of, count-zero, count-cons, count-append}
+use Rattle.number_sets.proofs.RangeLemmas.{between_yes, between_before, between_behind}
+use Rattle.number_sets.proofs.CountLemmas.{count_of, count-cons, count-append}
 
 abbrev pub Row : Type 0
 Row = ℕ × List ℕ

@@ -1,11 +1,7 @@
-pub mod CountLemmas
-pub mod RangeLemmas
-pub mod BitsLemmas
 pub mod ItemsLemmas
 pub mod PlacesLemmas
 pub mod ShownLemmas
 pub mod HolesLemmas
+pub mod RegionsLemmas
 pub mod ChunksLemmas
 pub mod TableLemmas
-pub mod MarksLemmas
-pub mod LeastLemmas

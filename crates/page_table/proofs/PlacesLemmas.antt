@@ -1,11 +1,12 @@
 -- Items in places after one of them has changed.
-use Rattle.std.proofs.Common.{◌≡◌, ◌≢◌, ℕ, zero, suc, ◌+◌, ◌<◌, ◌≤◌, Bool, true, false, cond, is_some, Option, Some, None, List, [], ◌∷◌, length, get_or, set, replicate, inl, inr, refl, sym, ap, ◌∙◌, arith}
+use Rattle.std.proofs.Common.{◌≡◌, ◌≢◌, ℕ, zero, suc, ◌+◌, ◌<◌, ◌≤◌, Bool, true, false, cond, is_some, Option, Some, None, List, [], ◌∷◌, length, get_or, set, replicate, inl, inr, refl, sym, ap, subst, ◌∙◌, arith}
+use Rattle.std.specs.Prelude.{IsSome, IfSome}
 use Rattle.std.specs.List.{filter, insert, remove}
 use Rattle.std.proofs.lemmas.Bool.{cases_Bool}
 use Rattle.std.proofs.lemmas.List.{set-get_or}
-use Rattle.page_table.specs.Bits.{is_set}
+use Rattle.number_sets.specs.Bits.{is_set}
 use Rattle.page_table.specs.Places.{spread, in_places}
-use Rattle.page_table.proofs.CountLemmas.{count_of, count-zero, count-cons}
+use Rattle.number_sets.proofs.CountLemmas.{count_of, count-zero, count-cons}
 
 -- what a test says of the next places
 next_is : (p : ℕ → Bool) (from i : ℕ) (b : Bool) → p (from + suc i) ≡ b → p ((from + 1) + i) ≡ b
@@ -268,6 +269,19 @@ module _ {X : Type 0} where
 -- how many items are before one, and before a place
 pub place_below : (marks : List ℕ) (i n at : ℕ) → i < 256 → is_set marks i ≡ true → n ≡ count_of (is_set marks) 0 256 → at ≡ count_of (is_set marks) 0 i → at < n
 place_below marks i n at below is all place = omega (arith, all, place, count_before (is_set marks) 0 256 i below (from_zero (is_set marks) i true is))
+
+pub place_taken : {X : Type 0} (marks : List ℕ) (xs : List X) (i : ℕ) → i < 256 → is_set marks i ≡ true → length xs ≡ count_of (is_set marks) 0 256 → IsSome (get_or (in_places marks xs) i None)
+place_taken marks [] i below is all = absurd (omega (arith, place_below marks i 0 (count_of (is_set marks) 0 i) below is all refl))
+place_taken {X} marks (x ∷ xs) i below is all = subst (λ (o : Option X). IsSome o) (sym (place_some marks (x ∷ xs) i (count_of (is_set marks) 0 i) x below is all refl)) refl
+
+-- what a fact says of what is there, or two
+pub some_so : {X : Type 0} (o : Option X) (P Q : X → Type 0) → ((x : X) → P x → Q x) → IfSome o P → IfSome o Q
+some_so None P Q so p = tt
+some_so (Some x) P Q so p = so x p
+
+pub some_both : {X : Type 0} (o : Option X) (P Q R : X → Type 0) → ((x : X) → P x → Q x → R x) → IfSome o P → IfSome o Q → IfSome o R
+some_both None P Q R so p q = tt
+some_both (Some x) P Q R so p q = so x p q
 
 pub place_upto : (marks : List ℕ) (i n at : ℕ) → i < 256 → n ≡ count_of (is_set marks) 0 256 → at ≡ count_of (is_set marks) 0 i → at ≤ n
 place_upto marks i n at below all place = omega (arith, all, place, count_upto (is_set marks) 0 256 i (omega arith))

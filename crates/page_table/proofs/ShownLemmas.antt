@@ -4,7 +4,7 @@ use Rattle.std.proofs.lemmas.List.{places, same_lists, get_or_default, get_or-se
 use Rattle.std.proofs.lemmas.Bool.{cases_eq}
 use Rattle.std.proofs.lemmas.Bool.Decides.{nat_tests}
 use Rattle.payload.specs.Bytes.{overwritten}
-use Rattle.page_table.specs.Bits.{is_between}
+use Rattle.number_sets.specs.Bits.{is_between}
 use Rattle.page_table.specs.Table.{shown, shown_page, cleared}
 
 pub length-shown : (hole : ℕ → Bool) (number : ℕ) (bytes : List ℕ) → length (shown hole number bytes) ≡ length bytes

@@ -1,25 +1,17 @@
 -- A table after its chunks or its holes have changed.
-use Rattle.std.proofs.Common.{◌≡◌, ◌≢◌, ℕ, ◌+◌, ◌-◌, ◌*◌, ◌/◌, ◌<◌, ◌≤◌, ◌^◌, Bool, true, false, not, ◌||◌, ◌&&◌, ◌==◌, nat_eq, is_some, IfOk, OnOk, OnErr, Result, Ok, Err, inl, inr, Option, Some, None, List, [], length, replicate, take, if◌then◌else◌, refl, sym, ap, ◌∙◌, arith}
-use Rattle.std.proofs.lemmas.Bool.{cases_lt, cases_eq, cases_Bool}
+use Rattle.std.proofs.Common.{◌≡◌, ◌≢◌, ℕ, ◌+◌, ◌-◌, ◌*◌, ◌/◌, ◌<◌, ◌≤◌, ◌^◌, Bool, true, false, not, ◌||◌, ◌&&◌, ◌==◌, nat_eq, is_some, inl, inr, Option, Some, None, List, [], length, replicate, take, if◌then◌else◌, refl, sym, ap, ◌∙◌, arith}
+use Rattle.std.proofs.lemmas.Bool.{cases_eq, cases_Bool}
 use Rattle.std.proofs.lemmas.Bool.Decides.{nat_tests}
 use Rattle.std.proofs.lemmas.List.{take-replicate}
 use Rattle.payload.specs.Rows.{zero_page}
-use Rattle.page_table.specs.Bits.{is_between}
+use Rattle.number_sets.specs.Bits.{is_between}
 use Rattle.page_table.specs.Holes.{Holes, is_hole, is_noted, AreOrdered}
-use Rattle.page_table.specs.Table.{Chunk, Stored, chunk_of, in_chunks, in_table, is_kept, kept, shown, shown_page, cleared, HaveRoom}
-use Rattle.page_table.proofs.CountLemmas.{count_of, count-none, count-append, count-shift}
+use Rattle.page_table.specs.Table.{Regions, Stored, chunk_of, in_chunks, in_table, is_kept, shown, shown_page, cleared, HaveRoom}
+use Rattle.number_sets.proofs.CountLemmas.{count_of, count-none, count-append, count-shift}
 use Rattle.page_table.proofs.PlacesLemmas.{count_added, count_same}
 use Rattle.page_table.proofs.ChunksLemmas.{other_chunk}
 use Rattle.page_table.proofs.HolesLemmas.{Rows, no_hole, rows_fewer}
-use Rattle.page_table.proofs.ShownLemmas.{shown_none, shown_same, page_none, page_same, page_dug}
-
-abbrev pub Chunks : Type 0
-Chunks = List (ℕ × Chunk)
-
--- what holds of a result by what is told of it
-pub if_ok : {T E : Type 0} (r : Result T E) (P Q : T → Type 0) → ((x : T) → P x → Q x) → IfOk r P → IfOk r Q
-if_ok (Ok x) P Q so p = so x p
-if_ok (Err e) P Q so p = tt
+use Rattle.page_table.proofs.ShownLemmas.{page_none, page_same, page_dug}
 
 -- the page of a number
 pub page_is : (table : Stored) (k : ℕ) → in_table table k ≡ shown_page (is_hole table.holes k) (in_chunks table.chunks k)
@@ -76,10 +68,6 @@ filled_here old new page filled k = filled page k ∙ filled_bit (is_hole old pa
 pub filled_others : (old new : Rows) (page : ℕ) → ((p k : ℕ) → is_hole new p k ≡ (is_hole old p k && not (p == page))) → (p : ℕ) → p ≢ page → (k : ℕ) → is_hole new p k ≡ is_hole old p k
 filled_others old new page filled p apart k = filled p k ∙ kept_bit (is_hole old p k) (nat_eq p page) (eq_other p page apart)
 
-left_bit : (a b : Bool) → (a && b) ≡ true → a ≡ true
-left_bit true b both = refl
-left_bit false b both = absurd (cc)
-
 -- A range of a page is noted as zeros.
 or_and_true : (a b c : Bool) → b ≡ true → (a || (b && c)) ≡ (a || c)
 or_and_true a true c e = refl
@@ -95,18 +83,18 @@ module _ (old new : Stored) (page start count : ℕ) (same : new.chunks ≡ old.
   pub dug_here : ((bytes : List ℕ) → in_chunks old.chunks page ≡ Some bytes → start + count ≤ length bytes) → in_table new page ≡ cleared start count (in_table old page)
   dug_here within =
       page_is new page
-      ∙ ap (λ (all : Chunks). shown_page (is_hole new.holes page) (in_chunks all page)) same
+      ∙ ap (λ (all : Regions). shown_page (is_hole new.holes page) (in_chunks all page)) same
       ∙ page_dug (is_hole old.holes page) (is_hole new.holes page) (in_chunks old.chunks page) start count within
       (λ k. dug page k ∙ or_and_true (is_hole old.holes page k) (nat_eq page page) (is_between start (start + count) k) (eq_self page))
       ∙ ap (cleared start count) (sym (page_is old page))
 
   pub dug_others : (k : ℕ) → k ≢ page → in_table new k ≡ in_table old k
   dug_others k apart =
-      same_is old new k (ap (λ (all : Chunks). in_chunks all k) same)
+      same_is old new k (ap (λ (all : Regions). in_chunks all k) same)
       (λ j. dug k j ∙ or_and_false (is_hole old.holes k j) (nat_eq k page) (is_between start (start + count) j) (eq_other k page apart))
 
 -- a page that isn't there has no row
-pub no_holes : (chunks : Chunks) (holes : Holes) (number : ℕ) → HaveRoom chunks holes → in_chunks chunks number ≡ None → (k : ℕ) → is_hole holes.rows number k ≡ false
+pub no_holes : (chunks : Regions) (holes : Holes) (number : ℕ) → HaveRoom chunks holes → in_chunks chunks number ≡ None → (k : ℕ) → is_hole holes.rows number k ≡ false
 no_holes chunks holes number have none k =
     no_hole holes.rows number k (elim (cases_Bool (is_noted holes.rows number)) [
       | inl noted ↦ let bad : false ≡ true = sym (ap is_some none) ∙ have.rows number noted in absurd (cc)
@@ -114,14 +102,14 @@ no_holes chunks holes number have none k =
     ])
 
 -- There is room for rows.
-pub room_none : (chunks : Chunks) (holes : Holes) → ((k : ℕ) → in_chunks chunks k ≡ None) → holes.rows ≡ [] → holes.pages ≡ 0 → HaveRoom chunks holes
+pub room_none : (chunks : Regions) (holes : Holes) → ((k : ℕ) → in_chunks chunks k ≡ None) → holes.rows ≡ [] → holes.pages ≡ 0 → HaveRoom chunks holes
 room_none chunks holes none rows pages = record {
   pages = count-none (is_kept chunks) 0 (2 ^ 64) (λ k above below. ap is_some (none k)) ∙ sym pages;
   rows = λ k noted. (let bad : false ≡ true = sym (ap (λ (all : Rows). is_noted all k) rows) ∙ noted in absurd (cc));
 }
 
 -- where the same pages are kept, and no more rows
-pub room_same : (old new : Chunks) (before after : Holes) → HaveRoom old before → ((k : ℕ) → is_kept new k ≡ is_kept old k) → after.pages ≡ before.pages
+pub room_same : (old new : Regions) (before after : Holes) → HaveRoom old before → ((k : ℕ) → is_kept new k ≡ is_kept old k) → after.pages ≡ before.pages
     → ((k : ℕ) → is_noted after.rows k ≡ true → is_noted before.rows k ≡ true) → HaveRoom new after
 room_same old new before after was same pages fewer = record {
   pages = count_same (is_kept old) (is_kept new) 0 (2 ^ 64) (λ k above. same k) ∙ was.pages ∙ sym pages;
@@ -129,7 +117,7 @@ room_same old new before after was same pages fewer = record {
 }
 
 -- where a page comes
-module _ (old new : Chunks) (before after : Holes) (number : ℕ) (below : number < 2 ^ 64) (was : HaveRoom old before) (none : in_chunks old number ≡ None)
+module _ (old new : Regions) (before after : Holes) (number : ℕ) (below : number < 2 ^ 64) (was : HaveRoom old before) (none : in_chunks old number ≡ None)
     (others : (k : ℕ) → k ≢ number → in_chunks new k ≡ in_chunks old k) (rows : after.rows ≡ before.rows) where
   zero_more : (k : ℕ) → k ≡ 0 + k
   zero_more k = omega arith
@@ -159,31 +147,8 @@ module _ (old new : Chunks) (before after : Holes) (number : ℕ) (below : numbe
         | inr apart ↦ ap is_some (others k apart)
       ]) pages (λ k noted. sym (ap (λ (all : Rows). is_noted all k) rows) ∙ noted)
 
--- where one takes the place of another
-pub kept_same : (old new : Chunks) (number : ℕ) → is_kept old number ≡ is_kept new number → ((k : ℕ) → k ≢ number → in_chunks new k ≡ in_chunks old k) → (k : ℕ) → is_kept new k ≡ is_kept old k
-kept_same old new number here others k =
-    elim (cases_eq k number) [
-      | inl e ↦ ap (is_kept new) e ∙ sym here ∙ ap (is_kept old) (sym e)
-      | inr apart ↦ ap is_some (others k apart)
-    ]
-
-is_eq : (p q : ℕ) → nat_eq p q ≡ true → p ≡ q
-is_eq p q same = grind (arith, nat_tests, same)
-
-either : (a b c : Bool) → (a || b) ≡ true → (a ≡ true → c ≡ true) → (b ≡ true → c ≡ true) → c ≡ true
-either true b c some left right = left refl
-either false b c some left right = right some
-
--- where bytes of one are noted
-pub room_dug : (chunks : Chunks) (before after : Holes) (page : ℕ) → HaveRoom chunks before → is_kept chunks page ≡ true → after.pages ≡ before.pages
-    → ((p : ℕ) → is_noted after.rows p ≡ (is_noted before.rows p || (p == page))) → HaveRoom chunks after
-room_dug chunks before after page was here pages noted = record {
-  pages = was.pages ∙ sym pages;
-  rows = λ k is. either (is_noted before.rows k) (k == page) (is_kept chunks k) (sym (noted k) ∙ is) (was.rows k) (λ same. ap (is_kept chunks) (is_eq k page same) ∙ here);
-}
-
 -- so there is room for the row of a page that has none
-pub room_for : (chunks : Chunks) (holes : Holes) (page : ℕ) → HaveRoom chunks holes → is_kept chunks page ≡ true → page < 2 ^ 64 → AreOrdered 0 holes.rows → is_noted holes.rows page ≡ false → length holes.rows < holes.pages
+pub room_for : (chunks : Regions) (holes : Holes) (page : ℕ) → HaveRoom chunks holes → is_kept chunks page ≡ true → page < 2 ^ 64 → AreOrdered 0 holes.rows → is_noted holes.rows page ≡ false → length holes.rows < holes.pages
 room_for chunks holes page have here below ordered none = rows_fewer (is_kept chunks) holes.rows page holes.pages have.pages ordered have.rows here below none
 
 -- where pages of a chunk go
@@ -193,7 +158,7 @@ split test q below =
     ∙ ap (λ (n : ℕ). count_of test 0 (256 * q) + n)
     (count-append test (256 * q) 256 (2 ^ 64 - (256 * q + 256)) (2 ^ 64 - 256 * q) (256 * q + 256) (omega (arith, below)) refl)
 
-module _ (old new : Chunks) (before after : Holes) (q from end count : ℕ) (below : 256 * q < 2 ^ 64) (was : HaveRoom old before)
+module _ (old new : Regions) (before after : Holes) (q from end count : ℕ) (below : 256 * q < 2 ^ 64) (was : HaveRoom old before)
     (here : (k : ℕ) → k / 256 ≡ q → in_chunks new k ≡ (if is_between from end k then None else in_chunks old k)) (others : (p : ℕ) → p ≢ q → chunk_of new p ≡ chunk_of old p) where
   outside : (begin n : ℕ) → ((k : ℕ) → begin ≤ k → k < begin + n → k / 256 ≢ q) → count_of (is_kept new) begin n ≡ count_of (is_kept old) begin n
   outside begin n apart =

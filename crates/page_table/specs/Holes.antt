@@ -1,6 +1,6 @@
 -- Which bytes of pages are zeros, whatever stands there: rows of the number of a page and a bit for each of its bytes.
 use Rattle.std.specs.Prelude.{ℕ, suc, ◌+◌, ◌<◌, ◌≤◌, ◌^◌, Bool, false, ◌&&◌, ◌||◌, ◌==◌, nat_lt, List, [], ◌∷◌, if◌then◌else◌}
-use Rattle.page_table.specs.Bits.{is_set}
+use Rattle.number_sets.specs.Bits.{is_set}
 
 -- the rows, and for how many pages there is room
 pub record Holes : Type 0 where

@@ -1,7 +1,6 @@
-pub mod Bits
 pub mod Items
+pub mod Boxed
 pub mod Places
 pub mod Holes
 pub mod Table
-pub mod Marks
 pub mod Swept

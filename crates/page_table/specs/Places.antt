@@ -1,6 +1,6 @@
 -- Items in places, side by side in the order of these.
 use Rattle.std.specs.Prelude.{ℕ, zero, suc, ◌+◌, Bool, Option, None, Some, List, [], ◌∷◌, if◌then◌else◌}
-use Rattle.page_table.specs.Bits.{is_set}
+use Rattle.number_sets.specs.Bits.{is_set}
 
 -- what is in so many places from one on, where a test says in which there is an item
 abbrev pub spread : {X : Type 0} → (ℕ → Bool) → ℕ → ℕ → List X → List (Option X)

@@ -1,25 +1,31 @@
--- Pages by their numbers, in chunks of 256 in a row, each of which is known by its number.
+-- Pages by their numbers, in chunks of 256 in a row, and these in regions of 256 in a row.
 use Rattle.std.specs.Prelude.{◌≡◌, ℕ, suc, ◌/◌, ◌%◌, ◌<◌, ◌^◌, Bool, true, Option, None, Some, is_some, IfSome, List, [], ◌∷◌, length, replicate, get_or, if◌then◌else◌}
-use Rattle.std.specs.Ordering.{nat_cmp}
 use Rattle.std.specs.List.{filter}
-use Rattle.std.specs.BTreeMap.{is_at}
-use Rattle.std.specs.Map.{lookup}
 use Rattle.payload.specs.Bytes.{overwritten}
-use Rattle.page_table.specs.Bits.{count_of}
+use Rattle.number_sets.specs.Bits.{count_of}
 use Rattle.page_table.specs.Holes.{Holes, is_hole, is_noted}
 
 -- what is in the places of a chunk
 abbrev pub Chunk : Type 0
 Chunk = List (Option (List ℕ))
 
+-- regions, where there are any, and what is in the places of each
+abbrev pub Regions : Type 0
+Regions = List (Option (List (Option Chunk)))
+
 -- chunks, and which bytes of their pages are zeros, whatever stands there
 pub record Stored : Type 0 where
-  pub chunks : List (ℕ × Chunk)
+  pub chunks : Regions
   pub holes : List (ℕ × List ℕ)
 
+-- what is in a place, where there is the region
+abbrev pub in_region : Option (List (Option Chunk)) → ℕ → Option Chunk
+in_region None place = None
+in_region (Some region) place = get_or region place None
+
 -- the chunk of a number
-abbrev pub chunk_of : List (ℕ × Chunk) → ℕ → Option Chunk
-chunk_of chunks number = lookup (is_at (nat_cmp number)) chunks
+unfoldable pub chunk_of : Regions → ℕ → Option Chunk
+chunk_of regions number = in_region (get_or regions (number / 256) None) (number % 256)
 
 -- what is in a place, where there is the chunk
 abbrev pub in_chunk : Option Chunk → ℕ → Option (List ℕ)
@@ -27,7 +33,7 @@ in_chunk None place = None
 in_chunk (Some chunk) place = get_or chunk place None
 
 -- what lies in the chunks for a number
-unfoldable pub in_chunks : List (ℕ × Chunk) → ℕ → Option (List ℕ)
+unfoldable pub in_chunks : Regions → ℕ → Option (List ℕ)
 in_chunks chunks number = in_chunk (chunk_of chunks (number / 256)) (number % 256)
 
 -- bytes, the first of which has a number, with zeros for those that are such
@@ -48,18 +54,18 @@ abbrev pub taken : Chunk → ℕ
 taken chunk = length (filter is_some chunk)
 
 -- of each chunk that is there a place is taken
-abbrev pub AreTaken : List (ℕ × Chunk) → Type 0
+abbrev pub AreTaken : Regions → Type 0
 AreTaken chunks = (number : ℕ) → IfSome (chunk_of chunks number) (λ chunk. 0 < taken chunk)
 
 -- whether something lies in the chunks for a number, and for how many
-abbrev pub is_kept : List (ℕ × Chunk) → ℕ → Bool
+abbrev pub is_kept : Regions → ℕ → Bool
 is_kept chunks number = is_some (in_chunks chunks number)
 
-abbrev pub kept : List (ℕ × Chunk) → ℕ
+abbrev pub kept : Regions → ℕ
 kept chunks = count_of (is_kept chunks) 0 (2 ^ 64)
 
 -- there is room for as many rows as pages lie in chunks, and rows are of such pages alone
-pub record HaveRoom (chunks : List (ℕ × Chunk)) (holes : Holes) : Type 0 where
+pub record HaveRoom (chunks : Regions) (holes : Holes) : Type 0 where
   pub pages : kept chunks ≡ holes.pages
   pub rows : (number : ℕ) → is_noted holes.rows number ≡ true → is_kept chunks number ≡ true
 

@@ -1,14 +1,13 @@
 ghost use Rattle.std.specs.Prelude.{◌≡◌, ℕ, ◌+◌, ◌*◌, ◌/◌, ◌%◌, ◌<◌, ◌≤◌, ◌^◌, ◌≢◌, None, Some, IsSome, IfSome, IfErr, OnOk, OnErr, is_some, is_ok, if◌then◌else◌};
-ghost use Rattle.page_table.specs.Bits.{is_between, count_of};
+ghost use Rattle.number_sets.specs.Bits.{is_between, count_of};
 ghost use Rattle.page_table.specs.Table.{Chunk as Seen, chunk_of, in_chunk, in_chunks, is_kept, taken};
 
-use crate::least::least_from;
 use crate::places::Places;
+use crate::regions::Regions;
 use crate::swept::Swept;
 use nbd_base::NoMemory;
 use payload::Page;
 use std::alloc::Allocator;
-use std::collections::BTreeMap;
 use std::marker::Model;
 
 /// How many pages a chunk has places for.
@@ -18,22 +17,21 @@ pub const CHUNK: usize = 256;
 /// one before it.
 pub(crate) type Chunk<A> = Places<Page<A>, A>;
 
-/// Pages by their numbers, in chunks of 256 in a row. A page is found by a look-up in the map of the chunks, which is small,
-/// and a count of the pages before it in its chunk. A chunk in which no page is stored isn't there.
+/// Pages by their numbers, in chunks of 256 in a row. A page is found by a count of the chunks before its own in their region, and of
+/// the pages before it in its chunk. A chunk in which no page is stored isn't there.
 #[derive(Drop)]
 pub(crate) struct Chunks<A: Allocator + Copy> {
-    chunks: BTreeMap<usize, Chunk<A>, A>,
+    chunks: Regions<A>,
 }
 
 impl<A: Allocator + Copy> Model for Chunks<A> {
-    ghost use Rattle.std.specs.Prelude.{ℕ, List};
-    ghost use Rattle.page_table.specs.Table.{Chunk as Seen, AreTaken};
+    ghost use Rattle.page_table.specs.Table.{Regions as Seen, AreTaken};
 
-    ghost Value = { List (ℕ × Seen) };
+    ghost Value = { Seen };
 
-    ghost view = { λ chunks. chunks.chunks.entries };
+    ghost view = { λ chunks. chunks.chunks };
 
-    ghost invariant = { λ chunks. AreTaken chunks.chunks.entries };
+    ghost invariant = { λ chunks. AreTaken chunks.chunks };
 }
 
 // No page is stored from the first place on before an end from now on. The pages are swept out.
@@ -56,39 +54,37 @@ fn empty_places<A: Allocator + Copy>(
 
 // Pages of a chunk that is there are stored no longer, from a place on before an end. The answer is how many are stored then.
 fn remove_places<A: Allocator + Copy>(
-    chunks: &mut BTreeMap<usize, Chunk<A>, A>,
+    chunks: &mut Regions<A>,
     number: usize,
     first: usize,
     end: usize,
     swept: &mut Swept<A>,
 ) -> usize
-    requires there { IsSome (chunk_of chunks.old.entries number) }
+    requires there { IsSome (chunk_of chunks.old number) }
     requires end { end ≤ 256 }
-    ensures here { (k : ℕ) → in_chunk (chunk_of chunks.new.entries number) k
+    ensures here { (k : ℕ) → in_chunk (chunk_of chunks.new number) k
         ≡ (if is_between first end k then None else in_chunk
-        (chunk_of chunks.old.entries number) k) }
-    ensures left { IfSome (chunk_of chunks.new.entries number) (λ chunk. result ≡ taken chunk) }
+        (chunk_of chunks.old number) k) }
+    ensures left { IfSome (chunk_of chunks.new number) (λ chunk. result ≡ taken chunk) }
     ensures others { (q : ℕ) → q ≢ number
-        → chunk_of chunks.new.entries q ≡ chunk_of chunks.old.entries q }
+        → chunk_of chunks.new q ≡ chunk_of chunks.old q }
 {
-    let Some(chunk) = chunks.get_mut(&number) else {
+    let Some(mut chunk) = chunks.lend(number) else {
         unreachable!();
     };
-    empty_places(chunk, first, end, swept);
-    chunk.count()
+    empty_places(&mut chunk, first, end, swept);
+    let count = chunk.count();
+    chunks.give_back(number, chunk);
+    count
 }
 
 // A chunk is there no longer.
-fn remove_chunk<A: Allocator + Copy>(
-    chunks: &mut BTreeMap<usize, Chunk<A>, A>,
-    number: usize,
-    swept: &mut Swept<A>,
-)
-    ensures here { chunk_of chunks.new.entries number ≡ None }
+fn remove_chunk<A: Allocator + Copy>(chunks: &mut Regions<A>, number: usize, swept: &mut Swept<A>)
+    ensures here { chunk_of chunks.new number ≡ None }
     ensures others { (q : ℕ) → q ≢ number
-        → chunk_of chunks.new.entries q ≡ chunk_of chunks.old.entries q }
+        → chunk_of chunks.new q ≡ chunk_of chunks.old q }
 {
-    if let Some(chunk) = chunks.remove(&number) {
+    if let Some(chunk) = chunks.take(number) {
         swept.take_chunk(chunk);
     }
 }
@@ -98,7 +94,7 @@ impl<A: Allocator + Copy> Chunks<A> {
     pub(crate) fn new(alloc: A) -> Chunks<A>
         ensures { (k : ℕ) → in_chunks result k ≡ None }
     {
-        let chunks = BTreeMap::new(alloc);
+        let chunks = Regions::new(alloc);
         Chunks { chunks }
     }
 
@@ -107,7 +103,7 @@ impl<A: Allocator + Copy> Chunks<A> {
         ensures some { IfSome result (λ page. in_chunks self.now number ≡ Some page.now) }
         ensures none { result ≡ None → in_chunks self.now number ≡ None }
     {
-        match self.chunks.get(&(number / CHUNK)) {
+        match self.chunks.get(number / CHUNK) {
             Some(chunk) => chunk.get(number % CHUNK),
             None => None,
         }
@@ -126,10 +122,12 @@ impl<A: Allocator + Copy> Chunks<A> {
         ensures back { IfErr result (λ back. back ≡ page) }
         ensures absent { OnErr result (in_chunks self.new number ≡ None) }
     {
-        let Some(chunk) = self.chunks.get_mut(&(number / CHUNK)) else {
+        let Some(mut chunk) = self.chunks.lend(number / CHUNK) else {
             return Err(page);
         };
-        let before = match chunk.exchange(number % CHUNK, page) {
+        let exchanged = chunk.exchange(number % CHUNK, page);
+        self.chunks.give_back(number / CHUNK, chunk);
+        let before = match exchanged {
             Ok(before) => before,
             Err(page) => return Err(page),
         };
@@ -144,26 +142,26 @@ impl<A: Allocator + Copy> Chunks<A> {
         ensures others { (k : ℕ) → k ≢ number → in_chunks self.new k ≡ in_chunks self.old k }
         ensures no_memory { OnErr result (in_chunks self.new number ≡ None) }
     {
-        if let Some(chunk) = self.chunks.get_mut(&(number / CHUNK)) {
-            return chunk.add(number % CHUNK, page);
+        if let Some(mut chunk) = self.chunks.lend(number / CHUNK) {
+            let added = chunk.add(number % CHUNK, page);
+            self.chunks.give_back(number / CHUNK, chunk);
+            return added;
         }
         let mut made = Places::new(alloc);
         made.add(number % CHUNK, page)?;
-        self.chunks.insert(number / CHUNK, made)?;
-        Ok(())
+        self.chunks.add(alloc, number / CHUNK, made)
     }
 
-    /// The first chunk that is there, from one on before an end.
-    pub(crate) fn next_chunk(&self, from: usize, end: usize) -> Option<usize>
-        requires { from ≤ end }
+    /// The last chunk that is there, from one on before an end.
+    pub(crate) fn last_chunk(&self, from: usize, end: usize) -> Option<usize>
         ensures begins { IfSome result (λ number. from ≤ number) }
         ensures ends { IfSome result (λ number. number < end) }
         ensures there { IfSome result (λ number. IsSome (chunk_of self.now number)) }
-        ensures first { IfSome result (λ number. (q : ℕ) → from ≤ q → q < number
+        ensures last { IfSome result (λ number. (q : ℕ) → number < q → q < end
             → chunk_of self.now q ≡ None) }
         ensures none { result ≡ None → (q : ℕ) → from ≤ q → q < end → chunk_of self.now q ≡ None }
     {
-        least_from(&self.chunks, from, end)
+        self.chunks.last(from, end)
     }
 
     // Pages of a chunk that is there are stored no longer, from a number on before an end. Where that is the whole chunk, it isn't
@@ -214,7 +212,7 @@ impl<A: Allocator + Copy> Chunks<A> {
         ensures count { result ≡ count_of (is_kept self.now) (256 * chunk) 256 }
         ensures few { result ≤ 256 }
     {
-        match self.chunks.get(&chunk) {
+        match self.chunks.get(chunk) {
             Some(found) => found.count(),
             None => 0,
         }

@@ -1,9 +1,9 @@
 ghost use Rattle.std.specs.Prelude.{◌≡◌, ℕ, ◌+◌, ◌-◌, ◌<◌, ◌≤◌, ◌||◌, ◌&&◌, ◌==◌, [], not, length, get_or, vec_capacity, if◌then◌else◌, true, false, None, IfSome, IfOk, OnOk, OnErr};
-ghost use Rattle.page_table.specs.Bits.{is_set, is_between};
+ghost use Rattle.number_sets.specs.Bits.{is_set, is_between};
 ghost use Rattle.page_table.specs.Holes.{is_hole, is_noted, rows_before, AreOrdered};
 
-use crate::bits;
 use nbd_base::NoMemory;
+use number_sets::bits;
 use std::alloc::Allocator;
 use std::marker::Model;
 

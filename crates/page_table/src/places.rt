@@ -1,9 +1,9 @@
-ghost use Rattle.std.specs.Prelude.{◌≡◌, ◌<◌, ◌≤◌, ◌==◌, None, Some, IfSome, IfOk, IfErr, OnOk, OnErr, is_some, length, get_or, set, replicate};
+ghost use Rattle.std.specs.Prelude.{◌≡◌, ℕ, ◌<◌, ◌≤◌, ◌==◌, None, Some, IsSome, IfSome, IfOk, IfErr, OnOk, OnErr, is_some, length, get_or, set, replicate};
 ghost use Rattle.std.specs.List.{filter};
 
-use crate::bits;
 use crate::items::Items;
 use nbd_base::NoMemory;
+use number_sets::bits;
 use std::alloc::Allocator;
 use std::marker::Model;
 
@@ -18,7 +18,7 @@ pub(crate) struct Places<T: Drop, A: Allocator + Copy> {
 
 impl<T: Drop, A: Allocator + Copy> Model for Places<T, A> {
     ghost use Rattle.std.specs.Prelude.{◌≡◌, Option, List, length};
-    ghost use Rattle.page_table.specs.Bits.{is_set, count_of};
+    ghost use Rattle.number_sets.specs.Bits.{is_set, count_of};
     ghost use Rattle.page_table.specs.Places.{in_places};
 
     ghost Value = { List (Option T) };
@@ -60,6 +60,19 @@ impl<T: Drop, A: Allocator + Copy> Places<T, A> {
             return None;
         }
         Some(self.items.get(bits::count_below(&self.marks, place)))
+    }
+
+    /// The last place in which there is an item, from one on before an end.
+    pub(crate) fn last(&self, from: usize, end: usize) -> Option<usize>
+        requires { end ≤ 256 }
+        ensures begins { IfSome result (λ place. from ≤ place) }
+        ensures ends { IfSome result (λ place. place < end) }
+        ensures there { IfSome result (λ place. IsSome (get_or self.now place None)) }
+        ensures last { IfSome result (λ place. (k : ℕ) → place < k → k < end
+            → get_or self.now k None ≡ None) }
+        ensures none { result ≡ None → (k : ℕ) → from ≤ k → k < end → get_or self.now k None ≡ None }
+    {
+        bits::last(&self.marks, from, end)
     }
 
     /// Puts an item in the place of one, which is the answer. Where there is none, the item is handed back.

@@ -1,13 +1,13 @@
 ghost use Rattle.std.specs.Prelude.{◌≡◌, ℕ, ◌+◌, ◌*◌, ◌/◌, ◌<◌, ◌≤◌, ◌^◌, ◌≢◌, None, Some, IfOk, IsOk, IsSome, IfSome, OnOk, OnErr, is_some, true, false, if◌then◌else◌};
-ghost use Rattle.page_table.specs.Bits.{is_set, is_between, count_of};
+ghost use Rattle.number_sets.specs.Bits.{is_set, is_between, count_of};
 ghost use Rattle.page_table.specs.Table.{in_table, in_chunks, shown, cleared, chunk_of};
 ghost use Rattle.page_table.specs.Holes.{is_noted};
 
-use crate::bits;
 use crate::chunks::{CHUNK, Chunks};
 use crate::holes::Holes;
 use crate::swept::Swept;
 use nbd_base::NoMemory;
+use number_sets::bits;
 use payload::{PAGE, Page};
 use std::alloc::Allocator;
 use std::marker::Model;
@@ -188,18 +188,17 @@ impl<A: Allocator + Copy> Table<A> {
         }
     }
 
-    // The first chunk that is there, from one on before an end.
-    fn next_chunk(&self, from: usize, end: usize) -> Option<usize>
-        requires { from ≤ end }
+    // The last chunk that is there, from one on before an end.
+    fn last_chunk(&self, from: usize, end: usize) -> Option<usize>
         ensures begins { IfSome result (λ number. from ≤ number) }
         ensures ends { IfSome result (λ number. number < end) }
         ensures there { IfSome result (λ number. IsSome (chunk_of self.now.chunks number)) }
-        ensures first { IfSome result (λ number. (q : ℕ) → from ≤ q → q < number
+        ensures last { IfSome result (λ number. (q : ℕ) → number < q → q < end
             → chunk_of self.now.chunks q ≡ None) }
         ensures none { result ≡ None → (q : ℕ) → from ≤ q → q < end
             → chunk_of self.now.chunks q ≡ None }
     {
-        self.chunks.next_chunk(from, end)
+        self.chunks.last_chunk(from, end)
     }
 
     // Pages of a chunk that is there, none of which has a row, are stored no longer, from a number on before an end.
@@ -227,11 +226,11 @@ impl<A: Allocator + Copy> Table<A> {
             return;
         }
         self.holes.fill_all(first, end);
-        let last = end.div_ceil(CHUNK);
-        let mut next = first / CHUNK;
-        while let Some(chunk) = self.next_chunk(next, last) {
+        let from = first / CHUNK;
+        let mut upto = end.div_ceil(CHUNK);
+        while let Some(chunk) = self.last_chunk(from, upto) {
             self.remove_in(chunk, first, end, swept);
-            next = chunk + 1;
+            upto = chunk;
         }
     }
 
@@ -249,10 +248,10 @@ impl<A: Allocator + Copy> Table<A> {
         ensures { result ≡ count_of (λ k. is_some (in_table self.now k)) 0 (256 * chunks) }
     {
         let mut count = 0;
-        let mut from = 0;
-        while let Some(chunk) = self.next_chunk(from, chunks) {
+        let mut upto = chunks;
+        while let Some(chunk) = self.last_chunk(0, upto) {
             count += self.stored_in(chunk);
-            from = chunk + 1;
+            upto = chunk;
         }
         count
     }

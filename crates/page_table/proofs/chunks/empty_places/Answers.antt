@@ -1,7 +1,7 @@
 use Rattle.std.proofs.Common.{◌∙◌, ◌+◌, ℕ, List, Option, None, get_or, ap, arith}
 use Rattle.page_table.specs.Table.{Chunk}
 use Rattle.page_table.proofs.ChunksLemmas.{set_here, set_others}
-use Rattle.page_table.proofs.RangeLemmas.{put_none, put_one, put_step, put_end}
+use Rattle.number_sets.proofs.RangeLemmas.{put_none, put_one, put_step, put_end}
 use Rattle.page_table.proofs.chunks.empty_places.Goals as goal
 
 abbrev at : Chunk → ℕ → Option (List ℕ)

@@ -1,5 +1,5 @@
 use Rattle.std.proofs.Common.{arith}
-use Rattle.page_table.specs.Bits.{is_set}
+use Rattle.number_sets.specs.Bits.{is_set}
 use Rattle.page_table.proofs.ShownLemmas.{shown_all}
 use Rattle.page_table.proofs.table.show.Goals as goal
 

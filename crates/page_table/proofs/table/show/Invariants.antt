@@ -1,5 +1,5 @@
 use Rattle.std.proofs.Common.{◌≡◌, length}
-use Rattle.page_table.specs.Bits.{is_set}
+use Rattle.number_sets.specs.Bits.{is_set}
 use Rattle.page_table.proofs.ShownLemmas.{AreShown}
 use Rattle.page_table.proofs.table.show.Given as goal
 

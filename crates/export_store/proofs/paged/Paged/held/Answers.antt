@@ -1,7 +1,7 @@
 use Rattle.std.proofs.Common.{◌≡◌, ◌∙◌, ◌+◌, ◌*◌, ℕ, length, refl, ap, arith}
 use Rattle.std.specs.Int.{div_ceil}
-use Rattle.page_table.specs.Bits.{count_of}
-use Rattle.page_table.proofs.CountLemmas.{count_le, count_is}
+use Rattle.number_sets.specs.Bits.{count_of}
+use Rattle.number_sets.proofs.CountLemmas.{count_le, count_is}
 use Rattle.export_store.specs.Pages.{Pages, is_stored, is_held_zeros, is_held, held_pages}
 use Rattle.export_store.proofs.HeldLemmas.{held_count}
 use Rattle.export_store.proofs.paged.Paged.held.Goals as goal

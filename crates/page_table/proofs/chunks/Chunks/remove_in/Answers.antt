@@ -1,4 +1,4 @@
-use Rattle.std.proofs.Common.{◌*◌, ℕ, arith}
+use Rattle.std.proofs.Common.{arith}
 use Rattle.page_table.proofs.ChunksLemmas.{count_left}
 use Rattle.page_table.proofs.chunks.Chunks.remove_in.Goals as goal
 

@@ -1,7 +1,7 @@
-use Rattle.std.proofs.Common.{◌≡◌, ◌∙◌, ◌+◌, ◌<◌, ◌||◌, ◌&&◌, ◌==◌, ℕ, List, true, if◌then◌else◌, set, sym, ap, subst, arith}
-use Rattle.page_table.specs.Bits.{is_set, is_between}
+use Rattle.std.proofs.Common.{◌≡◌, ◌∙◌, ◌+◌, ◌||◌, ◌&&◌, ◌==◌, ℕ, List, true, set, sym, ap, subst, arith}
+use Rattle.number_sets.specs.Bits.{is_set, is_between}
 use Rattle.page_table.specs.Holes.{Holes, is_hole, is_noted, rows_before, AreOrdered}
-use Rattle.page_table.proofs.HolesLemmas.{Row, Rows, opened, dug, is_page, noted_within, noted_is, hole_at, set_ordered, set_noted, set_hole}
+use Rattle.page_table.proofs.HolesLemmas.{Row, opened, dug, is_page, noted_within, noted_is, hole_at, set_ordered, set_noted, set_hole}
 use Rattle.page_table.proofs.holes.Holes.dig.Goals as goal
 
 pub index_mut-requires : goal.index_mut-requires

@@ -1,4 +1,4 @@
-use Rattle.std.proofs.Common.{◌≡◌, ◌∙◌, ◌<◌, ◌&&◌, ◌==◌, ℕ, [], true, not, length, sym, ap, subst, arith}
+use Rattle.std.proofs.Common.{◌≡◌, ◌∙◌, ◌&&◌, ◌==◌, ℕ, [], true, not, sym, ap, subst, arith}
 use Rattle.page_table.specs.Holes.{Holes, is_hole, is_noted, rows_before, AreOrdered}
 use Rattle.page_table.proofs.HolesLemmas.{Rows, noted_within, noted_is, remove_ordered, remove_noted, remove_hole, none_hole}
 use Rattle.page_table.proofs.holes.Holes.fill.Goals as goal

@@ -1,5 +1,5 @@
 use Rattle.std.proofs.Common.{◌≡◌, ◌∙◌, ◌≤◌, ◌&&◌, ◌++◌, ℕ, not, take, drop, sym, ap, subst, arith}
-use Rattle.page_table.specs.Bits.{is_between}
+use Rattle.number_sets.specs.Bits.{is_between}
 use Rattle.page_table.specs.Holes.{Holes, is_hole, is_noted, rows_before, AreOrdered}
 use Rattle.page_table.proofs.HolesLemmas.{Rows, before_upto, range_ordered, range_noted, range_hole}
 use Rattle.page_table.proofs.holes.Holes.fill_all.Goals as goal

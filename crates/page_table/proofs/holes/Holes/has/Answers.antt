@@ -1,4 +1,4 @@
-use Rattle.std.proofs.Common.{◌≡◌, ◌∙◌, ◌≤◌, ◌<◌, ℕ, nat_eq, length, sym, ap, arith}
+use Rattle.std.proofs.Common.{◌≡◌, ◌∙◌, nat_eq, length, sym, ap, arith}
 use Rattle.page_table.specs.Holes.{Holes, is_noted, rows_before}
 use Rattle.page_table.proofs.HolesLemmas.{Row, noted_at, noted_past}
 use Rattle.page_table.proofs.holes.Holes.has.Goals as goal

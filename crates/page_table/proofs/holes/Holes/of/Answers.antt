@@ -1,5 +1,5 @@
-use Rattle.std.proofs.Common.{◌≡◌, ◌∙◌, ◌<◌, ℕ, List, true, length, sym, ap, arith}
-use Rattle.page_table.specs.Bits.{is_set}
+use Rattle.std.proofs.Common.{◌≡◌, ◌∙◌, ℕ, List, true, sym, ap, arith}
+use Rattle.number_sets.specs.Bits.{is_set}
 use Rattle.page_table.specs.Holes.{Holes, is_hole, is_noted, rows_before}
 use Rattle.page_table.proofs.HolesLemmas.{Row, noted_within, no_hole, hole_at}
 use Rattle.page_table.proofs.holes.Holes.of.Goals as goal

@@ -1,6 +1,6 @@
-use Rattle.std.proofs.Common.{◌≡◌, ◌∙◌, ◌+◌, ◌≤◌, ◌<◌, ◌||◌, ◌==◌, ◌^◌, ℕ, List, false, length, sym, ap, subst, arith}
+use Rattle.std.proofs.Common.{◌≡◌, ◌∙◌, ◌≤◌, ◌||◌, ◌==◌, false, length, sym, ap, subst, arith}
 use Rattle.page_table.specs.Holes.{Holes, is_hole, is_noted, rows_before, AreOrdered}
-use Rattle.page_table.proofs.BitsLemmas.{zeros_set}
+use Rattle.number_sets.proofs.BitsLemmas.{zeros_set}
 use Rattle.page_table.proofs.HolesLemmas.{Rows, before_within, insert_ordered, insert_noted, insert_hole, before_inserted}
 use Rattle.page_table.proofs.holes.Holes.open.Goals as goal
 

@@ -1,4 +1,4 @@
-use Rattle.std.proofs.Common.{◌≡◌, ◌∙◌, ◌<◌, ◌≤◌, length, ap, arith}
+use Rattle.std.proofs.Common.{◌∙◌, length, ap, arith}
 use Rattle.std.specs.List.{insert}
 use Rattle.page_table.specs.Items.{in_a_row}
 use Rattle.page_table.proofs.ItemsLemmas.{row_insert}

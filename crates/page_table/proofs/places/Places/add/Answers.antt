@@ -1,6 +1,6 @@
 use Rattle.std.proofs.Common.{◌≡◌, ◌∙◌, Some, None, false, length, get_or, set, sym, ap}
 use Rattle.std.proofs.lemmas.List.Edits.{length-insert}
-use Rattle.page_table.specs.Bits.{is_set}
+use Rattle.number_sets.specs.Bits.{is_set}
 use Rattle.page_table.specs.Places.{in_places}
 use Rattle.page_table.proofs.PlacesLemmas.{places-length, place_absent, place_added, place_upto, marks_added}
 use Rattle.page_table.proofs.places.Places.add.Goals as goal

@@ -1,7 +1,7 @@
 use Rattle.std.proofs.Common.{◌∙◌, is_some, length, sym, ap, arith}
 use Rattle.std.specs.List.{filter}
-use Rattle.page_table.specs.Bits.{is_set}
-use Rattle.page_table.proofs.CountLemmas.{count_le}
+use Rattle.number_sets.specs.Bits.{is_set}
+use Rattle.number_sets.proofs.CountLemmas.{count_le}
 use Rattle.page_table.proofs.PlacesLemmas.{places-length, places_taken}
 use Rattle.page_table.proofs.places.Places.count.Goals as goal
 

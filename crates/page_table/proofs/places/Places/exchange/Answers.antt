@@ -1,5 +1,5 @@
-use Rattle.std.proofs.Common.{◌≡◌, ◌∙◌, Some, None, true, false, length, get_or, set, sym, ap}
-use Rattle.page_table.specs.Bits.{is_set}
+use Rattle.std.proofs.Common.{◌≡◌, ◌∙◌, Some, None, true, length, get_or, set, sym, ap}
+use Rattle.number_sets.specs.Bits.{is_set}
 use Rattle.page_table.specs.Places.{in_places}
 use Rattle.page_table.proofs.PlacesLemmas.{places-length, place_none, place_some, place_set, place_below}
 use Rattle.page_table.proofs.places.Places.exchange.Goals as goal

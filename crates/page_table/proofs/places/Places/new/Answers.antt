@@ -1,8 +1,8 @@
 use Rattle.std.proofs.Common.{◌∙◌, ◌∷◌, [], length, sym, ap}
-use Rattle.page_table.specs.Bits.{is_set}
+use Rattle.number_sets.specs.Bits.{is_set}
 use Rattle.page_table.specs.Places.{in_places}
-use Rattle.page_table.proofs.CountLemmas.{count-none}
-use Rattle.page_table.proofs.BitsLemmas.{zeros_set}
+use Rattle.number_sets.proofs.CountLemmas.{count-none}
+use Rattle.number_sets.proofs.BitsLemmas.{zeros_set}
 use Rattle.page_table.proofs.PlacesLemmas.{empty_places}
 use Rattle.page_table.proofs.places.Places.new.Goals as goal
 

@@ -1,4 +1,4 @@
-use Rattle.std.proofs.Common.{◌≡◌, ◌∙◌, ◌<◌, ◌^◌, ℕ, List, None, Some, sym, ap, arith}
+use Rattle.std.proofs.Common.{◌≡◌, ◌∙◌, ℕ, None, ap, arith}
 use Rattle.page_table.specs.Holes.{is_hole}
 use Rattle.page_table.specs.Table.{Stored, in_chunks, in_table}
 use Rattle.page_table.proofs.HolesLemmas.{Rows}

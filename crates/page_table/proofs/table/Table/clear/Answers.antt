@@ -1,4 +1,4 @@
-use Rattle.std.proofs.Common.{◌≡◌, ◌∙◌, ◌<◌, ◌^◌, ℕ, List, Some, None, is_some, length, refl, sym, ap, arith}
+use Rattle.std.proofs.Common.{◌≡◌, ◌∙◌, ℕ, Some, None, is_some, length, refl, sym, ap, arith}
 use Rattle.page_table.specs.Table.{Stored, in_chunks, in_table, cleared}
 use Rattle.page_table.proofs.TableLemmas.{none_is, some_is, dug_here, dug_others, room_for}
 use Rattle.page_table.proofs.table.Table.clear.Goals as goal

@@ -1,7 +1,8 @@
-use Rattle.std.proofs.Common.{◌≡◌, ◌∙◌, ℕ, List, None, Some, is_some, true, false, inl, inr, refl, sym, ap}
+use Rattle.std.proofs.Common.{◌≡◌, ◌∙◌, ℕ, None, true, false, inl, inr, refl, sym, ap}
 use Rattle.std.proofs.lemmas.Bool.{cases_eq}
 use Rattle.page_table.specs.Table.{Stored, in_chunks, in_table, is_kept}
-use Rattle.page_table.proofs.ChunksLemmas.{then_err, absent_page}
+use Rattle.page_table.proofs.RegionsLemmas.{err_so}
+use Rattle.number_sets.proofs.MarksLemmas.{none_there}
 use Rattle.page_table.proofs.TableLemmas.{none_is, is_stored, whole_is, same_is, filled_here, filled_others}
 use Rattle.page_table.proofs.table.Table.put.Goals as goal
 
@@ -39,8 +40,8 @@ returns-in-Err-clause-no_memory g c =
     let n : ℕ = c.args.number in
     let now : Stored = c.args.self.now in
     let none : in_table now n ≡ None =
-    none_is now n (absent_page (in_chunks now.chunks n) (ap (λ (table : Stored). is_kept table.chunks n) (sym c.self.view_is) ∙ sym c.in-Err.ensures.stored)) in
-    then_err c.add.result (in_table c.add.new.self n ≡ None) ((k : ℕ) → in_table c.add.new.self k ≡ in_table now k) (λ gone k.
+    none_is now n (none_there (in_chunks now.chunks n) (ap (λ (table : Stored). is_kept table.chunks n) (sym c.self.view_is) ∙ sym c.in-Err.ensures.stored)) in
+    err_so c.add.result (in_table c.add.new.self n ≡ None) ((k : ℕ) → in_table c.add.new.self k ≡ in_table now k) (λ gone k.
     elim (cases_eq k n) [
       | inl e ↦ ap (in_table c.add.new.self) e ∙ gone ∙ sym none ∙ ap (in_table now) (sym e)
       | inr apart ↦ c.add.ensures.others k apart

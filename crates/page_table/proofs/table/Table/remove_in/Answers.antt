@@ -1,4 +1,4 @@
-use Rattle.std.proofs.Common.{◌∙◌, ◌*◌, ◌<◌, ◌^◌, ℕ, ap, arith}
+use Rattle.std.proofs.Common.{◌∙◌, ap, arith}
 use Rattle.page_table.specs.Holes.{is_noted}
 use Rattle.page_table.specs.Table.{Stored, is_kept}
 use Rattle.page_table.proofs.TableLemmas.{split, room_removed}

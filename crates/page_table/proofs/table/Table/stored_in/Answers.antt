@@ -1,4 +1,4 @@
-use Rattle.std.proofs.Common.{◌∙◌, ◌*◌, ℕ, is_some, sym, ap}
+use Rattle.std.proofs.Common.{◌∙◌, ◌*◌, is_some, sym, ap}
 use Rattle.page_table.specs.Table.{Stored, in_table, is_kept}
 use Rattle.page_table.proofs.PlacesLemmas.{count_same}
 use Rattle.page_table.proofs.TableLemmas.{is_stored}

@@ -1,0 +1,5 @@
+pub mod CountLemmas
+pub mod RangeLemmas
+pub mod BitsLemmas
+pub mod LeastLemmas
+pub mod MarksLemmas

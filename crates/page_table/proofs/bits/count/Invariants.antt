@@ -1,7 +1,0 @@
-use Rattle.std.proofs.Common.{◌≡◌, ◌*◌}
-use Rattle.page_table.specs.Bits.{is_set}
-use Rattle.page_table.proofs.CountLemmas.{count_of}
-use Rattle.page_table.proofs.bits.count.Given as goal
-
-abbrev pub invariant-loop-word : goal.invariant-loop-word
-invariant-loop-word l = l.count ≡ count_of (is_set l.words) 0 (64 * l.word-index)

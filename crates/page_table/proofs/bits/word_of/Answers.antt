@@ -1,6 +1,0 @@
-use Rattle.std.proofs.Common.{◌∙◌, sym}
-use Rattle.page_table.proofs.BitsLemmas.{all_bits}
-use Rattle.page_table.proofs.bits.word_of.Goals as goal
-
-pub returns-then-member : goal.returns-then-member
-returns-then-member c = λ k below. all_bits k below ∙ sym c.if-member.true

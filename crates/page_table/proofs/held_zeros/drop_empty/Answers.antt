@@ -1,6 +1,0 @@
-use Rattle.std.proofs.Common.{◌∙◌, sym}
-use Rattle.page_table.proofs.MarksLemmas.{dropped}
-use Rattle.page_table.proofs.held_zeros.drop_empty.Goals as goal
-
-pub returns-clause-same : goal.returns-clause-same
-returns-clause-same g c = dropped c.args.bitmaps.now c.remove.new.self c.args.number c.in-Some.bitmap.now c.in-Some.ensures.value (sym c.any.ensures ∙ c.if-any.false) c.remove.ensures.updates
