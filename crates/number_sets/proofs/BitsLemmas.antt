@@ -42,13 +42,6 @@ no_word (word ∷ words) (suc i) none = no_word words i (grind (arith, nat_tests
 pub not_any : (words : List ℕ) → any_set words ≡ false → (k : ℕ) → is_set words k ≡ false
 not_any words none k = none_set words k (no_word words (k / 64) none)
 
--- of words in the midst of others
-pub part_set : (words : List ℕ) (first n k : ℕ) → k < 64 * n → is_set (take n (drop first words)) k ≡ is_set words (64 * first + k)
-part_set words first n k below =
-    let word : (64 * first + k) / 64 ≡ first + k / 64 = omega arith in
-    let bit : (64 * first + k) % 64 ≡ k % 64 = omega arith in
-    rw (word, bit) (ap (λ (w : ℕ). nat_eq (bit_at w (k % 64)) 1) (get_or-take n (drop first words) (k / 64) 0 (omega arith) ∙ get_or-drop first words (k / 64) 0))
-
 -- a word is exchanged
 pub word_here : (words : List ℕ) (i word k : ℕ) → i < length words → k / 64 ≡ i → is_set (set words i word) k ≡ nat_eq (bit_at word (k % 64)) 1
 word_here words i word k below is = rw is (ap (λ (w : ℕ). nat_eq (bit_at w (k % 64)) 1) (get_or-set_same words i word 0 below))
@@ -98,9 +91,6 @@ word_put words next word member whole below is k =
 
 pub all_bits : (k : ℕ) → k < 64 → nat_eq (bit_at 18446744073709551615 k) 1 ≡ true
 all_bits k below = ap (λ (bit : ℕ). nat_eq bit 1) (bit_at_ones 64 k below)
-
-pub no_bits : (k : ℕ) → nat_eq (bit_at 0 k) 1 ≡ false
-no_bits k = ap (λ (bit : ℕ). nat_eq bit 1) (bit_at-zero k)
 
 -- how many bits of a word are set
 low_bit : (word : ℕ) → cond (nat_eq (bit_at word 0) 1) 1 0 ≡ word % 2

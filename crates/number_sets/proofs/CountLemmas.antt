@@ -102,11 +102,6 @@ count_some test [] i below passes = absurd (omega arith)
 count_some test (y ∷ xs) zero below passes = omega (arith, length-cond (test y) y (filter test xs), ap {B = ℕ} (λ (b : Bool). cond b 1 0) passes)
 count_some test (y ∷ xs) (suc i) below passes = omega (arith, length-cond (test y) y (filter test xs), count_some test xs i (omega arith) passes)
 
--- no more than there are
-pub count_within : {X : Type 0} (test : X → Bool) (xs : List X) → length (filter test xs) ≤ length xs
-count_within test [] = omega arith
-count_within test (x ∷ xs) = omega (arith, length-cond (test x) x (filter test xs), cond_le (test x), count_within test xs)
-
 -- where none is counted, none passes
 cond_zero : (b : Bool) → ◌≡◌ {A = ℕ} (cond b 1 0) 0 → b ≡ false
 cond_zero false none = refl

@@ -49,9 +49,6 @@ absent_marked bitmaps k q is absent =
 pub none_marked : (bitmaps : Bitmaps) → bitmaps ≡ [] → (k : ℕ) → is_marked bitmaps k ≡ false
 none_marked bitmaps none k = absent_marked bitmaps k (k / 16384) refl (ap (λ (all : Bitmaps). bitmap_of all (k / 16384)) none)
 
-pub none_used : (bitmaps : Bitmaps) → bitmaps ≡ [] → AreUsed bitmaps
-none_used bitmaps none number = if_none (bitmap_of bitmaps number) (λ words. any_set words ≡ true) (ap (λ (all : Bitmaps). bitmap_of all number) none)
-
 -- a bitmap with a member
 pub any_member : (words : List ℕ) (k : ℕ) → is_set words k ≡ true → any_set words ≡ true
 any_member words k member =
@@ -80,16 +77,6 @@ module _ (old new : Bitmaps) (q : ℕ) (others : (p : ℕ) → p ≢ q → bitma
         | inl e ↦ marked_is new k q e ∙ same (k % 16384) ∙ sym (marked_is old k q e)
         | inr apart ↦ other_bitmap k apart
       ]
-
-  pub used_after : AreUsed old → IfSome (bitmap_of new q) (λ words. any_set words ≡ true) → AreUsed new
-  used_after was here p =
-      elim (cases_eq p q) [
-        | inl e ↦ subst (λ (n : ℕ). IfSome (bitmap_of new n) (λ words. any_set words ≡ true)) (sym e) here
-        | inr apart ↦ subst (λ (w : Option (List ℕ)). IfSome w (λ words. any_set words ≡ true)) (sym (others p apart)) (was p)
-      ]
-
-  pub used_gone : AreUsed old → bitmap_of new q ≡ None → AreUsed new
-  used_gone was gone = used_after was (if_none (bitmap_of new q) (λ words. any_set words ≡ true) gone)
 
 -- how many members a bitmap has
 pub count_bitmap : (bitmaps : Bitmaps) (q n begin : ℕ) (words : List ℕ) → n ≡ 16384 → begin ≡ 16384 * q → Some words ≡ bitmap_of bitmaps q → count_of (is_set words) 0 n ≡ count_of (is_marked bitmaps) begin n

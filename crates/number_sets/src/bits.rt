@@ -49,8 +49,8 @@ pub fn count_below(words: &[u64], number: usize) -> usize
     count(&words[..number / 64]) + count_in(words[number / 64], number % 64)
 }
 
-// The end before which the next number is looked for, where the one right before an end is no member: the first of its word, where no
-// number of that is one.
+// The end before which the next number is looked for, where the one right before an end is no member: the first of its word,
+// where no number of that is one.
 fn ahead(words: &[u64], from: usize, end: usize) -> usize
     requires some { from < end }
     requires within { end ≤ 64 * length words.now }

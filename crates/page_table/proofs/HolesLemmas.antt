@@ -296,9 +296,6 @@ and_not false true so = refl
 and_not false false so = refl
 
 -- nothing is told of a page that has no row
-pub none_noted : (rows : Rows) (page p : ℕ) → is_noted rows page ≡ false → is_noted rows p ≡ (is_noted rows p && not (p == page))
-none_noted rows page p none = and_not (is_noted rows p) (p == page) (λ same. ap (is_noted rows) (is_page p page same) ∙ none)
-
 pub none_hole : (rows : Rows) (page p k : ℕ) → is_noted rows page ≡ false → is_hole rows p k ≡ (is_hole rows p k && not (p == page))
 none_hole rows page p k none = and_not (is_hole rows p k) (p == page) (λ same. ap (λ (q : ℕ). is_hole rows q k) (is_page p page same) ∙ no_hole rows page k none)
 

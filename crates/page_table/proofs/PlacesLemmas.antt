@@ -243,13 +243,6 @@ module _ {X : Type 0} where
       (λ k apart. others k (λ same. apart (omega arith))) place (omega (arith, all, place, count_before (is_set marks) 0 256 i below there))
 
   -- what a place has says of its bit
-  pub place_there : (marks : List ℕ) (xs : List X) (i : ℕ) → i < 256 → is_some (get_or (in_places marks xs) i None) ≡ true → is_set marks i ≡ true
-  place_there marks xs i below is =
-      elim (cases_Bool (is_set marks i)) [
-        | inl there ↦ there
-        | inr none ↦ let bad : false ≡ true = ap is_some (sym (place_none marks xs i below none)) ∙ is in absurd (cc)
-      ]
-
   pub place_absent : (marks : List ℕ) (xs : List X) (i : ℕ) → i < 256 → length xs ≡ count_of (is_set marks) 0 256 → get_or (in_places marks xs) i None ≡ None → is_set marks i ≡ false
   place_absent marks [] i below all is =
       elim (cases_Bool (is_set marks i)) [

@@ -60,25 +60,6 @@ page_dug old new (Some bytes) start count within dug = ap (λ (all : List ℕ). 
 abbrev pub AreShown : (ℕ → Bool) → List ℕ → List ℕ → ℕ → Type 0
 AreShown hole was now number = (k d : ℕ) → k < length was → get_or now k d ≡ (if nat_lt k number && hole k then 0 else get_or was k d)
 
-pub shown_first : (hole : ℕ → Bool) (was : List ℕ) → AreShown hole was was 0
-shown_first hole was k d below = let outside : nat_lt k 0 ≡ false = grind (arith, nat_tests) in rw outside refl
-
-pub shown_next : (hole : ℕ → Bool) (was now : List ℕ) (number byte : ℕ) → number < length was → length now ≡ length was → AreShown hole was now number
-    → byte ≡ (if hole number then 0 else get_or now number 0) → AreShown hole was (set now number byte) (number + 1)
-shown_next hole was now number byte below long so is k d h =
-    elim (cases_eq k number) [
-      | inl e ↦ let inside : nat_lt number (number + 1) ≡ true = grind (arith, nat_tests) in
-          let outside : nat_lt number number ≡ false = grind (arith, nat_tests) in
-          let place : number < length now = omega (arith, long) in
-          let same : get_or now number 0 ≡ get_or was number d =
-          get_or_default now number 0 d place ∙ so number d below ∙ ap (λ (b : Bool). if b && hole number then 0 else get_or was number d) outside in
-          rw e (get_or-set_same now number byte d place ∙ is
-          ∙ ap (λ (b : ℕ). if hole number then 0 else b) same
-          ∙ ap (λ (b : Bool). if b && hole number then 0 else get_or was number d) (sym inside))
-      | inr apart ↦ let same : nat_lt k number ≡ nat_lt k (number + 1) = grind (arith, nat_tests) in
-          get_or-set_other now number k byte d apart ∙ so k d h ∙ ap (λ (b : Bool). if b && hole k then 0 else get_or was k d) same
-    ]
-
 pub shown_all : (hole : ℕ → Bool) (was now : List ℕ) (number : ℕ) → length now ≡ length was → length was ≤ number → AreShown hole was now number → now ≡ shown hole 0 was
 shown_all hole was now number long upto so =
     same_lists _ _ (long ∙ sym (length-shown hole 0 was)) (λ k d h.

@@ -70,7 +70,8 @@ impl<T: Drop, A: Allocator + Copy> Places<T, A> {
         ensures there { IfSome result (λ place. IsSome (get_or self.now place None)) }
         ensures last { IfSome result (λ place. (k : ℕ) → place < k → k < end
             → get_or self.now k None ≡ None) }
-        ensures none { result ≡ None → (k : ℕ) → from ≤ k → k < end → get_or self.now k None ≡ None }
+        ensures none { result ≡ None → (k : ℕ) → from ≤ k → k < end
+            → get_or self.now k None ≡ None }
     {
         bits::last(&self.marks, from, end)
     }

@@ -47,5 +47,5 @@ returns g c =
       arith,
       c.loop-chunk.invariant.count,
       count-none (λ k. is_some (in_table self k)) 0 (256 * c.loop-chunk.upto)
-          (λ k above below. ap is_some (none_is self k (none_between self.chunks 0 c.loop-chunk.upto (c.in_default.ensures.none refl) k (omega arith) below))),
+          (λ k above below. ap is_some (none_is self k (none_between self.chunks 0 c.loop-chunk.upto (c.in_default.ensures.none refl) k (omega arith) (omega (arith, below))))),
     )
