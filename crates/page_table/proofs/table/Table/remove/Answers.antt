@@ -1,4 +1,4 @@
-use Rattle.std.proofs.Common.{◌≡◌, ◌∙◌, ◌+◌, ◌-◌, ◌/◌, ◌&&◌, None, ℕ, not, refl, sym, ap, subst, arith}
+use Rattle.std.proofs.Common.{◌∙◌, ◌+◌, ◌-◌, ◌/◌, ◌&&◌, None, ℕ, not, refl, sym, ap, subst, arith}
 use Rattle.number_sets.specs.Bits.{is_between}
 use Rattle.page_table.specs.Holes.{is_hole, is_noted}
 use Rattle.page_table.specs.Table.{Stored, in_chunks}
