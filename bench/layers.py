@@ -20,7 +20,7 @@ LAYERS = [
     ("one conversation", ["nbd_session", "nbd_options"]),
     ("many exports", ["server_core", "core_laws", "server_table", "turn_order"]),
     ("one export", ["export_cell", "lone_export"]),
-    ("its parts", ["nbd_commands", "export_queue", "export_store", "page_table", "reply_box", "eligibility"]),
+    ("its parts", ["nbd_commands", "export_queue", "export_store", "page_table", "number_sets", "reply_box", "eligibility"]),
     ("bytes, tags, words", ["nbd_wire", "payload", "tag_clock", "index_heap", "nbd_measures", "nbd_text", "nbd_base"]),
 ]
 LEFT_OUT = {"refusing"}  # for tests alone

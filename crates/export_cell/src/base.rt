@@ -92,7 +92,7 @@ impl<I: Image> Base<I> {
         Some(self.replica.image())
     }
 
-    /// Exchanges what writes and zeros have put others in place of for nothing.
+    /// Exchanges the list of what writes and zeros have replaced for one that is lent (`Image::sweep`).
     pub(crate) fn sweep(&mut self, swept: &mut Swept<I::Alloc>)
         ensures { self.new ≡ self.old }
     {

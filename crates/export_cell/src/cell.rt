@@ -111,7 +111,7 @@ impl<I: Image> ExportCell<I> {
         let _ = &self.payload;
     }
 
-    /// Exchanges what writes and zeros have put others in place of, since the last call, for nothing, with room for the next.
+    /// Exchanges the lists of what writes and zeros have replaced since the last call for those that are lent (`Image::sweep`).
     pub fn sweep(&mut self, outdated: &mut Outdated<I::Alloc>)
         ensures { self.new ≡ self.old }
     {

@@ -54,13 +54,14 @@ pub trait Image: Sized + Drop {
             ≡ overwritten (bytes self.old) offset count (replicate count 0)) }
         ensures no_memory { OnErr result (bytes self.new ≡ bytes self.old) };
 
-    /// Offers pages of another image to the next write: those at the ends of its range, where these lie within a page. The write may take one
+    /// Offers pages of another image to the writes until the next offer: those at the ends of the range, where these lie within a page. The write may take one
     /// that is, byte for byte, what it would make, so that both images share it.
     fn offer(&mut self, offset: usize, count: usize, other: &Self)
         ensures { bytes self.new ≡ bytes self.old };
 
-    /// Exchanges what writes and zeros have put others in place of, since the last call, for nothing, with room for the next.
-    /// Whoever lets it go gives its memory back, which may take longer than the writes themselves. A form may hand out nothing.
+    /// Exchanges the lists of what writes and zeros have replaced since the last call, and of what was offered before the latest offer,
+    /// for those that are lent, which are to be empty and have the room for what comes. Whoever lets these go gives their memory back,
+    /// which may take longer than the writes themselves. A form may hand out nothing.
     fn sweep(&mut self, swept: &mut Swept<Self::Alloc>)
         ensures { bytes self.new ≡ bytes self.old };
 }

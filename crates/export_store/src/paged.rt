@@ -22,8 +22,8 @@ use std::mem;
 /// An image in pages of 4,096 bytes, the last of which ends with the image. A page that isn't held in memory is zeros.
 ///
 /// A new image holds none. `write` and `zero` with `keep` hold the pages that they touch, and `zero` without `keep` gives
-/// back those that lie whole in its range. A page that `zero` holds has no memory of its own before it is written. Where memory is
-/// refused, some pages of a write's range may be held that weren't.
+/// back those that lie whole in its range. A page that `zero` holds and that lies whole in its range, or wasn't stored, has no memory
+/// of its own before it is written. Where memory is refused, some pages of a write's range may be held that weren't.
 #[derive(Drop)]
 pub struct Paged<A: Allocator + Copy> {
     alloc: A,

@@ -259,7 +259,7 @@ impl<I: Image> Lone<I> {
         }
     }
 
-    /// Exchanges what writes and zeros have put others in place of, since the last call, for nothing, with room for the next.
+    /// Exchanges the list of what writes and zeros have replaced since the last call for one that is lent (`Image::sweep`).
     pub fn sweep(&mut self, swept: &mut Swept<I::Alloc>)
         ensures { self.new ≡ self.old }
     {

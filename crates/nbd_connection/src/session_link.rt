@@ -36,7 +36,7 @@ pub struct SessionLink<'a> {
     pub(crate) bytes: &'a BytesUnderWay<'a>,
     /// Where its reader waits while other rates are asked for its export.
     pub(crate) gate: &'a RetuneGate,
-    /// Rung where a reply was taken.
+    /// Rung where a reply was taken or written, and where the session is over.
     pub(crate) room: Bell,
     /// Whether its holds are long.
     bulk: AtomicBool,

@@ -9,7 +9,7 @@ use std::sync::atomic::{AtomicBool, AtomicU64, Ordering};
 /// The bytes that a hold handed in.
 #[derive(Clone, Copy, Debug, PartialEq, Eq, Drop)]
 pub struct Admitted {
-    /// Data that READs ask for and that WRITEs carry which weren't performed.
+    /// Data that READs ask for, and data of WRITEs that weren't performed under the hold.
     pub bytes: u64,
     /// Of these, what WRITEs carry.
     pub waiting: u64,
@@ -34,7 +34,7 @@ impl Admitted {
     }
 }
 
-/// How many bytes of a session's requests aren't written to its client, and how many of its export's WRITEs wait.
+/// How many bytes of a session's requests are under way (`Traffic::bytes`), and how many of its export's WRITEs wait.
 #[derive(Drop)]
 pub struct BytesUnderWay<'a> {
     pub(crate) traffic: &'a Traffic,

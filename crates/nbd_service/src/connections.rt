@@ -15,7 +15,8 @@ pub struct Traffic {
     pub arrived: AtomicU64,
     /// How many replies were taken.
     pub taken: AtomicU64,
-    /// How many bytes of its requests aren't written to its client.
+    /// How many bytes its READs ask for that aren't written to its client, and its WRITEs carry that weren't performed under the hold
+    /// that handed them in; the latter, and those of READs that were answered with an error, count until nothing of it is under way.
     pub bytes: AtomicU64,
 }
 
@@ -92,7 +93,7 @@ pub struct SessionFigures {
     pub requests: u64,
     /// Of these, those whose replies weren't taken.
     pub outstanding: u64,
-    /// Of its requests, that aren't written to its client.
+    /// As `Traffic::bytes`.
     pub under_way_bytes: u64,
 }
 

@@ -8,7 +8,7 @@ use std::alloc::{AllocError, AllocFailed};
 pub enum ServeFault {
     /// Memory was refused before the first connection was accepted, or for what counts the steps.
     NoMemory,
-    /// A listener failed, or the thread of one or of a worker couldn't be had.
+    /// A listener failed, or the thread of one, of a worker or of the control socket couldn't be had.
     Listen,
 }
 

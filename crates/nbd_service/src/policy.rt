@@ -1,4 +1,4 @@
-//! Every number of the serving code, and the rules over values that its threads follow. `specs/Policy.antt` says each rule.
+//! The numbers of the serving code, and the rules over values that its threads follow. `specs/Policy.antt` says each rule.
 ghost use Rattle.std.specs.Prelude.{◌≡◌, ◌+◌, ◌-◌, ◌*◌, ◌<◌, ◌≤◌, ◌^◌, min, option_map};
 ghost use Rattle.std.specs.Duration.{as_nanos};
 ghost use Rattle.nbd_service.specs.Policy.{accept_may_pass_by, asks_for_turn_by, backlog_by, batch_by, bell_by, cost_by, data_by, ends_hold_by, handshake_wait_by, has_more_by, holds_back_by, is_alone_by, is_due_by, is_forgotten_by, is_network_fault_by, is_shortage_by, is_stalled_by, is_zero_by, keeps_by, keeps_up_by, load_by, makes_room_by, next_skip_by, patience_by, performs_by, reads_ahead_by, short_pieces_by, size_by, still_defers_by, still_retunes_by, still_waits_for_line_by, suits_reader_by, waiting_by, wakes_worker_by, carried_by, yields_by, yields_behind_look_by};
@@ -146,8 +146,7 @@ pub const LOCK_LOOKS: usize = 16_384;
 pub const LOCK_LOOKS_IN_A_ROW: usize = 32;
 
 /// How often a socket is looked at before its reader sleeps: that took some 20 microseconds, and a short request with its reply 17 to
-/// 19 (docs/PERFORMANCE.md). With other threads in between a paced client waited 1.4 to 1.7 times as long beside long requests
-/// (docs/notes/tries.md).
+/// 19. With other threads in between a paced client waited 1.4 to 1.7 times as long beside long requests (docs/notes/tries.md).
 pub const SOCKET_LOOKS: usize = 50;
 
 /// In how many reads a socket isn't looked at, at least, once nothing came at a look.
@@ -188,13 +187,13 @@ pub const BACKLOG_HOLDS: u32 = 16;
 /// How many bytes of replies are kept before they are sent. A reply's data come to it page by page, so that it is to hold a long one.
 pub const OUTLET_BYTES: usize = 262_144;
 
-/// How many replies are taken in a row: twice as many as a reader hands in requests, so that it mostly takes all.
+/// How many replies are taken in a row: twice as many as a reader hands in requests at most, so that it mostly takes all.
 pub const TAKEN_REPLIES: usize = 32;
 
-/// How many replies a reader keeps at most before it sends them, where it won't sleep before the next.
+/// Where so many replies aren't sent, a reader keeps no more of them before it sends these, also where it won't sleep before the next.
 pub const KEPT_REPLIES: usize = 4;
 
-/// How many bytes of data the replies may have together that a reader writes: what a socket mostly holds, so that a client that
+/// How many bytes the replies may have together, heads included, that a reader writes: what a socket mostly holds, so that a client that
 /// doesn't read yet is still read.
 pub const BRIEF_BYTES: usize = 131_072;
 
@@ -350,7 +349,7 @@ pub fn is_due(waiting: Waiting, now: Moment) -> bool
     }
 }
 
-/// Whether a bulk session that has looked for the lock for so many nanoseconds still lets interactive ones go first.
+/// Whether a bulk session that found an interactive one asking so many nanoseconds ago still lets such go first.
 pub fn still_defers(passed: u64) -> bool
     ensures { result ≡ still_defers_by passed }
 {

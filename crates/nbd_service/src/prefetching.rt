@@ -12,9 +12,10 @@ use payload::PAGE;
 use std::alloc::Global;
 use std::sync::ledger::Ledger;
 
-/// Touches the places of the next WRITEs' pages, so many at most, and what the oldest steps of the log are to change in the base.
+/// Touches the place of the first page of each WRITE among the next requests, so many at most, and likewise what the oldest steps of
+/// the log are to change in the base.
 /// Tells how many of the pages are held, more or less: what is told matters only in that it stands on all that was touched.
-/// Where a READ comes next it touches nothing: what that changes is in no such place.
+/// Where another request comes next, or none is ready, it touches nothing: what that changes is in no such place.
 pub fn prefetch<L: Ledger>(
     disks: &Disks<L>,
     export: u32,

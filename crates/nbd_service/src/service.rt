@@ -60,9 +60,9 @@ pub struct Service<L: Ledger> {
     pub table: ExportTable<Global>,
     /// None where the system's clock couldn't be read.
     pub start: Option<Instant>,
-    /// Whether no more connections are accepted.
+    /// Whether a listener failed, so that no more connections are accepted.
     pub closed: AtomicBool,
-    /// Whether that was asked for.
+    /// Whether the end was asked for: then none is accepted either.
     pub stopping: AtomicBool,
     pub connections: Connections,
     /// Whether a thread has the lock, more or less. Who looks for the lock reads this, which disturbs nobody; each try of the lock itself

@@ -184,7 +184,7 @@ impl<W: Write + Drop, A: Allocator> ReplyWriter<W, A> {
         }
     }
 
-    /// Writes a reply that was taken apart, before those that wait.
+    /// Writes a reply that was taken by itself, before those that wait.
     pub fn write_ready(&mut self, ready: &ReadyReply<A>) -> Result<(), WriteFailed>
         ensures { Writes (ready_text ready.now) self.old.waiting self.old self.new result }
     {
