@@ -1,4 +1,4 @@
-use Rattle.std.proofs.Common.{◌∙◌, ◌/◌, ◌%◌, ℕ, Option, Some, None, is_some, refl, sym, ap}
+use Rattle.std.proofs.Common.{◌∙◌, ◌/◌, ◌%◌, ℕ, Option, is_some, refl, sym, ap}
 use Rattle.page_table.specs.Table.{Chunk, Regions, chunk_of, in_chunk, in_chunks, is_kept}
 use Rattle.page_table.proofs.ChunksLemmas.{table_is, taken_there, taken_same, taken_after, other_places, some_of}
 use Rattle.page_table.proofs.chunks.Chunks.exchange.Goals as goal
