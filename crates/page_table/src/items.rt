@@ -145,8 +145,8 @@ impl<T: Drop, A: Allocator + Copy> Items<T, A> {
 }
 
 impl<A: Allocator + Copy> Items<Chunk<A>, A> {
-    /// Puts a page in a place of the chunk before which there are so many, in the place of one, which is the answer. Where none is
-    /// stored there, the page is handed back.
+    /// Puts a page in a place of the chunk before which there are so many, in the place of one, which is the answer. Where none
+    /// is stored there, the page is handed back.
     pub(crate) fn exchange_page(
         &mut self,
         at: usize,
