@@ -1,5 +1,5 @@
 -- Chunks after one of them has changed.
-use Rattle.std.proofs.Common.{◌≡◌, ◌≢◌, ℕ, ◌+◌, ◌-◌, ◌*◌, ◌/◌, ◌%◌, ◌<◌, ◌≤◌, inl, inr, Bool, true, false, cond, zero, suc, set, min, is_some, IfSome, Result, Ok, Err, OnOk, OnErr, Option, None, Some, List, [], length, get_or, if◌then◌else◌, refl, sym, ap, subst, ◌∙◌, arith}
+use Rattle.std.proofs.Common.{◌≡◌, ◌≢◌, ℕ, ◌+◌, ◌-◌, ◌*◌, ◌/◌, ◌%◌, ◌<◌, ◌≤◌, inl, inr, Bool, true, false, cond, zero, suc, set, min, is_some, IsSome, IfSome, Result, Ok, Err, OnOk, OnErr, Option, None, Some, List, [], length, get_or, if◌then◌else◌, refl, sym, ap, subst, ◌∙◌, arith}
 use Rattle.std.proofs.lemmas.Bool.{cases_eq, cases_Bool}
 use Rattle.std.proofs.lemmas.List.{get_or-set_same, get_or-set_other}
 use Rattle.number_sets.specs.Bits.{is_between}
@@ -7,7 +7,7 @@ use Rattle.number_sets.proofs.MarksLemmas.{if_none}
 use Rattle.page_table.specs.Table.{Chunk, Regions, in_chunk, chunk_of, in_chunks, is_kept, taken, AreTaken}
 use Rattle.number_sets.proofs.CountLemmas.{count_of, count-zero, count-cons, count-none, count_list, count_set, count_some, cond_le}
 use Rattle.number_sets.proofs.RangeLemmas.{between_yes, between_part}
-use Rattle.page_table.proofs.RegionsLemmas.{none_counted}
+use Rattle.page_table.proofs.RegionsLemmas.{none_counted, some_below}
 
 -- what holds anyhow holds after a failure
 pub on_err : {T E : Type 0} (r : Result T E) (P : Type 0) → P → OnErr r P
@@ -45,6 +45,16 @@ none_taken chunks none number = if_none (chunk_of chunks number) (λ chunk. 0 < 
 -- a chunk that is there
 pub taken_found : (chunks : Regions) (q : ℕ) (chunk : Chunk) → AreTaken chunks → Some chunk ≡ chunk_of chunks q → 0 < taken chunk
 taken_found chunks q chunk all found = subst (λ (c : Option Chunk). IfSome c (λ chunk. 0 < taken chunk)) (sym found) (all q)
+
+-- one in which there is a page
+pub taken_there : (chunk : Option Chunk) (place : ℕ) (page : List ℕ) → in_chunk chunk place ≡ Some page → IfSome chunk (λ chunk. 0 < taken chunk)
+taken_there None place page is = tt
+taken_there (Some chunk) place page is =
+    omega (arith, count_some is_some chunk place (some_below chunk place (subst (λ (o : Option (List ℕ)). IsSome o) (sym is) refl)) (ap is_some is))
+
+-- the same chunks
+pub taken_same : (old new : Regions) → ((p : ℕ) → chunk_of new p ≡ chunk_of old p) → AreTaken old → AreTaken new
+taken_same old new same was p = subst (λ (c : Option Chunk). IfSome c (λ chunk. 0 < taken chunk)) (sym (same p)) (was p)
 
 -- One chunk has changed.
 module _ (old new : Regions) (q : ℕ) (others : (p : ℕ) → p ≢ q → chunk_of new p ≡ chunk_of old p) where

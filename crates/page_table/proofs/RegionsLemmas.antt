@@ -55,7 +55,7 @@ some_boxed : {X A : Type 0} (o : Option (Box X A)) → IsSome (unboxed o) → Is
 some_boxed None there = there
 some_boxed (Some box) there = there
 
-some_below : {X : Type 0} (row : List (Option X)) (i : ℕ) → IsSome (get_or row i None) → i < length row
+pub some_below : {X : Type 0} (row : List (Option X)) (i : ℕ) → IsSome (get_or row i None) → i < length row
 some_below [] i there = absurd (cc)
 some_below (x ∷ row) zero there = omega arith
 some_below (x ∷ row) (suc i) there = omega (arith, some_below row i there)

@@ -122,11 +122,9 @@ impl<A: Allocator + Copy> Chunks<A> {
         ensures back { IfErr result (λ back. back ≡ page) }
         ensures absent { OnErr result (in_chunks self.new number ≡ None) }
     {
-        let Some(mut chunk) = self.chunks.lend(number / CHUNK) else {
-            return Err(page);
-        };
-        let exchanged = chunk.exchange(number % CHUNK, page);
-        self.chunks.give_back(number / CHUNK, chunk);
+        let exchanged = self
+            .chunks
+            .exchange_page(number / CHUNK, number % CHUNK, page);
         let before = match exchanged {
             Ok(before) => before,
             Err(page) => return Err(page),

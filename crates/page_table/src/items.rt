@@ -1,7 +1,9 @@
-ghost use Rattle.std.specs.Prelude.{◌≡◌, ◌+◌, ◌<◌, ◌≤◌, [], ◌∷◌, length, get_or, set, OnOk, OnErr};
+ghost use Rattle.std.specs.Prelude.{◌≡◌, ◌+◌, ◌<◌, ◌≤◌, [], ◌∷◌, None, Some, length, get_or, set, IfOk, IfErr, OnOk, OnErr};
 ghost use Rattle.std.specs.List.{insert, remove};
 
+use crate::chunks::Chunk;
 use nbd_base::NoMemory;
+use payload::Page;
 use std::alloc::Allocator;
 use std::marker::Model;
 use std::mem;
@@ -139,5 +141,34 @@ impl<T: Drop, A: Allocator + Copy> Items<T, A> {
             return self.remove_first();
         }
         self.others.remove(at - 1)
+    }
+}
+
+impl<A: Allocator + Copy> Items<Chunk<A>, A> {
+    /// Puts a page in a place of the chunk before which there are so many, in the place of one, which is the answer. Where none
+    /// is stored there, the page is handed back.
+    pub(crate) fn exchange_page(
+        &mut self,
+        at: usize,
+        place: usize,
+        page: Page<A>,
+    ) -> Result<Page<A>, Page<A>>
+        requires at { at < length self.old }
+        requires place { place < 256 }
+        ensures before { IfOk result (λ before.
+            get_or (get_or self.old at []) place None ≡ Some before) }
+        ensures after { OnOk result (self.new
+            ≡ set self.old at (set (get_or self.old at []) place (Some page))) }
+        ensures none { OnErr result (get_or (get_or self.old at []) place None ≡ None) }
+        ensures back { IfErr result (λ back. back ≡ page) }
+        ensures same { OnErr result (self.new ≡ self.old) }
+    {
+        if at > 0 {
+            return self.others[at - 1].exchange(place, page);
+        }
+        let Some(first) = &mut self.first else {
+            unreachable!();
+        };
+        first.exchange(place, page)
     }
 }

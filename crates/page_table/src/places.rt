@@ -1,9 +1,12 @@
-ghost use Rattle.std.specs.Prelude.{◌≡◌, ℕ, ◌<◌, ◌≤◌, ◌==◌, None, Some, IsSome, IfSome, IfOk, IfErr, OnOk, OnErr, is_some, length, get_or, set, replicate};
+ghost use Rattle.std.specs.Prelude.{◌≡◌, ◌≢◌, ℕ, ◌<◌, ◌≤◌, ◌==◌, None, Some, IsSome, IfSome, IfOk, IfErr, OnOk, OnErr, is_some, length, get_or, set, replicate};
 ghost use Rattle.std.specs.List.{filter};
+ghost use Rattle.page_table.specs.Table.{in_chunk};
 
+use crate::chunks::Chunk;
 use crate::items::Items;
 use nbd_base::NoMemory;
 use number_sets::bits;
+use payload::Page;
 use std::alloc::Allocator;
 use std::marker::Model;
 
@@ -122,5 +125,34 @@ impl<T: Drop, A: Allocator + Copy> Places<T, A> {
         let at = bits::count_below(&self.marks, place);
         bits::put_one(&mut self.marks, place, false);
         Some(self.items.remove(at))
+    }
+}
+
+impl<A: Allocator + Copy> Places<Chunk<A>, A> {
+    /// Puts a page in a place of a chunk, in the place of one, which is the answer. Where there is no such chunk, or no page is
+    /// stored there, the page is handed back.
+    pub(crate) fn exchange_page(
+        &mut self,
+        chunk: usize,
+        place: usize,
+        page: Page<A>,
+    ) -> Result<Page<A>, Page<A>>
+        requires chunk { chunk < 256 }
+        requires place { place < 256 }
+        ensures before { IfOk result (λ before.
+            in_chunk (get_or self.old chunk None) place ≡ Some before) }
+        ensures here { OnOk result (in_chunk (get_or self.new chunk None) place ≡ Some page) }
+        ensures places { (k : ℕ) → k ≢ place → in_chunk (get_or self.new chunk None) k
+            ≡ in_chunk (get_or self.old chunk None) k }
+        ensures others { (q : ℕ) → q ≢ chunk → get_or self.new q None ≡ get_or self.old q None }
+        ensures none { OnErr result (in_chunk (get_or self.old chunk None) place ≡ None) }
+        ensures back { IfErr result (λ back. back ≡ page) }
+        ensures same { OnErr result (self.new ≡ self.old) }
+    {
+        if !bits::has(&self.marks, chunk) {
+            return Err(page);
+        }
+        let at = bits::count_below(&self.marks, chunk);
+        self.items.exchange_page(at, place, page)
     }
 }

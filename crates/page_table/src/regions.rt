@@ -1,10 +1,11 @@
-ghost use Rattle.std.specs.Prelude.{◌≡◌, ℕ, ◌<◌, ◌≤◌, ◌≢◌, true, [], None, Some, IsSome, IfSome, IfOk, OnOk, OnErr, length, get_or};
+ghost use Rattle.std.specs.Prelude.{◌≡◌, ℕ, ◌<◌, ◌≤◌, ◌≢◌, true, [], None, Some, IsSome, IfSome, IfOk, IfErr, OnOk, OnErr, length, get_or};
 ghost use Rattle.page_table.specs.Boxed.{unboxed};
-ghost use Rattle.page_table.specs.Table.{chunk_of, in_region};
+ghost use Rattle.page_table.specs.Table.{chunk_of, in_chunk, in_region};
 
 use crate::chunks::Chunk;
 use crate::places::Places;
 use nbd_base::NoMemory;
+use payload::Page;
 use std::alloc::Allocator;
 use std::marker::Model;
 
@@ -34,6 +35,33 @@ fn exchange_in<A: Allocator + Copy>(
     match region {
         Some(region) => region.exchange(place, chunk),
         None => Err(chunk),
+    }
+}
+
+// Puts a page in the place of one, where there is a region (`Regions::exchange_page`).
+fn exchange_page_in<A: Allocator + Copy>(
+    region: &mut Boxed<A>,
+    chunk: usize,
+    place: usize,
+    page: Page<A>,
+) -> Result<Page<A>, Page<A>>
+    requires chunk { chunk < 256 }
+    requires place { place < 256 }
+    ensures before { IfOk result (λ before.
+        in_chunk (in_region (unboxed region.old) chunk) place ≡ Some before) }
+    ensures here { OnOk result (in_chunk (in_region (unboxed region.new) chunk) place ≡ Some page) }
+    ensures places { (k : ℕ) → k ≢ place → in_chunk (in_region (unboxed region.new) chunk) k
+        ≡ in_chunk (in_region (unboxed region.old) chunk) k }
+    ensures others { (q : ℕ) → q ≢ chunk
+        → in_region (unboxed region.new) q ≡ in_region (unboxed region.old) q }
+    ensures none { OnErr result (in_chunk (in_region (unboxed region.old) chunk) place ≡ None) }
+    ensures back { IfErr result (λ back. back ≡ page) }
+    ensures same { OnErr result ((q : ℕ)
+        → in_region (unboxed region.new) q ≡ in_region (unboxed region.old) q) }
+{
+    match region {
+        Some(region) => region.exchange_page(chunk, place, page),
+        None => Err(page),
     }
 }
 
@@ -172,6 +200,36 @@ impl<A: Allocator + Copy> Regions<A> {
             return Err(chunk);
         }
         exchange_in(&mut self.regions[number / REGION], number % REGION, chunk)
+    }
+
+    /// Puts a page in a place of a chunk, in the place of one, which is the answer. Where there is no such chunk, or no page is
+    /// stored there, the page is handed back.
+    pub(crate) fn exchange_page(
+        &mut self,
+        number: usize,
+        place: usize,
+        page: Page<A>,
+    ) -> Result<Page<A>, Page<A>>
+        requires { place < 256 }
+        ensures before { IfOk result (λ before.
+            in_chunk (chunk_of self.old number) place ≡ Some before) }
+        ensures here { OnOk result (in_chunk (chunk_of self.new number) place ≡ Some page) }
+        ensures places { (k : ℕ) → k ≢ place
+            → in_chunk (chunk_of self.new number) k ≡ in_chunk (chunk_of self.old number) k }
+        ensures others { (q : ℕ) → q ≢ number → chunk_of self.new q ≡ chunk_of self.old q }
+        ensures none { OnErr result (in_chunk (chunk_of self.old number) place ≡ None) }
+        ensures back { IfErr result (λ back. back ≡ page) }
+        ensures same { OnErr result ((q : ℕ) → chunk_of self.new q ≡ chunk_of self.old q) }
+    {
+        if number / REGION >= self.regions.len() {
+            return Err(page);
+        }
+        exchange_page_in(
+            &mut self.regions[number / REGION],
+            number % REGION,
+            place,
+            page,
+        )
     }
 
     /// Takes the chunk of a number out for a while (`give_back`). One without a page stands in its place.
