@@ -26,6 +26,13 @@ from public_edits import LAWS, TOP, functions_of, pairs_of, places, sources
 LAWS_BY_NAME = {it.split()[1] for it in LAWS}
 
 
+def shown_owner(text, start, owner):
+    """A type as a check names it: where an impl is of some of the type alone, its arguments stand in the name."""
+    header = text[text.rfind("\nimpl", 0, start) + 1 : start].split("{")[0]
+    arguments = re.search(r"> \w+<(.*<.*)> $", header)
+    return "+".join([owner, *re.findall(r"\w+", arguments[1])]) if arguments else owner
+
+
 class Function:
     def __init__(self, file, text, owner, trait, name, start, end):
         self.file, self.start, self.end, self.name = file, start, end, f"{owner}::{name}" if owner else name
@@ -33,7 +40,8 @@ class Function:
         parts = [it for it in file[len("src/") : -len(".rt")].split("/") if it not in ("lib", "main")]
         if trait == "From":
             trait += re.findall(r"^impl\b.*\bFrom<(\w+)", text[:start], re.M)[-1]
-        self.path = f"{owner}{trait if trait and trait != owner else ''}::{name}" if owner else "::".join([*parts, name])
+        shown = shown_owner(text, start, owner) if owner and not trait else owner
+        self.path = f"{shown}{trait if trait and trait != owner else ''}::{name}" if owner else "::".join([*parts, name])
         # A check tells of a function at its first attribute.
         before = re.search(r"(?:^ *(?:#\[|//).*\n)*\Z", text[:start], re.M)
         self.first = text.count("\n", 0, before.start()) + 1
