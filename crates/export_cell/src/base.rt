@@ -25,8 +25,8 @@ const QUEUED_PAYLOAD: usize = 100_663_296;
 
 /// An export as it was some steps ago.
 ///
-/// Its latest steps may be queued: they aren't made yet, but it is as it is once they are. So a hold of the server makes a few of them, where
-/// many went into it at once.
+/// Its latest steps may be queued: they aren't made yet, but it is as it is once they are. So a hold of the server makes a few of
+/// them, where many went into it at once.
 #[derive(Drop)]
 pub struct Base<I: Image> {
     replica: Replica<I>,
@@ -99,7 +99,8 @@ impl<I: Image> Base<I> {
         self.replica.sweep(swept);
     }
 
-    /// Makes the oldest steps that are queued, until they came to so much work or one found no memory. Tells how much is left to be done.
+    /// Makes the oldest steps that are queued, until they came to so much work or one found no memory. Tells how much is left to
+    /// be done.
     pub(crate) fn catch_up(&mut self, most: usize, live: &I) -> usize
         ensures { IsCaughtUp most self.old self.new }
     {
@@ -113,8 +114,9 @@ impl<I: Image> Base<I> {
         left
     }
 
-    /// One step more, which is made as it was made before: at once where none is queued and there is work left to be done, and else it is
-    /// queued behind the others. Tells how much work is left to be done then. Where memory is refused the step comes back.
+    /// One step more, which is made as it was made before: at once where none is queued and there is work left to be done, and
+    /// else it is queued behind the others. Tells how much work is left to be done then. Where memory is refused the step comes
+    /// back.
     pub(crate) fn add(
         &mut self,
         step: Step<I::Alloc>,

@@ -119,8 +119,9 @@ impl<I: Image> ExportCell<I> {
         self.base.sweep(&mut outdated.base);
     }
 
-    /// Makes the oldest of the steps that are queued for the base, until they came to so much work or one found no memory. Work is counted in
-    /// pages (`work_of`), and one for each step; the last of the steps may be more than was left. Where `most` is the greatest number all are made.
+    /// Makes the oldest of the steps that are queued for the base, until they came to so much work or one found no memory. Work is
+    /// counted in pages (`work_of`), and one for each step; the last of the steps may be more than was left. Where `most` is the
+    /// greatest number all are made.
     pub fn catch_up(&mut self, most: usize)
         ensures { self.new ≡ self.old }
     {

@@ -36,8 +36,8 @@ pub trait Image: Sized + Drop {
             ≡ overwritten (bytes self.old) offset (length piece.now) piece.now) }
         ensures no_memory { OnErr result (bytes self.new ≡ bytes self.old) };
 
-    /// Writes a payload that nobody needs any more, as `write` does: a form may take its pages out of it, with neither a copy nor one more
-    /// owner. What is left of it then isn't told. Where memory is refused it is as it was.
+    /// Writes a payload that nobody needs any more, as `write` does: a form may take its pages out of it, with neither a copy nor
+    /// one more owner. What is left of it then isn't told. Where memory is refused it is as it was.
     fn put(&mut self, offset: usize, piece: &mut Payload<Self::Alloc>) -> Result<(), NoMemory>
         requires { offset + length piece.old ≤ length (bytes self.old) }
         ensures written { OnOk result (bytes self.new
@@ -54,14 +54,14 @@ pub trait Image: Sized + Drop {
             ≡ overwritten (bytes self.old) offset count (replicate count 0)) }
         ensures no_memory { OnErr result (bytes self.new ≡ bytes self.old) };
 
-    /// Offers pages of another image to the writes until the next offer: those at the ends of the range, where these lie within a page. The write may take one
-    /// that is, byte for byte, what it would make, so that both images share it.
+    /// Offers pages of another image to the writes until the next offer: those at the ends of the range, where these lie within a
+    /// page. The write may take one that is, byte for byte, what it would make, so that both images share it.
     fn offer(&mut self, offset: usize, count: usize, other: &Self)
         ensures { bytes self.new ≡ bytes self.old };
 
-    /// Exchanges the lists of what writes and zeros have replaced since the last call, and of what was offered before the latest offer,
-    /// for those that are lent, which are to be empty and have the room for what comes. Whoever lets these go gives their memory back,
-    /// which may take longer than the writes themselves. A form may hand out nothing.
+    /// Exchanges the lists of what writes and zeros have replaced since the last call, and of what was offered before the latest
+    /// offer, for those that are lent, which are to be empty and have the room for what comes. Whoever lets these go gives their
+    /// memory back, which may take longer than the writes themselves. A form may hand out nothing.
     fn sweep(&mut self, swept: &mut Swept<Self::Alloc>)
         ensures { bytes self.new ≡ bytes self.old };
 }

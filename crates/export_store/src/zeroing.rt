@@ -58,8 +58,8 @@ fn next_if(next: bool, number: usize) -> usize
     if next { number + 1 } else { number }
 }
 
-/// The pages that have a byte of a range and aren't stored once it is zero: all but those at its edges that are stored now and don't lie
-/// whole in it.
+/// The pages that have a byte of a range and aren't stored once it is zero: all but those at its edges that are stored now and
+/// don't lie whole in it.
 pub(crate) fn emptied_pages<A: Allocator + Copy>(
     pages: &Table<A>,
     size: usize,

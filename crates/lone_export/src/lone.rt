@@ -294,7 +294,8 @@ impl<I: Image> Lone<I> {
     }
 }
 
-/// Performs a request that is in service no longer, and its reply goes to its session. The answer tells whether memory was there for it.
+/// Performs a request that is in service no longer, and its reply goes to its session. The answer tells whether memory was there
+/// for it.
 fn answer<I: Image>(image: &mut I, sessions: &mut ReplyBox<I::Alloc>, row: Row<I::Alloc>) -> bool
     requires served { verdict_at (length (I.bytes image.old)) false row.request ≡ 0 }
     requires owed { IsOwed sessions.old row.session }

@@ -9,8 +9,8 @@ use std::io::Read;
 use std::sync::Wait;
 use std::{io, time};
 
-/// The most bytes of a long WRITE's payload that are read at once. Where there is room for more, the next bytes begin a request, or go on
-/// with a short one.
+/// The most bytes of a long WRITE's payload that are read at once. Where there is room for more, the next bytes begin a request,
+/// or go on with a short one.
 const LONGEST_STRETCH: usize = 65_536;
 
 /// Where the requests of a connection come from: what was read ahead, and else the socket.

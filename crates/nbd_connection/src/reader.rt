@@ -20,8 +20,8 @@ use std::time::Duration;
 use tag_clock::{Clock, Moment};
 
 /// Reads requests until the client sends no more. One hold hands in a request and those that are ready behind it; behind each it
-/// performs what the scheduler chooses, two at most, until that one is done, but for long READs, which are the writer's. The reader writes short replies
-/// itself, and leaves others to the writer.
+/// performs what the scheduler chooses, two at most, until that one is done, but for long READs, which are the writer's. The
+/// reader writes short replies itself, and leaves others to the writer.
 pub fn read_requests<'s, E, L: Ledger, R: Wait + Sync + time::Clock>(
     rt: &'s R,
     scope: &Scope<'s, E>,

@@ -52,10 +52,11 @@ impl<'a> TurnSeat<'a> {
         }
     }
 
-    /// Waits for the turn of a request and of those that are ready behind it, `most` at most in all, while `under_way` of the session
-    /// are under way. Some requests go on without asking; the next that asks is charged with them. A session that mostly has one
-    /// request at a time doesn't count as one that has something at hand, unless that is a long WRITE: others would stop for it, and it
-    /// would have to wake them behind each of its requests. A client of long READs mostly sends one behind each reply, so those that are under way count.
+    /// Waits for the turn of a request and of those that are ready behind it, `most` at most in all, while `under_way` of the
+    /// session are under way. Some requests go on without asking; the next that asks is charged with them. A session that mostly
+    /// has one request at a time doesn't count as one that has something at hand, unless that is a long WRITE: others would stop
+    /// for it, and it would have to wake them behind each of its requests. A client of long READs mostly sends one behind each
+    /// reply, so those that are under way count.
     pub fn wait_for_turn<R: Wait + time::Clock>(
         &self,
         rt: &R,

@@ -79,7 +79,8 @@ impl<'a> BytesUnderWay<'a> {
         }
     }
 
-    /// Nothing of the session is under way: nothing counts any more, not the data of requests that were answered with an error either.
+    /// Nothing of the session is under way: nothing counts any more, not the data of requests that were answered with an error
+    /// either.
     pub fn settle(&self) {
         if self.traffic.bytes.load(Ordering::SeqCst) > 0 {
             self.traffic.bytes.store(0, Ordering::SeqCst);

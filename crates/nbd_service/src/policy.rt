@@ -28,8 +28,8 @@ pub const OWN_DESCRIPTORS: u64 = 16;
 /// blocks is 32 MiB, with what it adds to them (mallopt(3), M_MMAP_THRESHOLD).
 pub const KEPT_BLOCK_BYTES: usize = 33_550_000;
 
-/// How many bytes a session's WRITEs bring before room is made for as many more. With a quarter or four times as many it was no better
-/// (docs/notes/tries.md).
+/// How many bytes a session's WRITEs bring before room is made for as many more. With a quarter or four times as many it was no
+/// better (docs/notes/tries.md).
 pub const ROOM_BYTES: usize = 4_194_304;
 
 /// How many bells the sessions of one export have: as many as may be open at a time.
@@ -50,8 +50,8 @@ pub const OPTION_MS: u64 = 10_000;
 /// How many milliseconds it has for the whole handshake: as many as for six options. 1,000 of almost `OPTION_MS` each would be hours.
 pub const HANDSHAKE_MS: u64 = 60_000;
 
-/// How many milliseconds a reply waits for a client that reads nothing, before its session ends. A client that is stopped for a moment
-/// and goes on, as a machine that is moved, is to keep its session; for how long such are stopped wasn't looked at.
+/// How many milliseconds a reply waits for a client that reads nothing, before its session ends. A client that is stopped for a
+/// moment and goes on, as a machine that is moved, is to keep its session; for how long such are stopped wasn't looked at.
 pub const STALLED_WRITE_MS: u64 = 60_000;
 
 /// After how many seconds without a byte a connection over TCP is probed, how many lie between two probes, and how many
@@ -118,8 +118,8 @@ pub const STEPS_OF_A_REQUEST: usize = 4;
 /// How many pages that writes replaced a reader lets go behind a hold, of the export and of its base.
 pub const OUTDATED_PAGES: usize = 256;
 
-/// How much work is done at a hold's end on the base of its export, where steps are queued for that: in pages that are written, and one for
-/// each step (`export_cell::work_of`).
+/// How much work is done at a hold's end on the base of its export, where steps are queued for that: in pages that are written,
+/// and one for each step (`export_cell::work_of`).
 pub const QUEUED_WORK: usize = 256;
 
 /// How many bytes the READs and WRITEs of a session may come to that are under way, before its reader hands in no more.
@@ -190,11 +190,12 @@ pub const OUTLET_BYTES: usize = 262_144;
 /// How many replies are taken in a row: twice as many as a reader hands in requests at most, so that it mostly takes all.
 pub const TAKEN_REPLIES: usize = 32;
 
-/// Where so many replies aren't sent, a reader keeps no more of them before it sends these, also where it won't sleep before the next.
+/// Where so many replies aren't sent, a reader keeps no more of them before it sends these, also where it won't sleep before the
+/// next.
 pub const KEPT_REPLIES: usize = 4;
 
-/// How many bytes the replies may have together, heads included, that a reader writes: what a socket mostly holds, so that a client that
-/// doesn't read yet is still read.
+/// How many bytes the replies may have together, heads included, that a reader writes: what a socket mostly holds, so that a
+/// client that doesn't read yet is still read.
 pub const BRIEF_BYTES: usize = 131_072;
 
 /// How many milliseconds a reader waits for a client that doesn't read its replies, before it leaves them to the writer.
@@ -299,16 +300,17 @@ pub fn asks_for_turn(units: u32, passed: u64) -> bool
     units >= UNITS_A_TURN || passed >= TURN_NS
 }
 
-/// Whether a session has more at hand than its next request: others are ready behind it, more had come behind the long WRITE before this
-/// one, or so many are under way, and its client keeps up. Where it doesn't, these wait for the client and not for the server.
+/// Whether a session has more at hand than its next request: others are ready behind it, more had come behind the long WRITE
+/// before this one, or so many are under way, and its client keeps up. Where it doesn't, these wait for the client and not for the
+/// server.
 pub fn has_more(ready: bool, under_way: u64, behind: bool, keeps_up: bool) -> bool
     ensures { result ≡ has_more_by ready under_way behind keeps_up }
 {
     ready || behind || (under_way > 0 && keeps_up)
 }
 
-/// Whether a client keeps up with its replies, to which so many bytes were written in so many nanoseconds, with so many in between while
-/// requests were under way: what the writes took beyond a nanosecond a byte isn't more than what was spent in between.
+/// Whether a client keeps up with its replies, to which so many bytes were written in so many nanoseconds, with so many in between
+/// while requests were under way: what the writes took beyond a nanosecond a byte isn't more than what was spent in between.
 pub fn keeps_up(bytes: u64, writing: u64, between: u64) -> bool
     ensures { result ≡ keeps_up_by bytes writing between }
 {

@@ -1,5 +1,5 @@
-//! What the next requests of a session change is touched before they are handed in. It mostly is in no cache, and a processor waits for
-//! several such places at once, but for one after another where each is met in a request's own work.
+//! What the next requests of a session change is touched before they are handed in. It mostly is in no cache, and a processor
+//! waits for several such places at once, but for one after another where each is met in a request's own work.
 
 use crate::policy::STEPS_OF_A_REQUEST;
 use crate::service::Disks;

@@ -65,8 +65,8 @@ pub struct Service<L: Ledger> {
     /// Whether the end was asked for: then none is accepted either.
     pub stopping: AtomicBool,
     pub connections: Connections,
-    /// Whether a thread has the lock, more or less. Who looks for the lock reads this, which disturbs nobody; each try of the lock itself
-    /// takes a part of the server out of the cache of the processor that has it.
+    /// Whether a thread has the lock, more or less. Who looks for the lock reads this, which disturbs nobody; each try of the lock
+    /// itself takes a part of the server out of the cache of the processor that has it.
     pub taken: AtomicBool,
     /// The interactive sessions.
     pub interactive: InteractiveLoad,
@@ -161,8 +161,8 @@ impl<L: Ledger> Service<L> {
         held
     }
 
-    /// The server, where the lock is free at one of many looks. A bulk session lets interactive ones go first, for a while from when it found one
-    /// that asks.
+    /// The server, where the lock is free at one of many looks. A bulk session lets interactive ones go first, for a while from
+    /// when it found one that asks.
     fn look_long<R: Wait + time::Clock>(
         &self,
         rt: &R,

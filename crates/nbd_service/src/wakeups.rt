@@ -55,7 +55,8 @@ impl Wakeups {
         }
     }
 
-    /// Performs requests until this request of the session is performed, or an earlier one of it, or two in all. Tells whether its own was.
+    /// Performs requests until this request of the session is performed, or an earlier one of it, or two in all. Tells whether its
+    /// own was.
     pub fn serve_own<L: Ledger, C: Clock>(
         &mut self,
         disks: &mut Disks<L>,

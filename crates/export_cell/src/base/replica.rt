@@ -18,8 +18,8 @@ use std::mem;
 
 /// An export on which steps are made again.
 ///
-/// Its latest steps may be deferred: those of a request that comes to an export without any other are made at once, with its Perform, or where
-/// it is a READ with the step that takes its reply, which nobody looks at: so no data are read.
+/// Its latest steps may be deferred: those of a request that comes to an export without any other are made at once, with its
+/// Perform, or where it is a READ with the step that takes its reply, which nobody looks at: so no data are read.
 #[derive(Drop)]
 pub(super) struct Replica<I: Image> {
     lone: Lone<I>,
@@ -123,7 +123,8 @@ impl<I: Image> Replica<I> {
         }
     }
 
-    /// Makes a step, as it was made before. It may take pages of another image that are the same. Where memory is refused it comes back.
+    /// Makes a step, as it was made before. It may take pages of another image that are the same. Where memory is refused it comes
+    /// back.
     pub(super) fn replay(&mut self, step: Step<I::Alloc>, other: &I) -> Result<(), Step<I::Alloc>>
         requires { MayReplay self.old step }
         ensures ok { OnOk result (Goes {A = I.Alloc} self.old self.new step) }
