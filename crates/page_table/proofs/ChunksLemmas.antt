@@ -1,18 +1,14 @@
 -- Chunks after one of them has changed.
-use Rattle.std.proofs.Common.{◌≡◌, ◌≢◌, ℕ, ◌+◌, ◌-◌, ◌*◌, ◌/◌, ◌%◌, ◌<◌, ◌≤◌, inl, inr, Bool, true, false, cond, zero, suc, set, min, is_some, IsSome, IfSome, Result, Ok, Err, OnOk, OnErr, Option, None, Some, List, [], length, get_or, if◌then◌else◌, refl, sym, ap, subst, ◌∙◌, arith}
-use Rattle.std.proofs.lemmas.Bool.{cases_eq, cases_Bool}
-use Rattle.std.proofs.lemmas.List.{get_or-set_same, get_or-set_other}
+use Rattle.std.proofs.Common.{◌≡◌, ◌≢◌, ℕ, ◌+◌, ◌-◌, ◌*◌, ◌/◌, ◌%◌, ◌<◌, ◌≤◌, inl, inr, Bool, true, false, cond, zero, suc, set, min, is_some, IsSome, IfSome, Result, Ok, Err, OnOk, OnErr, Option, None, Some, List, [], ◌∷◌, length, get_or, replicate, if◌then◌else◌, refl, sym, ap, subst, ◌∙◌, arith}
+use Rattle.std.proofs.lemmas.Bool.{cases_eq}
+use Rattle.std.proofs.lemmas.List.{length-replicate, get_or-set_same, get_or-set_other}
 use Rattle.number_sets.specs.Bits.{is_between}
 use Rattle.number_sets.proofs.MarksLemmas.{if_none}
 use Rattle.page_table.specs.Table.{Chunk, Regions, in_chunk, chunk_of, in_chunks, is_kept, taken, AreTaken}
-use Rattle.number_sets.proofs.CountLemmas.{count_of, count-zero, count-cons, count-none, count_list, count_set, count_some, cond_le}
+use Rattle.number_sets.proofs.CountLemmas.{count_of, count-zero, count-cons, count-none, count_list, count_some}
 use Rattle.number_sets.proofs.RangeLemmas.{between_yes, between_part}
-use Rattle.page_table.proofs.RegionsLemmas.{none_counted, some_below}
-
--- what holds anyhow holds after a failure
-pub on_err : {T E : Type 0} (r : Result T E) (P : Type 0) → P → OnErr r P
-on_err (Ok x) P p = tt
-on_err (Err e) P p = p
+use Rattle.page_table.proofs.ChunkLemmas.{nones_at}
+use Rattle.page_table.proofs.RegionsLemmas.{none_counted, some_below, ok_so, err_so}
 
 -- what follows from both
 pub either_way : {T E : Type 0} (r : Result T E) (P Q R : Type 0) → (P → R) → (Q → R) → OnOk r P → OnErr r Q → R
@@ -52,6 +48,20 @@ taken_there None place page is = tt
 taken_there (Some chunk) place page is =
     omega (arith, count_some is_some chunk place (some_below chunk place (subst (λ (o : Option (List ℕ)). IsSome o) (sym is) refl)) (ap is_some is))
 
+-- one that has the same pages as one in which there are some
+none_filtered : (chunk : Chunk) → ((k : ℕ) → get_or chunk k None ≡ None) → taken chunk ≡ 0
+none_filtered [] none = refl
+none_filtered (None ∷ chunk) none = none_filtered chunk (λ k. none (suc k))
+none_filtered (Some page ∷ chunk) none = let bad : ◌≡◌ {A = Option (List ℕ)} (Some page) None = none zero in absurd (cc)
+
+pub taken_kept : (old : Chunk) (new : Option Chunk) → ((k : ℕ) → in_chunk new k ≡ get_or old k None) → 0 < taken old → IfSome new (λ chunk. 0 < taken chunk)
+taken_kept old None same some = tt
+taken_kept old (Some chunk) same some =
+    elim (cases_eq (taken chunk) 0) [
+      | inl none ↦ omega (arith, some, none_filtered old (λ k. sym (same k) ∙ none_counted chunk k none))
+      | inr more ↦ omega (arith, more)
+    ]
+
 -- the same chunks
 pub taken_same : (old new : Regions) → ((p : ℕ) → chunk_of new p ≡ chunk_of old p) → AreTaken old → AreTaken new
 taken_same old new same was p = subst (λ (c : Option Chunk). IfSome c (λ chunk. 0 < taken chunk)) (sym (same p)) (was p)
@@ -62,20 +72,14 @@ module _ (old new : Regions) (q : ℕ) (others : (p : ℕ) → p ≢ q → chunk
   other_chunk k apart =
       table_is new k (k / 256) refl ∙ ap (λ (chunk : Option Chunk). in_chunk chunk (k % 256)) (others (k / 256) apart) ∙ sym (table_is old k (k / 256) refl)
 
-  pub same_place : (k : ℕ) → k / 256 ≡ q → in_chunk (chunk_of new q) (k % 256) ≡ in_chunk (chunk_of old q) (k % 256) → in_chunks new k ≡ in_chunks old k
+  same_place : (k : ℕ) → k / 256 ≡ q → in_chunk (chunk_of new q) (k % 256) ≡ in_chunk (chunk_of old q) (k % 256) → in_chunks new k ≡ in_chunks old k
   same_place k is same = table_is new k q is ∙ same ∙ sym (table_is old k q is)
 
-  pub other_places : (number : ℕ) → number / 256 ≡ q → ((k : ℕ) → k ≢ number % 256 → in_chunk (chunk_of new q) k ≡ in_chunk (chunk_of old q) k) → (k : ℕ) → k ≢ number → in_chunks new k ≡ in_chunks old k
+  pub other_places : (number : ℕ) → number / 256 ≡ q → ((k : ℕ) → k ≢ number % 256 → in_chunk (chunk_of new q) k ≡ in_chunk (chunk_of old q) k)
+      → (k : ℕ) → k ≢ number → in_chunks new k ≡ in_chunks old k
   other_places number is same k apart =
       elim (cases_eq (k / 256) q) [
         | inl e ↦ same_place k e (same (k % 256) (λ place. apart (omega arith)))
-        | inr other ↦ other_chunk k other
-      ]
-
-  pub same_table : ((k : ℕ) → in_chunk (chunk_of new q) k ≡ in_chunk (chunk_of old q) k) → (k : ℕ) → in_chunks new k ≡ in_chunks old k
-  same_table same k =
-      elim (cases_eq (k / 256) q) [
-        | inl e ↦ same_place k e (same (k % 256))
         | inr other ↦ other_chunk k other
       ]
 
@@ -85,25 +89,6 @@ module _ (old new : Regions) (q : ℕ) (others : (p : ℕ) → p ≢ q → chunk
         | inl e ↦ subst (λ (n : ℕ). IfSome (chunk_of new n) (λ chunk. 0 < taken chunk)) (sym e) here
         | inr apart ↦ subst (λ (c : Option Chunk). IfSome c (λ chunk. 0 < taken chunk)) (sym (others p apart)) (was p)
       ]
-
-  pub taken_gone : AreTaken old → chunk_of new q ≡ None → AreTaken new
-  taken_gone was gone = taken_after was (if_none (chunk_of new q) (λ chunk. 0 < taken chunk) gone)
-
--- A chunk was taken out of its place, and another has been put there.
-module _ (old mid new : Regions) (q : ℕ) (after : Chunk) (lent : (p : ℕ) → p ≢ q → chunk_of mid p ≡ chunk_of old p) (back : (p : ℕ) → p ≢ q → chunk_of new p ≡ chunk_of mid p)
-    (here : chunk_of new q ≡ Some after) where
-  pub put_here : (k : ℕ) (page : Option (List ℕ)) → k / 256 ≡ q → get_or after (k % 256) None ≡ page → in_chunks new k ≡ page
-  put_here k page is same = sym (found_is new k q after is (sym here)) ∙ same
-
-  pub put_apart : (before : Option Chunk) (number : ℕ) → number / 256 ≡ q → before ≡ chunk_of old q → ((k : ℕ) → k ≢ number % 256 → get_or after k None ≡ in_chunk before k)
-      → (k : ℕ) → k ≢ number → in_chunks new k ≡ in_chunks old k
-  put_apart before number is found same =
-      other_places old new q (λ p apart. back p apart ∙ lent p apart) number is
-      (λ k apart. ap (λ (c : Option Chunk). in_chunk c k) here ∙ same k apart ∙ ap (λ (c : Option Chunk). in_chunk c k) found)
-
-  pub taken_put : AreTaken old → 0 < taken after → AreTaken new
-  taken_put was some =
-      taken_after old new q (λ p apart. back p apart ∙ lent p apart) was (subst (λ (c : Option Chunk). IfSome c (λ chunk. 0 < taken chunk)) (sym here) some)
 
 -- how many pages of a chunk are stored
 pub count_chunk : (chunks : Regions) (q n begin : ℕ) (chunk : Chunk) → n ≡ 256 → begin ≡ 256 * q → length chunk ≡ n → Some chunk ≡ chunk_of chunks q
@@ -129,7 +114,8 @@ module _ (old new : Regions) (q first end : ℕ) (others : (p : ℕ) → p ≢ q
       let inside : is_between first end k ≡ true = between_yes first end k (omega arith) (omega arith) in
       absent_is new k q is gone ∙ ap (λ (b : Bool). if b then None else in_chunks old k) (sym inside)
 
-  pub places_gone : (from to : ℕ) → from ≡ first - q * 256 → to ≡ min (end - q * 256) 256 → ((k : ℕ) → in_chunk (chunk_of new q) k ≡ (if is_between from to k then None else in_chunk (chunk_of old q) k))
+  pub places_gone : (from to : ℕ) → from ≡ first - q * 256 → to ≡ min (end - q * 256) 256
+      → ((k : ℕ) → in_chunk (chunk_of new q) k ≡ (if is_between from to k then None else in_chunk (chunk_of old q) k))
       → (k : ℕ) → k / 256 ≡ q → in_chunks new k ≡ (if is_between first end k then None else in_chunks old k)
   places_gone from to begins ends here k is =
       table_is new k q is ∙ here (k % 256)
@@ -172,28 +158,37 @@ pub count_left : (old new : Regions) (q first end : ℕ) → ((k : ℕ) → k / 
 count_left old new q first end here =
     count_less (is_kept old) (is_kept new) (256 * q) 256 (λ k above below left. left_in (is_between first end k) (in_chunks old k) (sym (ap is_some (here k (omega arith))) ∙ left))
 
--- what is in a chunk once a page is put in a place, or taken out
-pub set_here : (chunk : Chunk) (place : ℕ) (page : Option (List ℕ)) → place < length chunk → get_or (set chunk place page) place None ≡ page
-set_here chunk place page below = get_or-set_same chunk place page None below
+-- A page comes to a chunk in which there was none in its place, or does not.
+module _ {T E : Type 0} (r : Result T E) (old new : Option Chunk) (place : ℕ) (was : in_chunk old place ≡ None) (none : OnErr r (in_chunk new place ≡ None))
+    (places : (k : ℕ) → k ≢ place → in_chunk new k ≡ in_chunk old k) where
+  pub taken_added : (chunk : Chunk) (page : List ℕ) → OnOk r (in_chunk new place ≡ Some page) → Some chunk ≡ old → 0 < taken chunk → IfSome new (λ chunk. 0 < taken chunk)
+  taken_added chunk page here found some =
+      either_way r (in_chunk new place ≡ Some page) (in_chunk new place ≡ None) (IfSome new (λ chunk. 0 < taken chunk)) (taken_there new place page)
+      (λ gone. taken_kept chunk new (λ k. elim (cases_eq k place) [
+        | inl e ↦ ap (in_chunk new) e ∙ gone ∙ sym was ∙ ap (in_chunk old) (sym e)
+        | inr apart ↦ places k apart
+      ] ∙ ap (λ (c : Option Chunk). in_chunk c k) (sym found)) some) here none
 
-pub set_others : (chunk : Chunk) (place : ℕ) (page : Option (List ℕ)) (k : ℕ) → k ≢ place → get_or (set chunk place page) k None ≡ get_or chunk k None
-set_others chunk place page k apart = get_or-set_other chunk place k page None apart
+-- A chunk of one page comes where there was none, or does not.
+module _ {T E : Type 0} (r : Result T E) (old new : Option Chunk) (chunk : Chunk) (n place : ℕ) (page : List ℕ) (below : place < n) (held : chunk ≡ set (replicate n None) place (Some page))
+    (was : old ≡ None) (here : OnOk r (new ≡ Some chunk)) (gone : OnErr r (new ≡ None)) where
+  pub one_here : OnOk r (in_chunk new place ≡ Some page)
+  one_here =
+      ok_so r (new ≡ Some chunk) (in_chunk new place ≡ Some page)
+      (λ is. ap (λ (c : Option Chunk). in_chunk c place) is ∙ ap (λ (c : Chunk). get_or c place None) held
+      ∙ get_or-set_same (replicate n None) place (Some page) None (omega (arith, below, length-replicate {A = Option (List ℕ)} n None))) here
 
--- the same where that may have failed, and then changed nothing
-pub put_others : {T E : Type 0} (r : Result T E) (old new : Chunk) (place : ℕ) (page : Option (List ℕ)) → OnOk r (new ≡ set old place page) → OnErr r (new ≡ old)
-    → (k : ℕ) → k ≢ place → get_or new k None ≡ get_or old k None
-put_others (Ok x) old new place page put same k apart = ap (λ (chunk : Chunk). get_or chunk k None) put ∙ set_others old place page k apart
-put_others (Err e) old new place page put same k apart = ap (λ (chunk : Chunk). get_or chunk k None) same
+  pub one_gone : OnErr r (in_chunk new place ≡ None)
+  one_gone = err_so r (new ≡ None) (in_chunk new place ≡ None) (ap (λ (c : Option Chunk). in_chunk c place)) gone
 
-pub put_taken : {T E : Type 0} (r : Result T E) (old new : Chunk) (place : ℕ) (page : List ℕ) → place < length old → OnOk r (new ≡ set old place (Some page)) → OnErr r (new ≡ old)
-    → 0 < taken old → 0 < taken new
-put_taken (Ok x) old new place page below put same some =
-    omega (arith, ap taken put, count_set is_some old place (Some page) below, cond_le (is_some (get_or old place None)), some)
-put_taken (Err e) old new place page below put same some = omega (arith, ap taken same, some)
+  pub one_others : (k : ℕ) → k ≢ place → in_chunk new k ≡ in_chunk old k
+  one_others k apart =
+      either_way r (new ≡ Some chunk) (new ≡ None) (in_chunk new k ≡ in_chunk old k)
+      (λ is. ap (λ (c : Option Chunk). in_chunk c k) is ∙ ap (λ (c : Chunk). get_or c k None) held
+      ∙ get_or-set_other (replicate n None) place k (Some page) None apart ∙ nones_at n k ∙ ap (λ (c : Option Chunk). in_chunk c k) (sym was))
+      (λ none. ap (λ (c : Option Chunk). in_chunk c k) (none ∙ sym was)) here gone
 
-pub set_taken : (old new : Chunk) (place : ℕ) (page : List ℕ) → place < length old → new ≡ set old place (Some page) → 0 < taken new
-set_taken old new place page below put =
-    elim (cases_Bool (is_some (get_or old place None))) [
-      | inl there ↦ omega (arith, ap taken put, count_set is_some old place (Some page) below, cond_le (is_some (get_or old place None)), count_some is_some old place below there)
-      | inr none ↦ omega (arith, ap taken put, count_set is_some old place (Some page) below, ap {B = ℕ} (λ (b : Bool). cond b 1 0) none)
-    ]
+  pub one_taken : IfSome new (λ chunk. 0 < taken chunk)
+  one_taken =
+      either_way r (in_chunk new place ≡ Some page) (new ≡ None) (IfSome new (λ chunk. 0 < taken chunk)) (taken_there new place page)
+      (if_none new (λ chunk. 0 < taken chunk)) one_here gone

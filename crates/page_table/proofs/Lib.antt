@@ -1,7 +1,7 @@
-pub mod ItemsLemmas
 pub mod PlacesLemmas
 pub mod ShownLemmas
 pub mod HolesLemmas
 pub mod RegionsLemmas
+pub mod ChunkLemmas
 pub mod ChunksLemmas
 pub mod TableLemmas

@@ -3,7 +3,7 @@ use Rattle.std.proofs.Common.{◌≡◌, ◌≢◌, ℕ, zero, suc, ◌+◌, ◌
 use Rattle.std.specs.Prelude.{IsSome, IfSome}
 use Rattle.std.specs.List.{filter, insert, remove}
 use Rattle.std.proofs.lemmas.Bool.{cases_Bool}
-use Rattle.std.proofs.lemmas.List.{set-get_or}
+use Rattle.std.proofs.lemmas.List.{set-get_or, get_or-set_same, get_or-set_other}
 use Rattle.number_sets.specs.Bits.{is_set}
 use Rattle.page_table.specs.Places.{spread, in_places}
 use Rattle.number_sets.proofs.CountLemmas.{count_of, count-zero, count-cons}
@@ -266,6 +266,34 @@ place_below marks i n at below is all place = omega (arith, all, place, count_be
 pub place_taken : {X : Type 0} (marks : List ℕ) (xs : List X) (i : ℕ) → i < 256 → is_set marks i ≡ true → length xs ≡ count_of (is_set marks) 0 256 → IsSome (get_or (in_places marks xs) i None)
 place_taken marks [] i below is all = absurd (omega (arith, place_below marks i 0 (count_of (is_set marks) 0 i) below is all refl))
 place_taken {X} marks (x ∷ xs) i below is all = subst (λ (o : Option X). IsSome o) (sym (place_some marks (x ∷ xs) i (count_of (is_set marks) 0 i) x below is all refl)) refl
+
+-- where there is something in a place, its bit says so
+pub place_there : {X : Type 0} (marks : List ℕ) (xs : List X) (i : ℕ) → i < 256 → IsSome (get_or (in_places marks xs) i None) → is_set marks i ≡ true
+place_there {X} marks xs i below some =
+    elim (cases_Bool (is_set marks i)) [
+      | inl there ↦ there
+      | inr none ↦ let bad : false ≡ true = subst (λ (o : Option X). IsSome o) (place_none marks xs i below none) some in absurd (cc)
+    ]
+
+-- what is in places once an item has changed where it lies
+module _ {X : Type 0} (marks : List ℕ) (xs : List X) (i at : ℕ) (old : X) (below : i < 256) (there : is_set marks i ≡ true)
+    (all : length xs ≡ count_of (is_set marks) 0 256) (counted : at ≡ count_of (is_set marks) 0 i) (was : old ≡ get_or xs at old) where
+  pub item_found : get_or (in_places marks xs) i None ≡ Some old
+  item_found = place_some marks xs i at old below there all counted ∙ ap {B = Option X} (λ (x : X). Some x) (sym was)
+
+  pub item_changed : (new : X) → get_or (in_places marks (set xs at new)) i None ≡ Some new
+  item_changed new =
+      ap (λ (row : List (Option X)). get_or row i None) (place_set marks xs i at new below there all counted)
+      ∙ get_or-set_same (in_places marks xs) i (Some new) None (omega (arith, below, places-length marks xs))
+
+  pub items_beside : (new : X) (q : ℕ) → q ≢ i → get_or (in_places marks (set xs at new)) q None ≡ get_or (in_places marks xs) q None
+  items_beside new q apart =
+      ap (λ (row : List (Option X)). get_or row q None) (place_set marks xs i at new below there all counted)
+      ∙ get_or-set_other (in_places marks xs) i q (Some new) None apart
+
+  pub item_put_back : (new : X) → new ≡ old → in_places marks (set xs at new) ≡ in_places marks xs
+  item_put_back new same =
+      ap (λ (x : X). in_places marks (set xs at x)) (same ∙ was) ∙ ap (λ (items : List X). in_places marks items) (set-get_or xs at old)
 
 -- what a fact says of what is there, or two
 pub some_so : {X : Type 0} (o : Option X) (P Q : X → Type 0) → ((x : X) → P x → Q x) → IfSome o P → IfSome o Q

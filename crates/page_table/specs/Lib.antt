@@ -1,6 +1,5 @@
-pub mod Items
-pub mod Boxed
 pub mod Places
 pub mod Holes
 pub mod Table
+pub mod Chunk
 pub mod Swept

@@ -9,23 +9,18 @@ use Rattle.page_table.specs.Holes.{Holes, is_hole, is_noted}
 abbrev pub Chunk : Type 0
 Chunk = List (Option (List ℕ))
 
--- regions, where there are any, and what is in the places of each
+-- what is in the places of each region
 abbrev pub Regions : Type 0
-Regions = List (Option (List (Option Chunk)))
+Regions = List (List (Option Chunk))
 
 -- chunks, and which bytes of their pages are zeros, whatever stands there
 pub record Stored : Type 0 where
   pub chunks : Regions
   pub holes : List (ℕ × List ℕ)
 
--- what is in a place, where there is the region
-abbrev pub in_region : Option (List (Option Chunk)) → ℕ → Option Chunk
-in_region None place = None
-in_region (Some region) place = get_or region place None
-
 -- the chunk of a number
 unfoldable pub chunk_of : Regions → ℕ → Option Chunk
-chunk_of regions number = in_region (get_or regions (number / 256) None) (number % 256)
+chunk_of regions number = get_or (get_or regions (number / 256) []) (number % 256) None
 
 -- what is in a place, where there is the chunk
 abbrev pub in_chunk : Option Chunk → ℕ → Option (List ℕ)

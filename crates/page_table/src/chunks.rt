@@ -2,7 +2,7 @@ ghost use Rattle.std.specs.Prelude.{◌≡◌, ℕ, ◌+◌, ◌*◌, ◌/◌, �
 ghost use Rattle.number_sets.specs.Bits.{is_between, count_of};
 ghost use Rattle.page_table.specs.Table.{Chunk as Seen, chunk_of, in_chunk, in_chunks, is_kept, taken};
 
-use crate::places::Places;
+use crate::chunk::Chunk;
 use crate::regions::Regions;
 use crate::swept::Swept;
 use nbd_base::NoMemory;
@@ -12,10 +12,6 @@ use std::marker::Model;
 
 /// How many pages a chunk has places for.
 pub const CHUNK: usize = 256;
-
-/// Places for 256 pages in a row, in some of which one is stored. Those lie side by side, so that the next page is found beside the
-/// one before it.
-pub(crate) type Chunk<A> = Places<Page<A>, A>;
 
 /// Pages by their numbers, in chunks of 256 in a row. A page is found by a count of the chunks before its own in their region, and of
 /// the pages before it in its chunk. A chunk in which no page is stored isn't there.
@@ -32,50 +28,6 @@ impl<A: Allocator + Copy> Model for Chunks<A> {
     ghost view = { λ chunks. chunks.chunks };
 
     ghost invariant = { λ chunks. AreTaken chunks.chunks };
-}
-
-// No page is stored from the first place on before an end from now on. The pages are swept out.
-fn empty_places<A: Allocator + Copy>(
-    chunk: &mut Chunk<A>,
-    first: usize,
-    end: usize,
-    swept: &mut Swept<A>,
-)
-    requires { end ≤ 256 }
-    ensures { (k : ℕ) → in_chunk (Some chunk.new) k
-        ≡ (if is_between first end k then None else in_chunk (Some chunk.old) k) }
-{
-    for place in first..end {
-        if let Some(page) = chunk.take(place) {
-            swept.take_page(page);
-        }
-    }
-}
-
-// Pages of a chunk that is there are stored no longer, from a place on before an end. The answer is how many are stored then.
-fn remove_places<A: Allocator + Copy>(
-    chunks: &mut Regions<A>,
-    number: usize,
-    first: usize,
-    end: usize,
-    swept: &mut Swept<A>,
-) -> usize
-    requires there { IsSome (chunk_of chunks.old number) }
-    requires end { end ≤ 256 }
-    ensures here { (k : ℕ) → in_chunk (chunk_of chunks.new number) k
-        ≡ (if is_between first end k then None else in_chunk
-        (chunk_of chunks.old number) k) }
-    ensures left { IfSome (chunk_of chunks.new number) (λ chunk. result ≡ taken chunk) }
-    ensures others { (q : ℕ) → q ≢ number
-        → chunk_of chunks.new q ≡ chunk_of chunks.old q }
-{
-    let Some(mut chunk) = chunks.lend(number) else {
-        unreachable!();
-    };
-    empty_places(&mut chunk, first, end, swept);
-    let count = chunk.count();
-    chunks.give_back(number, chunk);
-    count
 }
 
 // A chunk is there no longer.
@@ -140,14 +92,11 @@ impl<A: Allocator + Copy> Chunks<A> {
         ensures others { (k : ℕ) → k ≢ number → in_chunks self.new k ≡ in_chunks self.old k }
         ensures no_memory { OnErr result (in_chunks self.new number ≡ None) }
     {
-        if let Some(mut chunk) = self.chunks.lend(number / CHUNK) {
-            let added = chunk.add(number % CHUNK, page);
-            self.chunks.give_back(number / CHUNK, chunk);
-            return added;
+        let (chunk, place) = (number / CHUNK, number % CHUNK);
+        match self.chunks.get(chunk) {
+            Some(_) => self.chunks.add_page(alloc, chunk, place, page),
+            None => self.chunks.add(alloc, chunk, Chunk::holding(place, page)),
         }
-        let mut made = Places::new(alloc);
-        made.add(number % CHUNK, page)?;
-        self.chunks.add(alloc, number / CHUNK, made)
     }
 
     /// The last chunk that is there, from one on before an end.
@@ -178,7 +127,7 @@ impl<A: Allocator + Copy> Chunks<A> {
             return;
         }
         let from = first.saturating_sub(begin);
-        let left = remove_places(&mut self.chunks, chunk, from, upto, swept);
+        let left = self.chunks.remove_pages(chunk, from, upto, swept);
         if left == 0 {
             remove_chunk(&mut self.chunks, chunk, swept);
         }

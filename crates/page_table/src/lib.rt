@@ -3,9 +3,9 @@
 //! A page has 4,096 bytes. What isn't needed any more is handed out (`Swept`), and let go by whoever asks for it.
 #![tactic(auto)]
 
+mod chunk;
 mod chunks;
 mod holes;
-mod items;
 mod places;
 mod regions;
 mod swept;

@@ -1,14 +1,16 @@
-ghost use Rattle.std.specs.Prelude.{◌≡◌, ◌≢◌, ℕ, ◌<◌, ◌≤◌, ◌==◌, None, Some, IsSome, IfSome, IfOk, IfErr, OnOk, OnErr, is_some, length, get_or, set, replicate};
+ghost use Rattle.std.specs.Prelude.{◌≡◌, ◌≢◌, ℕ, ◌<◌, ◌≤◌, ◌==◌, None, Some, IsSome, IfSome, IfOk, IfErr, OnOk, OnErr, is_some, length, get_or, set, replicate, if◌then◌else◌};
 ghost use Rattle.std.specs.List.{filter};
-ghost use Rattle.page_table.specs.Table.{in_chunk};
+ghost use Rattle.number_sets.specs.Bits.{is_between};
+ghost use Rattle.page_table.specs.Table.{in_chunk, taken};
 
-use crate::chunks::Chunk;
-use crate::items::Items;
+use crate::chunk::Chunk;
+use crate::swept::Swept;
 use nbd_base::NoMemory;
 use number_sets::bits;
 use payload::Page;
 use std::alloc::Allocator;
 use std::marker::Model;
+use std::mem;
 
 /// Places for 256 items in a row. The items that are there lie side by side, so a place without one takes a bit.
 #[derive(Drop)]
@@ -16,7 +18,7 @@ pub(crate) struct Places<T: Drop, A: Allocator + Copy> {
     // In which places there is an item, a bit for each.
     marks: [u64; 4],
     // In the order of their places.
-    items: Items<T, A>,
+    items: Vec<T, A>,
 }
 
 impl<T: Drop, A: Allocator + Copy> Model for Places<T, A> {
@@ -26,10 +28,19 @@ impl<T: Drop, A: Allocator + Copy> Model for Places<T, A> {
 
     ghost Value = { List (Option T) };
 
-    ghost view = { λ places. in_places places.marks places.items };
+    ghost view = { λ places. in_places places.marks places.items.items };
 
     ghost invariant = { λ places.
-        length places.items ≡ count_of (is_set places.marks) 0 256 };
+        length places.items.items ≡ count_of (is_set places.marks) 0 256 };
+}
+
+// The memory of items goes where there is none.
+fn give_room_back<T: Drop, A: Allocator + Copy>(items: &mut Vec<T, A>)
+    ensures { items.new.items ≡ items.old.items }
+{
+    if items.is_empty() {
+        *items = Vec::new(*items.allocator());
+    }
 }
 
 impl<T: Drop, A: Allocator + Copy> Places<T, A> {
@@ -39,7 +50,7 @@ impl<T: Drop, A: Allocator + Copy> Places<T, A> {
     {
         Places {
             marks: [0; 4],
-            items: Items::new(alloc),
+            items: Vec::new(alloc),
         }
     }
 
@@ -62,7 +73,7 @@ impl<T: Drop, A: Allocator + Copy> Places<T, A> {
         if !bits::has(&self.marks, place) {
             return None;
         }
-        Some(self.items.get(bits::count_below(&self.marks, place)))
+        Some(&self.items[bits::count_below(&self.marks, place)])
     }
 
     /// The last place in which there is an item, from one on before an end.
@@ -93,26 +104,27 @@ impl<T: Drop, A: Allocator + Copy> Places<T, A> {
             return Err(item);
         }
         let at = bits::count_below(&self.marks, place);
-        Ok(self.items.exchange(at, item))
+        Ok(mem::replace(&mut self.items[at], item))
     }
 
-    /// Puts an item where there is none.
-    pub(crate) fn add(&mut self, place: usize, item: T) -> Result<(), NoMemory>
+    /// Puts an item where there is none. Where memory for it is refused, it is handed back.
+    pub(crate) fn add(&mut self, place: usize, item: T) -> Result<(), T>
         requires place { place < 256 }
         requires none { get_or self.old place None ≡ None }
         ensures added { OnOk result (self.new ≡ set self.old place (Some item)) }
-        ensures no_memory { OnErr result (self.new ≡ self.old) }
+        ensures same { OnErr result (self.new ≡ self.old) }
+        ensures back { IfErr result (λ back. back ≡ item) }
         ensures long { length self.old ≡ 256 }
     {
         let at = bits::count_below(&self.marks, place);
-        let Ok(()) = self.items.insert(at, item) else {
-            return Err(NoMemory);
-        };
+        if let Err(refused) = self.items.insert(at, item) {
+            return Err(refused.value);
+        }
         bits::put_one(&mut self.marks, place, true);
         Ok(())
     }
 
-    /// Takes the item out of a place.
+    /// Takes the item out of a place. With the last one goes the memory for all.
     pub(crate) fn take(&mut self, place: usize) -> Option<T>
         requires { place < 256 }
         ensures before { result ≡ get_or self.old place None }
@@ -124,8 +136,26 @@ impl<T: Drop, A: Allocator + Copy> Places<T, A> {
         }
         let at = bits::count_below(&self.marks, place);
         bits::put_one(&mut self.marks, place, false);
-        Some(self.items.remove(at))
+        let taken = self.items.remove(at);
+        give_room_back(&mut self.items);
+        Some(taken)
     }
+}
+
+// Pages of a chunk are stored no longer, from a place on before an end, and are swept out. The answer is how many are stored then.
+fn remove_from<A: Allocator + Copy>(
+    chunk: &mut Chunk<A>,
+    first: usize,
+    end: usize,
+    swept: &mut Swept<A>,
+) -> usize
+    requires { end ≤ 256 }
+    ensures here { (k : ℕ) → in_chunk (Some chunk.new) k
+        ≡ (if is_between first end k then None else in_chunk (Some chunk.old) k) }
+    ensures left { result ≡ taken chunk.new }
+{
+    chunk.remove(first, end, swept);
+    chunk.count()
 }
 
 impl<A: Allocator + Copy> Places<Chunk<A>, A> {
@@ -153,6 +183,49 @@ impl<A: Allocator + Copy> Places<Chunk<A>, A> {
             return Err(page);
         }
         let at = bits::count_below(&self.marks, chunk);
-        self.items.exchange_page(at, place, page)
+        self.items[at].exchange(place, page)
+    }
+
+    /// Puts a page in a place of a chunk that is there, where none is stored.
+    pub(crate) fn add_page(
+        &mut self,
+        alloc: A,
+        chunk: usize,
+        place: usize,
+        page: Page<A>,
+    ) -> Result<(), NoMemory>
+        requires chunk { chunk < 256 }
+        requires place { place < 256 }
+        requires there { IsSome (get_or self.old chunk None) }
+        requires none { in_chunk (get_or self.old chunk None) place ≡ None }
+        ensures here { OnOk result (in_chunk (get_or self.new chunk None) place ≡ Some page) }
+        ensures places { (k : ℕ) → k ≢ place → in_chunk (get_or self.new chunk None) k
+            ≡ in_chunk (get_or self.old chunk None) k }
+        ensures others { (q : ℕ) → q ≢ chunk → get_or self.new q None ≡ get_or self.old q None }
+        ensures no_memory { OnErr result (in_chunk (get_or self.new chunk None) place ≡ None) }
+    {
+        let at = bits::count_below(&self.marks, chunk);
+        self.items[at].add(alloc, place, page)
+    }
+
+    /// Pages of a chunk that is there are stored no longer, from a place on before an end, and are swept out. The answer is how many
+    /// are stored then.
+    pub(crate) fn remove_pages(
+        &mut self,
+        chunk: usize,
+        first: usize,
+        end: usize,
+        swept: &mut Swept<A>,
+    ) -> usize
+        requires chunk { chunk < 256 }
+        requires end { end ≤ 256 }
+        requires there { IsSome (get_or self.old chunk None) }
+        ensures here { (k : ℕ) → in_chunk (get_or self.new chunk None) k
+            ≡ (if is_between first end k then None else in_chunk (get_or self.old chunk None) k) }
+        ensures left { IfSome (get_or self.new chunk None) (λ chunk. result ≡ taken chunk) }
+        ensures others { (q : ℕ) → q ≢ chunk → get_or self.new q None ≡ get_or self.old q None }
+    {
+        let at = bits::count_below(&self.marks, chunk);
+        remove_from(&mut self.items[at], first, end, swept)
     }
 }

@@ -1,9 +1,10 @@
-ghost use Rattle.std.specs.Prelude.{◌≡◌, ℕ, ◌<◌, ◌≤◌, ◌≢◌, true, [], None, Some, IsSome, IfSome, IfOk, IfErr, OnOk, OnErr, length, get_or};
-ghost use Rattle.page_table.specs.Boxed.{unboxed};
-ghost use Rattle.page_table.specs.Table.{chunk_of, in_chunk, in_region};
+ghost use Rattle.std.specs.Prelude.{◌≡◌, ℕ, ◌<◌, ◌≤◌, ◌≢◌, [], None, Some, IsSome, IfSome, IfOk, IfErr, OnOk, OnErr, length, get_or, if◌then◌else◌};
+ghost use Rattle.number_sets.specs.Bits.{is_between};
+ghost use Rattle.page_table.specs.Table.{chunk_of, in_chunk, taken};
 
-use crate::chunks::Chunk;
+use crate::chunk::Chunk;
 use crate::places::Places;
+use crate::swept::Swept;
 use nbd_base::NoMemory;
 use payload::Page;
 use std::alloc::Allocator;
@@ -15,155 +16,40 @@ const REGION: usize = 256;
 /// Places for 256 chunks in a row.
 type Region<A> = Places<Chunk<A>, A>;
 
-/// A region in a box, where there is one.
-type Boxed<A> = Option<Box<Region<A>, A>>;
-
-// Puts a chunk in the place of one, where there is a region (`Regions::exchange`).
-fn exchange_in<A: Allocator + Copy>(
-    region: &mut Boxed<A>,
-    place: usize,
-    chunk: Chunk<A>,
-) -> Result<Chunk<A>, Chunk<A>>
-    requires { place < 256 }
-    ensures before { IfOk result (λ before. in_region (unboxed region.old) place ≡ Some before) }
-    ensures here { OnOk result (in_region (unboxed region.new) place ≡ Some chunk) }
-    ensures others { (k : ℕ) → k ≢ place
-        → in_region (unboxed region.new) k ≡ in_region (unboxed region.old) k }
-    ensures none { OnErr result (in_region (unboxed region.old) place ≡ None) }
-    ensures same { OnErr result (in_region (unboxed region.new) place ≡ None) }
-{
-    match region {
-        Some(region) => region.exchange(place, chunk),
-        None => Err(chunk),
-    }
-}
-
-// Puts a page in the place of one, where there is a region (`Regions::exchange_page`).
-fn exchange_page_in<A: Allocator + Copy>(
-    region: &mut Boxed<A>,
-    chunk: usize,
-    place: usize,
-    page: Page<A>,
-) -> Result<Page<A>, Page<A>>
-    requires chunk { chunk < 256 }
-    requires place { place < 256 }
-    ensures before { IfOk result (λ before.
-        in_chunk (in_region (unboxed region.old) chunk) place ≡ Some before) }
-    ensures here { OnOk result (in_chunk (in_region (unboxed region.new) chunk) place ≡ Some page) }
-    ensures places { (k : ℕ) → k ≢ place → in_chunk (in_region (unboxed region.new) chunk) k
-        ≡ in_chunk (in_region (unboxed region.old) chunk) k }
-    ensures others { (q : ℕ) → q ≢ chunk
-        → in_region (unboxed region.new) q ≡ in_region (unboxed region.old) q }
-    ensures none { OnErr result (in_chunk (in_region (unboxed region.old) chunk) place ≡ None) }
-    ensures back { IfErr result (λ back. back ≡ page) }
-    ensures same { OnErr result ((q : ℕ)
-        → in_region (unboxed region.new) q ≡ in_region (unboxed region.old) q) }
-{
-    match region {
-        Some(region) => region.exchange_page(chunk, place, page),
-        None => Err(page),
-    }
-}
-
-// Puts a chunk where there is none, in a region that is there.
-fn add_in<A: Allocator + Copy>(
-    region: &mut Boxed<A>,
-    place: usize,
-    chunk: Chunk<A>,
-) -> Result<(), NoMemory>
-    requires place { place < 256 }
-    requires there { IsSome region.old }
-    requires none { in_region (unboxed region.old) place ≡ None }
-    ensures here { OnOk result (in_region (unboxed region.new) place ≡ Some chunk) }
-    ensures no_memory { OnErr result (in_region (unboxed region.new) place ≡ None) }
-    ensures others { (k : ℕ) → k ≢ place
-        → in_region (unboxed region.new) k ≡ in_region (unboxed region.old) k }
-{
-    let Some(region) = region else {
-        unreachable!();
-    };
-    region.add(place, chunk)
-}
-
-// Takes a chunk out, where there is a region.
-fn take_in<A: Allocator + Copy>(region: &mut Boxed<A>, place: usize) -> Option<Chunk<A>>
-    requires { place < 256 }
-    ensures before { result ≡ in_region (unboxed region.old) place }
-    ensures here { in_region (unboxed region.new) place ≡ None }
-    ensures others { (k : ℕ) → k ≢ place
-        → in_region (unboxed region.new) k ≡ in_region (unboxed region.old) k }
-{
-    match region {
-        Some(region) => region.take(place),
-        None => None,
-    }
-}
-
-// There is a region, in which there is no chunk if it is new.
-fn open_in<A: Allocator + Copy>(alloc: A, region: &mut Boxed<A>) -> Result<(), NoMemory>
-    ensures there { OnOk result (IsSome region.new) }
-    ensures same { (k : ℕ) → in_region (unboxed region.new) k ≡ in_region (unboxed region.old) k }
-{
-    if region.is_some() {
-        return Ok(());
-    }
-    let made: Region<A> = Places::new(alloc);
-    let Ok(made) = Box::new(alloc, made) else {
-        return Err(NoMemory);
-    };
-    *region = Some(made);
-    Ok(())
-}
-
-// Whether there is no chunk in a region.
-fn is_empty<A: Allocator + Copy>(region: &Boxed<A>) -> bool
-    ensures { result ≡ true → (k : ℕ) → in_region (unboxed region.now) k ≡ None }
-{
-    match region {
-        Some(region) => region.count() == 0,
-        None => true,
-    }
-}
-
-// A region goes where there is no chunk in it.
-fn close_in<A: Allocator + Copy>(region: &mut Boxed<A>)
-    ensures { (k : ℕ) → in_region (unboxed region.new) k ≡ in_region (unboxed region.old) k }
-{
-    if is_empty(region) {
-        *region = None;
-    }
-}
-
-// There is a place for a region, in which there is none if it is new.
+// There is a place for a region, in which there is no chunk if it is new.
 fn lengthen_to<A: Allocator + Copy>(
-    regions: &mut Vec<Boxed<A>, A>,
+    alloc: A,
+    regions: &mut Vec<Region<A>, A>,
     region: usize,
 ) -> Result<(), NoMemory>
     ensures long { OnOk result (region < length regions.new.items) }
-    ensures same { (k : ℕ) → get_or regions.new.items k None ≡ get_or regions.old.items k None }
+    ensures same { (q : ℕ) → chunk_of regions.new.items q ≡ chunk_of regions.old.items q }
 {
+    let more = region.saturating_add(1).saturating_sub(regions.len());
+    let Ok(()) = regions.reserve(more) else {
+        return Err(NoMemory);
+    };
     while regions.len() <= region {
-        let Ok(()) = regions.push(None) else {
+        let Ok(()) = regions.push(Places::new(alloc)) else {
             return Err(NoMemory);
         };
     }
     Ok(())
 }
 
-/// Chunks by their numbers, in regions of 256 in a row. There is a row of regions up to the last in
-/// which there was a chunk; one in which there is none takes the size of a pointer.
+/// Chunks by their numbers, in regions of 256 in a row, up to the last in which there was one. A region in which there is none takes
+/// no memory but its place in that row.
 #[derive(Drop)]
 pub(crate) struct Regions<A: Allocator + Copy> {
-    regions: Vec<Boxed<A>, A>,
+    regions: Vec<Region<A>, A>,
 }
 
 impl<A: Allocator + Copy> Model for Regions<A> {
-    ghost use Rattle.page_table.specs.Boxed.{all_unboxed};
     ghost use Rattle.page_table.specs.Table.{Regions as Seen};
 
     ghost Value = { Seen };
 
-    ghost view = { λ regions. all_unboxed regions.regions.items };
+    ghost view = { λ regions. regions.regions.items };
 }
 
 impl<A: Allocator + Copy> Regions<A> {
@@ -182,24 +68,9 @@ impl<A: Allocator + Copy> Regions<A> {
         ensures none { result ≡ None → chunk_of self.now number ≡ None }
     {
         match self.regions.get(number / REGION) {
-            Some(Some(region)) => region.get(number % REGION),
-            Some(None) => None,
+            Some(region) => region.get(number % REGION),
             None => None,
         }
-    }
-
-    // Puts a chunk in the place of one, which is the answer. Where there is none, the chunk is handed back.
-    fn exchange(&mut self, number: usize, chunk: Chunk<A>) -> Result<Chunk<A>, Chunk<A>>
-        ensures before { IfOk result (λ before. chunk_of self.old number ≡ Some before) }
-        ensures here { OnOk result (chunk_of self.new number ≡ Some chunk) }
-        ensures others { (q : ℕ) → q ≢ number → chunk_of self.new q ≡ chunk_of self.old q }
-        ensures none { OnErr result (chunk_of self.old number ≡ None) }
-        ensures same { OnErr result (chunk_of self.new number ≡ None) }
-    {
-        if number / REGION >= self.regions.len() {
-            return Err(chunk);
-        }
-        exchange_in(&mut self.regions[number / REGION], number % REGION, chunk)
     }
 
     /// Puts a page in a place of a chunk, in the place of one, which is the answer. Where there is no such chunk, or no page is
@@ -224,56 +95,54 @@ impl<A: Allocator + Copy> Regions<A> {
         if number / REGION >= self.regions.len() {
             return Err(page);
         }
-        exchange_page_in(
-            &mut self.regions[number / REGION],
-            number % REGION,
-            place,
-            page,
-        )
+        self.regions[number / REGION].exchange_page(number % REGION, place, page)
     }
 
-    /// Takes the chunk of a number out for a while (`give_back`). One without a page stands in its place.
-    pub(crate) fn lend(&mut self, number: usize) -> Option<Chunk<A>>
-        ensures lent { result ≡ chunk_of self.old number }
-        ensures there { IfSome result (λ chunk. IsSome (chunk_of self.new number)) }
-        ensures none { result ≡ None → chunk_of self.new number ≡ None }
-        ensures others { (q : ℕ) → q ≢ number → chunk_of self.new q ≡ chunk_of self.old q }
-    {
-        let empty = Places::new(*self.regions.allocator());
-        match self.exchange(number, empty) {
-            Ok(chunk) => Some(chunk),
-            Err(_) => None,
-        }
-    }
-
-    /// Puts the chunk of a number back (`lend`).
-    pub(crate) fn give_back(&mut self, number: usize, chunk: Chunk<A>)
+    /// Puts a page in a place of a chunk that is there, where none is stored.
+    pub(crate) fn add_page(
+        &mut self,
+        alloc: A,
+        number: usize,
+        place: usize,
+        page: Page<A>,
+    ) -> Result<(), NoMemory>
+        requires place { place < 256 }
         requires there { IsSome (chunk_of self.old number) }
-        ensures here { chunk_of self.new number ≡ Some chunk }
+        requires none { in_chunk (chunk_of self.old number) place ≡ None }
+        ensures here { OnOk result (in_chunk (chunk_of self.new number) place ≡ Some page) }
+        ensures places { (k : ℕ) → k ≢ place
+            → in_chunk (chunk_of self.new number) k ≡ in_chunk (chunk_of self.old number) k }
+        ensures others { (q : ℕ) → q ≢ number → chunk_of self.new q ≡ chunk_of self.old q }
+        ensures no_memory { OnErr result (in_chunk (chunk_of self.new number) place ≡ None) }
+    {
+        self.regions[number / REGION].add_page(alloc, number % REGION, place, page)
+    }
+
+    /// Pages of a chunk that is there are stored no longer, from a place on before an end, and are swept out. The answer is how many
+    /// are stored then.
+    pub(crate) fn remove_pages(
+        &mut self,
+        number: usize,
+        first: usize,
+        end: usize,
+        swept: &mut Swept<A>,
+    ) -> usize
+        requires end { end ≤ 256 }
+        requires there { IsSome (chunk_of self.old number) }
+        ensures here { (k : ℕ) → in_chunk (chunk_of self.new number) k
+            ≡ (if is_between first end k then None else in_chunk (chunk_of self.old number) k) }
+        ensures left { IfSome (chunk_of self.new number) (λ chunk. result ≡ taken chunk) }
         ensures others { (q : ℕ) → q ≢ number → chunk_of self.new q ≡ chunk_of self.old q }
     {
-        let Ok(_) = self.exchange(number, chunk) else {
-            unreachable!();
-        };
+        self.regions[number / REGION].remove_pages(number % REGION, first, end, swept)
     }
 
     // There is a place for a region.
-    fn lengthen(&mut self, region: usize) -> Result<(), NoMemory>
+    fn lengthen(&mut self, alloc: A, region: usize) -> Result<(), NoMemory>
         ensures long { OnOk result (region < length self.new) }
         ensures same { (q : ℕ) → chunk_of self.new q ≡ chunk_of self.old q }
     {
-        lengthen_to(&mut self.regions, region)
-    }
-
-    // There is a region of a number.
-    fn open(&mut self, alloc: A, region: usize) -> Result<(), NoMemory>
-        ensures there { OnOk result (IsSome (get_or self.new region None)) }
-        ensures same { (q : ℕ) → chunk_of self.new q ≡ chunk_of self.old q }
-    {
-        let Ok(()) = self.lengthen(region) else {
-            return Err(NoMemory);
-        };
-        open_in(alloc, &mut self.regions[region])
+        lengthen_to(alloc, &mut self.regions, region)
     }
 
     /// A chunk of whose number there is none is there from now on.
@@ -283,14 +152,17 @@ impl<A: Allocator + Copy> Regions<A> {
         ensures no_memory { OnErr result (chunk_of self.new number ≡ None) }
         ensures others { (q : ℕ) → q ≢ number → chunk_of self.new q ≡ chunk_of self.old q }
     {
-        let Ok(()) = self.open(alloc, number / REGION) else {
+        let Ok(()) = self.lengthen(alloc, number / REGION) else {
             return Err(NoMemory);
         };
-        add_in(&mut self.regions[number / REGION], number % REGION, chunk)
+        let Ok(()) = self.regions[number / REGION].add(number % REGION, chunk) else {
+            return Err(NoMemory);
+        };
+        Ok(())
     }
 
-    // Takes a chunk out of its region, which stays.
-    fn take_out(&mut self, number: usize) -> Option<Chunk<A>>
+    /// Takes the chunk of a number out.
+    pub(crate) fn take(&mut self, number: usize) -> Option<Chunk<A>>
         ensures before { result ≡ chunk_of self.old number }
         ensures here { chunk_of self.new number ≡ None }
         ensures others { (q : ℕ) → q ≢ number → chunk_of self.new q ≡ chunk_of self.old q }
@@ -298,27 +170,7 @@ impl<A: Allocator + Copy> Regions<A> {
         if number / REGION >= self.regions.len() {
             return None;
         }
-        take_in(&mut self.regions[number / REGION], number % REGION)
-    }
-
-    // A region goes where there is no chunk in it.
-    fn close(&mut self, region: usize)
-        ensures { (q : ℕ) → chunk_of self.new q ≡ chunk_of self.old q }
-    {
-        if region < self.regions.len() {
-            close_in(&mut self.regions[region]);
-        }
-    }
-
-    /// Takes the chunk of a number out. A region goes with its last chunk.
-    pub(crate) fn take(&mut self, number: usize) -> Option<Chunk<A>>
-        ensures before { result ≡ chunk_of self.old number }
-        ensures here { chunk_of self.new number ≡ None }
-        ensures others { (q : ℕ) → q ≢ number → chunk_of self.new q ≡ chunk_of self.old q }
-    {
-        let taken = self.take_out(number);
-        self.close(number / REGION);
-        taken
+        self.regions[number / REGION].take(number % REGION)
     }
 
     // The last chunk of a region, from a place on before an end.
@@ -327,15 +179,14 @@ impl<A: Allocator + Copy> Regions<A> {
         ensures begins { IfSome result (λ place. from ≤ place) }
         ensures ends { IfSome result (λ place. place < end) }
         ensures there { IfSome result (λ place.
-            IsSome (in_region (get_or self.now region None) place)) }
+            IsSome (get_or (get_or self.now region []) place None)) }
         ensures last { IfSome result (λ place. (k : ℕ) → place < k → k < end
-            → in_region (get_or self.now region None) k ≡ None) }
+            → get_or (get_or self.now region []) k None ≡ None) }
         ensures none { result ≡ None → (k : ℕ) → from ≤ k → k < end
-            → in_region (get_or self.now region None) k ≡ None }
+            → get_or (get_or self.now region []) k None ≡ None }
     {
         match self.regions.get(region) {
-            Some(Some(there)) => there.last(from, end),
-            Some(None) => None,
+            Some(there) => there.last(from, end),
             None => None,
         }
     }

@@ -1,7 +1,7 @@
 ghost use Rattle.std.specs.Prelude.{◌≡◌, ◌⊎◌, ◌++◌, ◌∷◌, [], length, IfOk};
 ghost use Rattle.page_table.specs.Swept.{nothing};
 
-use crate::chunks::Chunk;
+use crate::chunk::Chunk;
 use nbd_base::NoMemory;
 use payload::Page;
 use std::alloc::Allocator;

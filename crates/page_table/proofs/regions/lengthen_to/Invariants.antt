@@ -1,8 +1,9 @@
-use Rattle.std.proofs.Common.{◌≡◌, ◌+◌, ◌-◌, ℕ, None, length, get_or}
+use Rattle.std.proofs.Common.{◌≡◌, ◌+◌, ◌-◌, ℕ, length}
+use Rattle.page_table.specs.Table.{chunk_of}
 use Rattle.page_table.proofs.regions.lengthen_to.Given as goal
 
-abbrev pub invariant-loop-regions : goal.invariant-loop-regions
-invariant-loop-regions g l = (k : ℕ) → get_or l.regions.items k None ≡ get_or l.fn.regions.items k None
+abbrev pub invariant-loop-alloc : goal.invariant-loop-alloc
+invariant-loop-alloc g l = (q : ℕ) → chunk_of l.regions.items q ≡ chunk_of l.fn.regions.items q
 
-abbrev pub decreases-loop-regions : goal.decreases-loop-regions
-decreases-loop-regions g l = (l.region + 1) - length l.regions.items
+abbrev pub decreases-loop-alloc : goal.decreases-loop-alloc
+decreases-loop-alloc g l = (l.region + 1) - length l.regions.items

@@ -14,15 +14,16 @@ returns-then-upto-eq-CHUNK-clause-here g c =
 pub returns-then-left-eq0-clause-here : goal.returns-then-left-eq0-clause-here
 returns-then-left-eq0-clause-here g c = λ k is.
     let q : ℕ = c.args.chunk in
-    let places = c.remove_places-left.ensures in
-    places_all_gone c.self.inside.chunks c.remove_places-left.new.chunks c.remove_chunk-then-left-eq0.new.chunks q c.args.first c.args.end c.saturating_sub-from.result c.min-upto.result c.remove_places-left.result
+    let places = c.remove_pages-left.ensures in
+    places_all_gone c.self.inside.chunks c.remove_pages-left.new.self c.remove_chunk-then-left-eq0.new.chunks q c.args.first c.args.end
+    c.saturating_sub-from.result c.min-upto.result c.remove_pages-left.result
     c.saturating_sub-from.ensures c.min-upto.ensures places.others places.here places.left c.if-left-eq0.true c.remove_chunk-then-left-eq0.ensures.here k is
     ∙ ap (λ (all : Regions). if is_between c.args.first c.args.end k then None else in_chunks all k) c.self.view_is
 
 pub returns-else-left-eq0-clause-here : goal.returns-else-left-eq0-clause-here
 returns-else-left-eq0-clause-here g c = λ k is.
     let q : ℕ = c.args.chunk in
-    let places = c.remove_places-left.ensures in
-    places_gone c.self.inside.chunks c.remove_places-left.new.chunks q c.args.first c.args.end places.others c.saturating_sub-from.result c.min-upto.result
+    let places = c.remove_pages-left.ensures in
+    places_gone c.self.inside.chunks c.remove_pages-left.new.self q c.args.first c.args.end places.others c.saturating_sub-from.result c.min-upto.result
     c.saturating_sub-from.ensures c.min-upto.ensures places.here k is
     ∙ ap (λ (all : Regions). if is_between c.args.first c.args.end k then None else in_chunks all k) c.self.view_is

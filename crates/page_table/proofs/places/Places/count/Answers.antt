@@ -8,10 +8,10 @@ use Rattle.page_table.proofs.places.Places.count.Goals as goal
 pub returns-clause-count : goal.returns-clause-count
 returns-clause-count g c =
     let i = c.self.inside in
-    c.len.ensures ∙ sym (places_taken i.marks i.items c.self.invariant) ∙ ap (λ all. length (filter is_some all)) c.self.view_is
+    omega (arith, c.len.ensures, i.items.ok.0) ∙ sym (places_taken i.marks i.items.items c.self.invariant) ∙ ap (λ all. length (filter is_some all)) c.self.view_is
 
 pub returns-clause-few : goal.returns-clause-few
 returns-clause-few g c = omega (arith, c.len.ensures, c.self.invariant, count_le (is_set c.self.inside.marks) 0 256)
 
 pub returns-clause-long : goal.returns-clause-long
-returns-clause-long g c = ap length (sym c.self.view_is) ∙ places-length c.self.inside.marks c.self.inside.items
+returns-clause-long g c = ap length (sym c.self.view_is) ∙ places-length c.self.inside.marks c.self.inside.items.items

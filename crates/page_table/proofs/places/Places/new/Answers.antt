@@ -8,7 +8,7 @@ use Rattle.page_table.proofs.places.Places.new.Goals as goal
 
 pub invariant_of-result : goal.invariant_of-result
 invariant_of-result g c =
-    ap length c.new.ensures ∙ sym (count-none (is_set (0 ∷ 0 ∷ 0 ∷ 0 ∷ [])) 0 256 (λ k above below. zeros_set 4 k))
+    ap length c.new.ensures.items ∙ sym (count-none (is_set (0 ∷ 0 ∷ 0 ∷ 0 ∷ [])) 0 256 (λ k above below. zeros_set 4 k))
 
 pub returns : goal.returns
-returns g c = ap (in_places (0 ∷ 0 ∷ 0 ∷ 0 ∷ [])) c.new.ensures ∙ empty_places (0 ∷ 0 ∷ 0 ∷ 0 ∷ [])
+returns g c = ap (in_places (0 ∷ 0 ∷ 0 ∷ 0 ∷ [])) c.new.ensures.items ∙ empty_places (0 ∷ 0 ∷ 0 ∷ 0 ∷ [])

@@ -1,50 +1,44 @@
-use Rattle.std.proofs.Common.{◌≡◌, ◌∙◌, ◌/◌, ◌%◌, ◌<◌, ℕ, None, Some, length, set, sym, arith}
-use Rattle.page_table.specs.Boxed.{unboxed, all_unboxed}
-use Rattle.page_table.specs.Table.{chunk_of, in_region}
-use Rattle.page_table.proofs.RegionsLemmas.{seen_at, seen_there, seen_below, seen_others, put_here, ok_so, err_so}
+use Rattle.std.proofs.Common.{◌∙◌, ◌/◌, ◌<◌, ℕ, Some, length, sym, ap, arith}
+use Rattle.page_table.specs.Table.{Regions}
+use Rattle.page_table.proofs.RegionsLemmas.{before_is, set_is, set_others, all_are}
 use Rattle.page_table.proofs.regions.Regions.add.Goals as goal
 
-pub index_mut-requires : goal.index_mut-requires
-index_mut-requires g c =
-    let i = c.self.inside in
-    omega (arith, seen_below i.regions.items c.open.new.self c.self.view_is (c.args.number / 256) c.in-Ok.ensures.there, i.regions.ok.0)
-
-pub add_in-requires-clause-there : goal.add_in-requires-clause-there
-add_in-requires-clause-there g c =
-    let i = c.self.inside in
-    let r : ℕ = c.args.number / 256 in
-    let below : r < length i.regions.items = seen_below i.regions.items c.open.new.self c.self.view_is r c.in-Ok.ensures.there in
-    seen_there i.regions.items c.open.new.self c.self.view_is r c.index_mut.result.now below c.index_mut.ensures.value c.in-Ok.ensures.there
-
-pub add_in-requires-clause-none : goal.add_in-requires-clause-none
-add_in-requires-clause-none g c =
-    let i = c.self.inside in
+pub add-requires-clause-none : goal.add-requires-clause-none
+add-requires-clause-none g c =
     let n : ℕ = c.args.number in
-    let below : n / 256 < length i.regions.items = seen_below i.regions.items c.open.new.self c.self.view_is (n / 256) c.in-Ok.ensures.there in
-    sym (seen_at i.regions.items c.open.new.self c.self.view_is n c.index_mut.result.now below c.index_mut.ensures.value) ∙ c.in-Ok.ensures.same n ∙ c.requires.none
+    let rows : Regions = c.self.inside.regions.items in
+    let below : n / 256 < length rows = omega (arith, c.in-Ok.ensures.long, ap length c.self.view_is) in
+    sym (before_is rows c.lengthen.new.self c.self.view_is n c.index_mut.result.now below c.index_mut.ensures.value) ∙ c.in-Ok.ensures.same n ∙ c.requires.none
+
+pub returns-in_default-add-clause-no_memory : goal.returns-in_default-add-clause-no_memory
+returns-in_default-add-clause-no_memory g c =
+    let n : ℕ = c.args.number in
+    let rows : Regions = c.self.inside.regions.items in
+    let below : n / 256 < length rows = omega (arith, c.in-Ok.ensures.long, ap length c.self.view_is) in
+    all_are rows c.lengthen.new.self c.self.view_is n c.index_mut.result.now below c.index_mut.ensures.value c.add.new.self c.in_default-add.ensures.same n
+    ∙ c.in-Ok.ensures.same n ∙ c.requires.none
+
+pub returns-in_default-add-clause-others : goal.returns-in_default-add-clause-others
+returns-in_default-add-clause-others g c = λ q apart.
+    let n : ℕ = c.args.number in
+    let rows : Regions = c.self.inside.regions.items in
+    let below : n / 256 < length rows = omega (arith, c.in-Ok.ensures.long, ap length c.self.view_is) in
+    all_are rows c.lengthen.new.self c.self.view_is n c.index_mut.result.now below c.index_mut.ensures.value c.add.new.self c.in_default-add.ensures.same q
+    ∙ c.in-Ok.ensures.same q
 
 pub returns-clause-here : goal.returns-clause-here
 returns-clause-here g c =
-    let i = c.self.inside in
     let n : ℕ = c.args.number in
-    let below : n / 256 < length i.regions.items = seen_below i.regions.items c.open.new.self c.self.view_is (n / 256) c.in-Ok.ensures.there in
-    let after = c.add_in.new.region in
-    ok_so c.add_in.result (in_region (unboxed after) (n % 256) ≡ Some c.args.chunk) (chunk_of (all_unboxed (set i.regions.items (n / 256) after)) n ≡ Some c.args.chunk)
-    (λ is. put_here i.regions.items n after below ∙ is) c.add_in.ensures.here
-
-pub returns-clause-no_memory : goal.returns-clause-no_memory
-returns-clause-no_memory g c =
-    let i = c.self.inside in
-    let n : ℕ = c.args.number in
-    let below : n / 256 < length i.regions.items = seen_below i.regions.items c.open.new.self c.self.view_is (n / 256) c.in-Ok.ensures.there in
-    let after = c.add_in.new.region in
-    err_so c.add_in.result (in_region (unboxed after) (n % 256) ≡ None) (chunk_of (all_unboxed (set i.regions.items (n / 256) after)) n ≡ None)
-    (λ is. put_here i.regions.items n after below ∙ is) c.add_in.ensures.no_memory
+    let rows : Regions = c.self.inside.regions.items in
+    let below : n / 256 < length rows = omega (arith, c.in-Ok.ensures.long, ap length c.self.view_is) in
+    set_is rows c.lengthen.new.self c.self.view_is n c.index_mut.result.now below c.index_mut.ensures.value c.add.new.self (Some c.args.chunk)
+    c.add.ensures.long c.in-Ok-add.ensures.added
 
 pub returns-clause-others : goal.returns-clause-others
 returns-clause-others g c = λ q apart.
-    let i = c.self.inside in
     let n : ℕ = c.args.number in
-    let below : n / 256 < length i.regions.items = seen_below i.regions.items c.open.new.self c.self.view_is (n / 256) c.in-Ok.ensures.there in
-    seen_others i.regions.items c.open.new.self c.self.view_is n c.index_mut.result.now c.add_in.new.region below c.index_mut.ensures.value c.add_in.ensures.others q apart
+    let rows : Regions = c.self.inside.regions.items in
+    let below : n / 256 < length rows = omega (arith, c.in-Ok.ensures.long, ap length c.self.view_is) in
+    set_others rows c.lengthen.new.self c.self.view_is n c.index_mut.result.now below c.index_mut.ensures.value c.add.new.self (Some c.args.chunk)
+    c.in-Ok-add.ensures.added q apart
     ∙ c.in-Ok.ensures.same q
