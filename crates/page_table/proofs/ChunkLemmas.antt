@@ -28,13 +28,13 @@ module _ {X : Type 0} (all : List (Option X)) (n : ℕ) (none : all ≡ replicat
   none_kept k = ap (λ (x : Option X). set all k x) (sym (none_at k)) ∙ set-get_or all k None
 
 -- how many are taken
-pub none_counted : (X : Type 0) (n : ℕ) → length (filter is_some (replicate {A = Option X} n None)) ≡ 0
-none_counted X zero = refl
-none_counted X (suc n) = none_counted X n
+pub nones_counted : (X : Type 0) (n : ℕ) → length (filter is_some (replicate {A = Option X} n None)) ≡ 0
+nones_counted X zero = refl
+nones_counted X (suc n) = nones_counted X n
 
 pub one_counted : {X : Type 0} (n at : ℕ) (x : X) → at < n → length (filter is_some (set (replicate n None) at (Some x))) ≡ 1
 one_counted zero at x below = absurd (omega arith)
-one_counted {X} (suc n) zero x below = ap suc (none_counted X n)
+one_counted {X} (suc n) zero x below = ap suc (nones_counted X n)
 one_counted (suc n) (suc at) x below = one_counted n at x (omega arith)
 
 -- one place is taken

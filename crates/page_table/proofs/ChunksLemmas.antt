@@ -1,13 +1,12 @@
 -- Chunks after one of them has changed.
 use Rattle.std.proofs.Common.{◌≡◌, ◌≢◌, ℕ, ◌+◌, ◌-◌, ◌*◌, ◌/◌, ◌%◌, ◌<◌, ◌≤◌, inl, inr, Bool, true, false, cond, zero, suc, set, min, is_some, IsSome, IfSome, Result, Ok, Err, OnOk, OnErr, Option, None, Some, List, [], ◌∷◌, length, get_or, replicate, if◌then◌else◌, refl, sym, ap, subst, ◌∙◌, arith}
 use Rattle.std.proofs.lemmas.Bool.{cases_eq}
-use Rattle.std.proofs.lemmas.List.{length-replicate, get_or-set_same, get_or-set_other}
 use Rattle.number_sets.specs.Bits.{is_between}
 use Rattle.number_sets.proofs.MarksLemmas.{if_none}
 use Rattle.page_table.specs.Table.{Chunk, Regions, in_chunk, chunk_of, in_chunks, is_kept, taken, AreTaken}
 use Rattle.number_sets.proofs.CountLemmas.{count_of, count-zero, count-cons, count-none, count_list, count_some}
 use Rattle.number_sets.proofs.RangeLemmas.{between_yes, between_part}
-use Rattle.page_table.proofs.ChunkLemmas.{nones_at}
+use Rattle.page_table.proofs.ChunkLemmas.{one_here, one_other}
 use Rattle.page_table.proofs.RegionsLemmas.{none_counted, some_below, ok_so, err_so}
 
 -- what follows from both
@@ -172,23 +171,21 @@ module _ {T E : Type 0} (r : Result T E) (old new : Option Chunk) (place : ℕ) 
 -- A chunk of one page comes where there was none, or does not.
 module _ {T E : Type 0} (r : Result T E) (old new : Option Chunk) (chunk : Chunk) (n place : ℕ) (page : List ℕ) (below : place < n) (held : chunk ≡ set (replicate n None) place (Some page))
     (was : old ≡ None) (here : OnOk r (new ≡ Some chunk)) (gone : OnErr r (new ≡ None)) where
-  pub one_here : OnOk r (in_chunk new place ≡ Some page)
-  one_here =
+  pub added_here : OnOk r (in_chunk new place ≡ Some page)
+  added_here =
       ok_so r (new ≡ Some chunk) (in_chunk new place ≡ Some page)
-      (λ is. ap (λ (c : Option Chunk). in_chunk c place) is ∙ ap (λ (c : Chunk). get_or c place None) held
-      ∙ get_or-set_same (replicate n None) place (Some page) None (omega (arith, below, length-replicate {A = Option (List ℕ)} n None))) here
+      (λ is. ap (λ (c : Option Chunk). in_chunk c place) is ∙ one_here chunk n place page held place refl below) here
 
-  pub one_gone : OnErr r (in_chunk new place ≡ None)
-  one_gone = err_so r (new ≡ None) (in_chunk new place ≡ None) (ap (λ (c : Option Chunk). in_chunk c place)) gone
+  pub added_gone : OnErr r (in_chunk new place ≡ None)
+  added_gone = err_so r (new ≡ None) (in_chunk new place ≡ None) (ap (λ (c : Option Chunk). in_chunk c place)) gone
 
-  pub one_others : (k : ℕ) → k ≢ place → in_chunk new k ≡ in_chunk old k
-  one_others k apart =
+  pub added_others : (k : ℕ) → k ≢ place → in_chunk new k ≡ in_chunk old k
+  added_others k apart =
       either_way r (new ≡ Some chunk) (new ≡ None) (in_chunk new k ≡ in_chunk old k)
-      (λ is. ap (λ (c : Option Chunk). in_chunk c k) is ∙ ap (λ (c : Chunk). get_or c k None) held
-      ∙ get_or-set_other (replicate n None) place k (Some page) None apart ∙ nones_at n k ∙ ap (λ (c : Option Chunk). in_chunk c k) (sym was))
+      (λ is. ap (λ (c : Option Chunk). in_chunk c k) is ∙ one_other chunk n place page held k apart ∙ ap (λ (c : Option Chunk). in_chunk c k) (sym was))
       (λ none. ap (λ (c : Option Chunk). in_chunk c k) (none ∙ sym was)) here gone
 
-  pub one_taken : IfSome new (λ chunk. 0 < taken chunk)
-  one_taken =
+  pub added_taken : IfSome new (λ chunk. 0 < taken chunk)
+  added_taken =
       either_way r (in_chunk new place ≡ Some page) (new ≡ None) (IfSome new (λ chunk. 0 < taken chunk)) (taken_there new place page)
-      (if_none new (λ chunk. 0 < taken chunk)) one_here gone
+      (if_none new (λ chunk. 0 < taken chunk)) added_here gone

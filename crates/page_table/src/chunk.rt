@@ -15,9 +15,9 @@ use std::mem;
 enum Pages<A: Allocator + Copy> {
     /// None is stored.
     Nowhere,
-    /// One was stored alone since, in a place.
+    /// One alone, in a place.
     One(u8, Page<A>),
-    /// There were several.
+    /// Several, or what is left of them.
     Many(Places<Page<A>, A>),
 }
 

@@ -1,7 +1,7 @@
 use Rattle.std.proofs.Common.{◌≡◌, ◌∙◌, ◌/◌, ◌%◌, ◌<◌, ℕ, Some, None, refl, sym, ap, arith}
 use Rattle.page_table.specs.Table.{Chunk, Regions, chunk_of, in_chunk, in_chunks}
 use Rattle.page_table.proofs.RegionsLemmas.{ok_so, err_so}
-use Rattle.page_table.proofs.ChunksLemmas.{table_is, other_places, taken_found, taken_after, taken_added, one_here, one_gone, one_others, one_taken}
+use Rattle.page_table.proofs.ChunksLemmas.{table_is, other_places, taken_found, taken_after, taken_added, added_here, added_gone, added_others, added_taken}
 use Rattle.page_table.proofs.chunks.Chunks.add.Goals as goal
 
 pub add_page-requires-clause-none : goal.add_page-requires-clause-none
@@ -51,7 +51,7 @@ invariant_of-self-in-None g c =
     let old : Regions = c.self.inside.chunks in
     let new : Regions = c.add.new.self in
     taken_after old new q c.add.ensures.others c.self.invariant
-    (one_taken c.add.result (chunk_of old q) (chunk_of new q) c.holding.result 256 place c.args.page below c.holding.ensures (c.in-None.ensures.none refl)
+    (added_taken c.add.result (chunk_of old q) (chunk_of new q) c.holding.result 256 place c.args.page below c.holding.ensures (c.in-None.ensures.none refl)
     c.add.ensures.here c.add.ensures.no_memory)
 
 pub returns-in-None-clause-here : goal.returns-in-None-clause-here
@@ -63,7 +63,7 @@ returns-in-None-clause-here g c =
     let old : Regions = c.self.inside.chunks in
     let new : Regions = c.add.new.self in
     ok_so c.add.result (in_chunk (chunk_of new q) place ≡ Some c.args.page) (in_chunks new n ≡ Some c.args.page) (λ is. table_is new n q refl ∙ is)
-    (one_here c.add.result (chunk_of old q) (chunk_of new q) c.holding.result 256 place c.args.page below c.holding.ensures (c.in-None.ensures.none refl)
+    (added_here c.add.result (chunk_of old q) (chunk_of new q) c.holding.result 256 place c.args.page below c.holding.ensures (c.in-None.ensures.none refl)
     c.add.ensures.here c.add.ensures.no_memory)
 
 pub returns-in-None-clause-others : goal.returns-in-None-clause-others
@@ -75,7 +75,7 @@ returns-in-None-clause-others g c = λ k apart.
     let old : Regions = c.self.inside.chunks in
     let new : Regions = c.add.new.self in
     other_places old new q c.add.ensures.others n refl
-    (one_others c.add.result (chunk_of old q) (chunk_of new q) c.holding.result 256 place c.args.page below c.holding.ensures (c.in-None.ensures.none refl)
+    (added_others c.add.result (chunk_of old q) (chunk_of new q) c.holding.result 256 place c.args.page below c.holding.ensures (c.in-None.ensures.none refl)
     c.add.ensures.here c.add.ensures.no_memory) k apart
     ∙ ap (λ (all : Regions). in_chunks all k) c.self.view_is
 
@@ -88,5 +88,5 @@ returns-in-None-clause-no_memory g c =
     let old : Regions = c.self.inside.chunks in
     let new : Regions = c.add.new.self in
     err_so c.add.result (in_chunk (chunk_of new q) place ≡ None) (in_chunks new n ≡ None) (λ is. table_is new n q refl ∙ is)
-    (one_gone c.add.result (chunk_of old q) (chunk_of new q) c.holding.result 256 place c.args.page below c.holding.ensures (c.in-None.ensures.none refl)
+    (added_gone c.add.result (chunk_of old q) (chunk_of new q) c.holding.result 256 place c.args.page below c.holding.ensures (c.in-None.ensures.none refl)
     c.add.ensures.here c.add.ensures.no_memory)
