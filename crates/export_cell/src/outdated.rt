@@ -4,6 +4,7 @@ ghost use Rattle.page_table.specs.Swept.{nothing};
 
 use export_store::Swept;
 use nbd_base::NoMemory;
+use payload::Spares;
 use std::alloc::Allocator;
 
 /// What writes and zeros have put others in place of: in an export as it is, and in its base.
@@ -24,12 +25,12 @@ impl<A: Allocator + Copy> Outdated<A> {
         Ok(Outdated { live, base })
     }
 
-    /// Lets all go. The memory of pages that nobody else holds is given back.
-    pub fn let_go(&mut self)
+    /// Lets all go. The memory of pages that nobody else shows is spare, as far as there are places (`Swept::recycle`).
+    pub fn recycle(&mut self, spares: &mut Spares<A>)
         ensures live { self.new.live ≡ nothing }
         ensures base { self.new.base ≡ nothing }
     {
-        self.live.let_go();
-        self.base.let_go();
+        self.live.recycle(spares);
+        self.base.recycle(spares);
     }
 }

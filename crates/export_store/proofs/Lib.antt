@@ -1,8 +1,9 @@
-pub mod PageLemmas
-pub mod ImageLemmas
-pub mod PieceLemmas
-pub mod RangeLemmas
-pub mod ZeroLemmas
 pub mod FlatLemmas
 pub mod HeldLemmas
+pub mod ImageLemmas
+pub mod PageLemmas
+pub mod PieceLemmas
+pub mod RangeLemmas
 pub mod SameLemmas
+pub mod WholeLemmas
+pub mod ZeroLemmas

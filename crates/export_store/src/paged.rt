@@ -14,7 +14,7 @@ use crate::zeroing::{emptied_pages, whole_pages, zero_pages};
 use nbd_base::NoMemory;
 use number_sets::{BITMAP, HeldZeros};
 use page_table::{CHUNK, Swept, Table};
-use payload::{PAGE, Page, Payload};
+use payload::{PAGE, Page, Payload, Spares};
 use std::alloc::Allocator;
 use std::marker::Model;
 use std::mem;
@@ -213,6 +213,7 @@ impl<A: Allocator + Copy> Paged<A> {
     // What `put_over` of a piece makes of an old page: one that is offered, where it is the same, and else a page anew.
     fn put_over(
         &self,
+        spares: &mut Spares<A>,
         number: usize,
         piece: &Payload<A>,
         old: &Page<A>,
@@ -231,13 +232,14 @@ impl<A: Allocator + Copy> Paged<A> {
         if let Some(page) = offered {
             return Ok(page);
         }
-        let page = piece.put_over(self.alloc, old, start, from, count)?;
+        let page = piece.put_over(spares, old, start, from, count)?;
         Ok(page)
     }
 
     // A page once a piece is written that has some of its bytes.
     fn page_after(
         &self,
+        spares: &mut Spares<A>,
         number: usize,
         offset: usize,
         piece: &Payload<A>,
@@ -259,12 +261,17 @@ impl<A: Allocator + Copy> Paged<A> {
         } else {
             self.page_of(number)?
         };
-        let page = self.put_over(number, piece, &old, start, from, count)?;
+        let page = self.put_over(spares, number, piece, &old, start, from, count)?;
         Ok(page)
     }
 
     // Each page that has some of a piece, once that is written.
-    fn pages_after(&self, offset: usize, piece: &Payload<A>) -> Result<Vec<Page<A>, A>, NoMemory>
+    fn pages_after(
+        &self,
+        spares: &mut Spares<A>,
+        offset: usize,
+        piece: &Payload<A>,
+    ) -> Result<Vec<Page<A>, A>, NoMemory>
         requires some { 0 < length piece.now }
         requires within { offset + length piece.now ≤ length (image_of self.now) }
         ensures { IfOk result (λ pages. pages.items
@@ -275,7 +282,7 @@ impl<A: Allocator + Copy> Paged<A> {
         let end = self.end_of(offset, piece.len()).div_ceil(PAGE);
         let mut pages = Vec::with_capacity(self.alloc, end - first)?;
         for number in first..end {
-            let page = self.page_after(number, offset, piece)?;
+            let page = self.page_after(spares, number, offset, piece)?;
             pages.push(page)?;
         }
         Ok(pages)
@@ -308,8 +315,35 @@ impl<A: Allocator + Copy> Paged<A> {
         Ok(())
     }
 
+    // Takes out the memory for pages that it makes, until `take_back`.
+    fn lend(&mut self) -> Spares<A>
+        ensures { self.new ≡ self.old }
+    {
+        self.swept.lend(self.alloc)
+    }
+
+    fn take_back(&mut self, spares: Spares<A>)
+        ensures { self.new ≡ self.old }
+    {
+        self.swept.take_back(spares);
+    }
+
+    // Lets a payload go that was written. The memory of its pages is for those that the image makes.
+    fn take_apart(&mut self, piece: Payload<A>)
+        ensures { self.new ≡ self.old }
+    {
+        let mut spares = self.lend();
+        piece.recycle(&mut spares);
+        self.take_back(spares);
+    }
+
     // Writes a piece that lies in one page.
-    fn write_one(&mut self, offset: usize, piece: &Payload<A>) -> Result<(), NoMemory>
+    fn write_one(
+        &mut self,
+        spares: &mut Spares<A>,
+        offset: usize,
+        piece: &Payload<A>,
+    ) -> Result<(), NoMemory>
         requires one_page { offset % 4096 + length piece.now ≤ 4096 }
         requires some { 0 < length piece.now }
         requires within { offset + length piece.now ≤ length (image_of self.old) }
@@ -320,7 +354,7 @@ impl<A: Allocator + Copy> Paged<A> {
         ensures no_memory { OnErr result (image_of self.new ≡ image_of self.old) }
     {
         let number = offset / PAGE;
-        let page = self.page_after(number, offset, piece)?;
+        let page = self.page_after(spares, number, offset, piece)?;
         self.replace(number, page)?;
         Ok(())
     }
@@ -334,6 +368,7 @@ impl<A: Allocator + Copy> Paged<A> {
         ensures written { image_of self.new
             ≡ overwritten (image_of self.old) offset (length page) page }
         ensures held { (k : ℕ) → is_held self.new k ≡ is_held self.old k }
+        ensures stored { (k : ℕ) → is_stored self.old k ≡ true → is_stored self.new k ≡ true }
     {
         let _end = self.end_of(offset, PAGE);
         let Ok(()) = self.replace(offset / PAGE, page) else {
@@ -342,7 +377,12 @@ impl<A: Allocator + Copy> Paged<A> {
     }
 
     // Writes a piece, wherever it lies. No page changes before each is stored and the one in its place is ready.
-    fn write_many(&mut self, offset: usize, piece: &Payload<A>) -> Result<(), NoMemory>
+    fn write_many(
+        &mut self,
+        spares: &mut Spares<A>,
+        offset: usize,
+        piece: &Payload<A>,
+    ) -> Result<(), NoMemory>
         requires some { 0 < length piece.now }
         requires within { offset + length piece.now ≤ length (image_of self.old) }
         ensures written { OnOk result (image_of self.new
@@ -352,8 +392,78 @@ impl<A: Allocator + Copy> Paged<A> {
         ensures no_memory { OnErr result (image_of self.new ≡ image_of self.old) }
     {
         self.store_all(offset, piece.len())?;
-        let pages = self.pages_after(offset, piece)?;
+        let pages = self.pages_after(spares, offset, piece)?;
         self.put_all(offset, piece, pages)
+    }
+
+    // Writes a piece, and makes pages by spare memory.
+    fn write_by(
+        &mut self,
+        spares: &mut Spares<A>,
+        offset: usize,
+        piece: &Payload<A>,
+    ) -> Result<(), NoMemory>
+        requires { offset + length piece.now ≤ length (image_of self.old) }
+        ensures written { OnOk result (image_of self.new
+            ≡ overwritten (image_of self.old) offset (length piece.now) piece.now) }
+        ensures held { OnOk result ((k : ℕ) → is_held self.new k
+            ≡ (is_held self.old k || has_byte_of offset (length piece.now) k)) }
+        ensures no_memory { OnErr result (image_of self.new ≡ image_of self.old) }
+    {
+        if piece.is_empty() {
+            return Ok(());
+        }
+        if in_page(offset, piece.len()) == piece.len() {
+            return self.write_one(spares, offset, piece);
+        }
+        self.write_many(spares, offset, piece)
+    }
+
+    // Puts pages of so many bytes in the place of those that are stored from a position on. It takes no memory.
+    fn put_whole(&mut self, offset: usize, count: usize, mut pages: Vec<Page<A>, A>)
+        requires paged { offset % 4096 ≡ 0 }
+        requires whole { AreWhole pages.items }
+        requires counted { count ≡ length (concat pages.items) }
+        requires within { offset + count ≤ length (image_of self.old) }
+        requires stored { (j : ℕ) → j < length pages.items
+            → is_stored self.old (offset / 4096 + j) ≡ true }
+        ensures written { image_of self.new
+            ≡ overwritten (image_of self.old) offset count (concat pages.items) }
+        ensures held { (k : ℕ) → is_held self.new k ≡ is_held self.old k }
+    {
+        let mut at = self.end_of(offset, count);
+        while let Some(page) = pages.pop() {
+            at -= PAGE;
+            self.put_page(at, page);
+        }
+    }
+
+    // Writes a piece from the beginning of a page on, and takes its pages where nobody else has them. Where memory is refused the piece
+    // is as it was.
+    fn put_several(&mut self, offset: usize, piece: &mut Payload<A>) -> Result<(), NoMemory>
+        requires paged { offset % 4096 ≡ 0 }
+        requires within { offset + length piece.old ≤ length (image_of self.old) }
+        ensures written { OnOk result (image_of self.new
+            ≡ overwritten (image_of self.old) offset (length piece.old) piece.old) }
+        ensures held { OnOk result ((k : ℕ) → is_held self.new k
+            ≡ (is_held self.old k || has_byte_of offset (length piece.old) k)) }
+        ensures no_memory { OnErr result ((image_of self.new ≡ image_of self.old)
+            × (piece.new ≡ piece.old)) }
+    {
+        let count = piece.len();
+        self.store_all(offset, count)?;
+        match mem::replace(piece, Payload::new()).into_whole_pages() {
+            Ok(pages) => {
+                self.put_whole(offset, count, pages);
+                Ok(())
+            }
+            Err(back) => {
+                *piece = back;
+                self.write(offset, piece)?;
+                self.take_apart(mem::replace(piece, Payload::new()));
+                Ok(())
+            }
+        }
     }
 
     // Makes a range zero, and holds its pages. It has all its memory before a byte changes.
@@ -447,13 +557,10 @@ impl<A: Allocator + Copy> Image for Paged<A> {
             ≡ (is_held self.old k || has_byte_of offset (length piece.now) k)) }
         ensures no_memory { OnErr result (image_of self.new ≡ image_of self.old) }
     {
-        if piece.is_empty() {
-            return Ok(());
-        }
-        if in_page(offset, piece.len()) == piece.len() {
-            return self.write_one(offset, piece);
-        }
-        self.write_many(offset, piece)
+        let mut spares = self.lend();
+        let written = self.write_by(&mut spares, offset, piece);
+        self.take_back(spares);
+        written
     }
 
     fn put(&mut self, offset: usize, piece: &mut Payload<A>) -> Result<(), NoMemory>
@@ -466,7 +573,9 @@ impl<A: Allocator + Copy> Image for Paged<A> {
             × (piece.new ≡ piece.old)) }
     {
         if offset % PAGE != 0 || !self.stores(offset / PAGE) {
-            return self.write(offset, piece);
+            self.write(offset, piece)?;
+            self.take_apart(mem::replace(piece, Payload::new()));
+            return Ok(());
         }
         match mem::replace(piece, Payload::new()).into_page() {
             Ok(page) => {
@@ -475,7 +584,7 @@ impl<A: Allocator + Copy> Image for Paged<A> {
             }
             Err(several) => {
                 *piece = several;
-                self.write(offset, piece)
+                self.put_several(offset, piece)
             }
         }
     }

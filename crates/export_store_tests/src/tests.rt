@@ -1,6 +1,6 @@
 use export_store::{Flat, Image, Paged, Swept};
 use nbd_base::NoMemory;
-use payload::Payload;
+use payload::{Payload, Spares};
 use refusing::Refusing;
 use std::alloc::{Allocator, Global};
 

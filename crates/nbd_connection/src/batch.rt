@@ -9,11 +9,13 @@ use crate::under_way::Admitted;
 use export_cell::Outdated;
 use nbd_base::NoMemory;
 use nbd_service::policy::{
-    OUTDATED_PAGES, QUEUED_WORK, brought_by, ends_hold, performs_itself, size_of, waiting_until,
+    OUTDATED_PAGES, QUEUED_WORK, SPARES_OF_A_SESSION, brought_by, ends_hold, performs_itself,
+    size_of, waiting_until,
 };
 use nbd_service::{Asked, Disks, RequestSize, Service, Waiting, Wakeups, prefetch};
 use nbd_session::{Counted, Frame, FrameReader};
 use nbd_wire::{Request, RequestHead};
+use payload::Spares;
 use server_lock::Pass;
 use session_turns::{Arrival, Stop, Turn, hand_in, offer_held, read_ready};
 use std::alloc::Global;
@@ -30,6 +32,8 @@ pub struct RequestSource<'a, 'b, R: Wait + time::Clock> {
     /// What a hold took out of the images, to be let go behind it. Empty otherwise.
     pub outdated: Outdated<Global>,
     pub room: HeapRoom,
+    /// What is kept of it for the next WRITEs, while the frames have none.
+    pub spares: Spares<Global>,
 }
 
 /// What a reader offers first under a hold.
@@ -136,11 +140,15 @@ impl<'a, 'b, R: Wait + time::Clock> RequestSource<'a, 'b, R> {
         reader: Counted<Feed<'a, 'b, R>>,
         wakeups: Wakeups,
     ) -> Result<RequestSource<'a, 'b, R>, NoMemory> {
+        let mut frames = FrameReader::new(alloc, reader);
+        let mut spares = Spares::with_places(alloc, SPARES_OF_A_SESSION)?;
+        frames.exchange(&mut spares);
         Ok(RequestSource {
-            frames: FrameReader::new(alloc, reader),
+            frames,
             wakeups,
             outdated: Outdated::with_room(alloc, OUTDATED_PAGES)?,
             room: HeapRoom::new(),
+            spares,
         })
     }
 
@@ -188,6 +196,20 @@ impl<'a, 'b, R: Wait + time::Clock> RequestSource<'a, 'b, R> {
         disks.catch_up(link.session.export, QUEUED_WORK);
         disks.sweep(link.session.export, &mut self.outdated);
         batch
+    }
+
+    /// Lets go what a hold took out of the images, and keeps the memory of its pages for WRITEs to come.
+    pub fn recycle<L: Ledger>(&mut self, rt: &R, service: &Service<L>, brought: u64) {
+        self.frames.exchange(&mut self.spares);
+        self.outdated.recycle(&mut self.spares);
+        service.spares.level(rt, &mut self.spares, brought);
+        self.frames.exchange(&mut self.spares);
+    }
+
+    /// Passes on all spare pages.
+    pub fn give_spares<L: Ledger>(&mut self, rt: &R, service: &Service<L>) {
+        self.frames.exchange(&mut self.spares);
+        service.spares.take_all(rt, &mut self.spares);
     }
 
     /// What follows a turn under the same hold: it performs the request, unless that is a READ of long data, and takes its reply,

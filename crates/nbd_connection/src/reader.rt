@@ -52,6 +52,7 @@ pub fn read_requests<'s, E, L: Ledger, R: Wait + Sync + time::Clock>(
             Turn::Ended => break,
         }
     }
+    source.give_spares(rt, service);
     link.replies.ring();
 }
 
@@ -180,7 +181,7 @@ fn hold_once<L: Ledger, R: Wait + time::Clock>(
     let batch = source.hand_in_batch(&mut *disks, service, link, pass, outlet, offer, most, &held);
     service.let_go(rt, disks, held.now());
     link.note_arrived(batch.arrived);
-    source.outdated.let_go();
+    source.recycle(rt, service, batch.brought);
     source.room.note(service.alloc, batch.brought);
     link.note_prefetched(batch.prefetched);
     source.wakeups.wake(&service.bells);

@@ -53,6 +53,14 @@ ends_hold_by sizes.LongZero = true
 abbrev pub batch_by : ℕ → ℕ
 batch_by wait = if nat_lt 1000000 wait then 16 else 8
 
+-- 32 pages, and twice as many as the data fill, up to 512; none where none came
+abbrev pub spares_by : ℕ → ℕ
+spares_by brought = if brought == 0 then 0 else 32 + 2 * min (brought / 4096) 240
+
+-- more than 64 beyond what is wanted, or less than half of it
+abbrev pub is_uneven_by : ℕ → ℕ → Bool
+is_uneven_by have wanted = nat_lt wanted (have - 64) || nat_lt have (wanted / 2)
+
 -- ---- who goes first
 
 -- twice as many reads, 8 at least and 64 at most

@@ -1,7 +1,7 @@
 //! The numbers of the serving code, and the rules over values that its threads follow. `specs/Policy.antt` says each rule.
 ghost use Rattle.std.specs.Prelude.{◌≡◌, ◌+◌, ◌-◌, ◌*◌, ◌<◌, ◌≤◌, ◌^◌, min, option_map};
 ghost use Rattle.std.specs.Duration.{as_nanos};
-ghost use Rattle.nbd_service.specs.Policy.{accept_may_pass_by, asks_for_turn_by, backlog_by, batch_by, bell_by, cost_by, data_by, ends_hold_by, handshake_wait_by, has_more_by, holds_back_by, is_alone_by, is_due_by, is_forgotten_by, is_network_fault_by, is_shortage_by, is_stalled_by, is_zero_by, keeps_by, keeps_up_by, load_by, makes_room_by, next_skip_by, patience_by, performs_by, reads_ahead_by, short_pieces_by, size_by, still_defers_by, still_retunes_by, still_waits_for_line_by, suits_reader_by, waiting_by, wakes_worker_by, carried_by, yields_by, yields_behind_look_by};
+ghost use Rattle.nbd_service.specs.Policy.{accept_may_pass_by, asks_for_turn_by, backlog_by, batch_by, bell_by, cost_by, data_by, ends_hold_by, handshake_wait_by, has_more_by, holds_back_by, is_alone_by, is_due_by, is_forgotten_by, is_network_fault_by, is_shortage_by, is_stalled_by, is_uneven_by, is_zero_by, keeps_by, keeps_up_by, load_by, makes_room_by, next_skip_by, patience_by, performs_by, reads_ahead_by, short_pieces_by, size_by, spares_by, still_defers_by, still_retunes_by, still_waits_for_line_by, suits_reader_by, waiting_by, wakes_worker_by, carried_by, yields_by, yields_behind_look_by};
 
 use crate::request_size::{Load, RequestSize};
 use crate::waiting::Waiting;
@@ -114,6 +114,12 @@ pub const PERFORMED_FOR_ONE: usize = 2;
 
 /// How many steps a request has in its export's log.
 pub const STEPS_OF_A_REQUEST: usize = 4;
+
+/// How many spare pages a session has places for: for those that it is to have at most, and what one hold takes out.
+pub const SPARES_OF_A_SESSION: usize = 1_024;
+
+/// How many spare pages there are at most that belong to no session: 64 MiB.
+pub const MOST_SPARES: usize = 16_384;
 
 /// How many pages that writes replaced a reader lets go behind a hold, of the export and of its base.
 pub const OUTDATED_PAGES: usize = 256;
@@ -394,6 +400,24 @@ pub fn holds_back(under_way: u64, session_bytes: u64, waiting_bytes: u64) -> boo
     ensures { result ≡ holds_back_by under_way session_bytes waiting_bytes }
 {
     under_way > 0 && (session_bytes > SESSION_BYTES || waiting_bytes > WAITING_WRITE_BYTES)
+}
+
+/// How many spare pages a session is to have whose WRITEs just brought so many bytes: enough for as many again.
+pub fn spares_wanted(brought: u64) -> usize
+    ensures { result ≡ spares_by brought }
+{
+    if brought == 0 {
+        return 0;
+    }
+    let pages = (brought / 4096).min(240) as usize;
+    32 + 2 * pages
+}
+
+/// Whether a session passes on spare pages, or takes some: it has many more than are wanted, or fewer than half of them.
+pub fn is_uneven(have: usize, wanted: usize) -> bool
+    ensures { result ≡ is_uneven_by have wanted }
+{
+    wanted < have.saturating_sub(64) || have < wanted / 2
 }
 
 /// How many bytes of data a request brings.

@@ -8,6 +8,7 @@ use crate::passes::PassPool;
 use crate::policy::{KEPT_BLOCK_BYTES, is_alone, may_read_ahead, still_defers};
 use crate::retunes::Retunes;
 use crate::running_clock::RunningClock;
+use crate::spare_store::SpareStore;
 use crate::spin::SpinLadder;
 use crate::turns::Turns;
 use eligibility::Heaped;
@@ -77,6 +78,8 @@ pub struct Service<L: Ledger> {
     /// How many bytes of each export's WRITEs wait.
     pub waiting_writes: Vec<AtomicU64>,
     pub latest_long: Mutex<Option<LongWrite>>,
+    /// Memory of pages that sessions pass on to others.
+    pub spares: SpareStore,
     /// Whether there are processors enough to read a client's bytes ahead.
     pub is_wide: bool,
 }
@@ -115,6 +118,7 @@ impl<L: Ledger> Service<L> {
             retunes: Retunes::new(alloc, config)?,
             waiting_writes,
             latest_long: Mutex::new(None),
+            spares: SpareStore::new(alloc)?,
             is_wide: available_parallelism(rt).map_or(false, |count| may_read_ahead(count.get())),
         })
     }

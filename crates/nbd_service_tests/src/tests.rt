@@ -1,4 +1,5 @@
 mod rates_in_force;
+mod spare_pages;
 
 use nbd_service::policy::{
     accept_may_pass, asks_for_turn, backlog_after, batch_after, bell_of, brought_by,

@@ -8,12 +8,10 @@ use Rattle.nbd_options.specs.declared.answers.Next.{Next}
 use Rattle.nbd_options.specs.declared.answers.Next.TheVariants as nexts
 use Rattle.nbd_options.specs.declared.saying.HaggleEnd.{HaggleEnd}
 use Rattle.nbd_options.specs.declared.saying.HaggleEnd.TheVariants as haggle_ends
-use Rattle.nbd_options.specs.declared.haggle.HeadFault.TheVariants as head_faults
 use Rattle.nbd_options.specs.Asking.{Asking, asked_by, one_asking}
 use Rattle.nbd_options.specs.Exports.{ExportFacts}
 use Rattle.nbd_options.specs.Replies.{ReplyMessage, next_after, replies_to}
 use Rattle.nbd_options.specs.Haggled.{Asked, said_by}
-use Rattle.nbd_session.specs.declared.outcomes.End.{End}
 use Rattle.nbd_session.specs.declared.outcomes.Entry.{Entry}
 use Rattle.nbd_session.specs.declared.outcomes.Entry.TheVariants as entries
 use Rattle.nbd_session.specs.declared.outcomes.TalkFault.{TalkFault}

@@ -195,3 +195,15 @@ no_disc_by h head test is tells it_is_not two =
     let t : (head.kind == 2) ≡ true = eq-eqb head.kind 2 (ap (λ (x : RequestHead). x.kind) is ∙ two) in
     let e : true ≡ false = sym t ∙ (sym tells ∙ it_is_not) in
     absurd (cc)
+
+-- how the reading ended tells of no failed write
+pub no_write_failed : (P : Type 0) (e : Ending) (answer : Result End TalkFault) → answer ≡ end_by e → answer ≡ Err faults.WriteFailed → P
+no_write_failed P e answer ends fails = by e (sym ends ∙ fails)
+  where
+    by : (e : Ending) → end_by e ≡ Err faults.WriteFailed → P
+    by ending.Over f = absurd (cc)
+    by ending.Cut f = absurd (cc)
+    by ending.BadMagic f = absurd (cc)
+    by ending.TooLong f = absurd (cc)
+    by ending.ReadFailed f = absurd (cc)
+    by ending.NoMemory f = absurd (cc)

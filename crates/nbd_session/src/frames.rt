@@ -5,6 +5,7 @@ use crate::ending::{Ending, Frame};
 use crate::intake::Intake;
 use crate::pieces::advance;
 use nbd_wire::{FeedFault, Request};
+use payload::Spares;
 use std::alloc::Allocator;
 use std::io::Read;
 use std::marker::Model;
@@ -91,6 +92,13 @@ impl<A: Allocator + Copy> Frames<A> {
         }
     }
 
+    /// Exchanges the spare pages, from which payloads get their memory, for others.
+    pub fn exchange(&mut self, spares: &mut Spares<A>)
+        ensures { self.new ≡ self.old }
+    {
+        self.intake.exchange(spares);
+    }
+
     /// Whether the next call gives a request without reading.
     pub fn is_ready(&self) -> bool
         ensures ready { IsTrue result ↔ (0 < self.now.ready) }
@@ -163,6 +171,13 @@ impl<R: Read, A: Allocator + Copy> FrameReader<R, A> {
             → (result ≡ Frame.Ended e) × (self.new ≡ self.old) }
     {
         self.frames.next(&mut self.reader)
+    }
+
+    /// Exchanges the spare pages, from which payloads get their memory, for others.
+    pub fn exchange(&mut self, spares: &mut Spares<A>)
+        ensures { self.new ≡ self.old }
+    {
+        self.frames.exchange(spares);
     }
 
     /// Whether the next call gives a request without reading: one stands first in the bytes that were read.

@@ -8,9 +8,11 @@ use crate::counted::Counted;
 use crate::ending::Ending;
 use crate::long_write::read_on;
 use nbd_wire::{BegunWrite, Decoder, FeedFault, Request, begin_write};
+use payload::Spares;
 use std::alloc::Allocator;
 use std::io::Read;
 use std::marker::Model;
+use std::mem;
 
 /// The least payload, in bytes, that goes into its pages as it comes. It costs one more read where further requests wait behind
 /// it, and saves a copy of it.
@@ -21,7 +23,7 @@ const LONG: usize = 32_768;
 pub struct Intake<A: Allocator + Copy> {
     decoder: Decoder<A>,
     begun: Option<BegunWrite<A>>,
-    alloc: A,
+    spares: Spares<A>,
 }
 
 impl<A: Allocator + Copy> Model for Intake<A> {
@@ -46,8 +48,15 @@ impl<A: Allocator + Copy> Intake<A> {
         Intake {
             decoder: Decoder::new(alloc),
             begun: None,
-            alloc,
+            spares: Spares::new(alloc),
         }
+    }
+
+    /// Exchanges the spare pages, from which payloads get their memory, for others.
+    pub fn exchange(&mut self, spares: &mut Spares<A>)
+        ensures { self.new ≡ self.old }
+    {
+        mem::swap(&mut self.spares, spares);
     }
 
     /// Reads once into the buffer: a piece, or the next bytes of a long WRITE.
@@ -67,13 +76,20 @@ impl<A: Allocator + Copy> Intake<A> {
             → length self.old.held < length self.new.held) }
     {
         match self.begun.take() {
-            Some(write) => read_on(reader, buffer, write, &mut self.begun, ready),
+            Some(write) => read_on(
+                reader,
+                buffer,
+                write,
+                &mut self.begun,
+                &mut self.spares,
+                ready,
+            ),
             None => read_afresh(
-                self.alloc,
                 reader,
                 buffer,
                 &mut self.decoder,
                 &mut self.begun,
+                &mut self.spares,
                 ready,
             ),
         }
@@ -82,11 +98,11 @@ impl<A: Allocator + Copy> Intake<A> {
 
 /// Reads once where no long WRITE was taken out of the decoder so far.
 fn read_afresh<A: Allocator + Copy, R: Read>(
-    alloc: A,
     reader: &mut Counted<R>,
     buffer: &mut [u8],
     decoder: &mut Decoder<A>,
     begun: &mut Option<BegunWrite<A>>,
+    spares: &mut Spares<A>,
     ready: &mut Vec<Request<A>, A>,
 ) -> Result<Option<FeedFault>, Ending>
     requires room { 0 < length buffer.old }
@@ -100,20 +116,20 @@ fn read_afresh<A: Allocator + Copy, R: Read>(
         → length decoder.old.held < length (taken_in begun.new decoder.new).held) }
     ensures intake { IsTakenIn begun.new decoder.new }
 {
-    match decoder.take_begun(LONG) {
-        Ok(Some(write)) => read_on(reader, buffer, write, begun, ready),
-        Ok(None) => read_piece(alloc, reader, buffer, decoder, begun, ready),
+    match decoder.take_begun(spares, LONG) {
+        Ok(Some(write)) => read_on(reader, buffer, write, begun, spares, ready),
+        Ok(None) => read_piece(reader, buffer, decoder, begun, spares, ready),
         Err(_) => Err(Ending::NoMemory),
     }
 }
 
 /// Reads one piece.
 fn read_piece<A: Allocator + Copy, R: Read>(
-    alloc: A,
     reader: &mut Counted<R>,
     buffer: &mut [u8],
     decoder: &mut Decoder<A>,
     begun: &mut Option<BegunWrite<A>>,
+    spares: &mut Spares<A>,
     ready: &mut Vec<Request<A>, A>,
 ) -> Result<Option<FeedFault>, Ending>
     requires room { 0 < length buffer.old }
@@ -130,7 +146,7 @@ fn read_piece<A: Allocator + Copy, R: Read>(
     let held = decoder.rest();
     match reader.read(buffer) {
         Ok(0) => Err(over(held)),
-        Ok(count) => Ok(take_in(alloc, decoder, begun, &buffer[..count], ready)),
+        Ok(count) => Ok(take_in(decoder, begun, spares, &buffer[..count], ready)),
         Err(_) => Err(Ending::ReadFailed),
     }
 }
@@ -144,9 +160,9 @@ fn over(held: usize) -> Ending
 
 /// Takes in one piece. The requests that it makes whole are ready, the last first.
 fn take_in<A: Allocator + Copy>(
-    alloc: A,
     decoder: &mut Decoder<A>,
     begun: &mut Option<BegunWrite<A>>,
+    spares: &mut Spares<A>,
     piece: &[u8],
     ready: &mut Vec<Request<A>, A>,
 ) -> Option<FeedFault>
@@ -158,14 +174,14 @@ fn take_in<A: Allocator + Copy>(
     ensures intake { IsTakenIn begun.new decoder.new }
 {
     if decoder.rest() != 0 {
-        return feed(decoder, piece, ready);
+        return feed(decoder, spares, piece, ready);
     }
-    match begin_write(alloc, piece, LONG) {
+    match begin_write(spares, piece, LONG) {
         Ok(Some(write)) => {
             *begun = Some(write);
             None
         }
-        Ok(None) => feed(decoder, piece, ready),
+        Ok(None) => feed(decoder, spares, piece, ready),
         Err(_) => Some(FeedFault::NoMemory),
     }
 }
@@ -173,6 +189,7 @@ fn take_in<A: Allocator + Copy>(
 /// Feeds one piece to a decoder. The requests that it makes whole are ready, the last first.
 fn feed<A: Allocator + Copy>(
     decoder: &mut Decoder<A>,
+    spares: &mut Spares<A>,
     piece: &[u8],
     ready: &mut Vec<Request<A>, A>,
 ) -> Option<FeedFault>
@@ -180,7 +197,7 @@ fn feed<A: Allocator + Copy>(
     requires well { decoder.old.failed ≡ false }
     ensures { TakesIn decoder.old.held piece.now ready.new.items decoder.new result }
 {
-    let outcome = decoder.feed(piece, ready);
+    let outcome = decoder.feed(spares, piece, ready);
     ready.reverse();
     match outcome {
         Ok(()) => None,

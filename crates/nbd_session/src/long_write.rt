@@ -7,7 +7,7 @@ ghost use Rattle.nbd_session.specs.Intake.{taken_in, nothing_held, IsPartly, Len
 use crate::counted::Counted;
 use crate::ending::Ending;
 use nbd_wire::{BegunWrite, FeedFault, Request, RequestHead};
-use payload::Growing;
+use payload::{Growing, Spares};
 use std::alloc::Allocator;
 use std::io::Read;
 
@@ -20,6 +20,7 @@ pub fn read_on<A: Allocator + Copy, R: Read>(
     buffer: &mut [u8],
     write: BegunWrite<A>,
     begun: &mut Option<BegunWrite<A>>,
+    spares: &mut Spares<A>,
     ready: &mut Vec<Request<A>, A>,
 ) -> Result<Option<FeedFault>, Ending>
     requires room { 0 < length buffer.old }
@@ -36,7 +37,7 @@ pub fn read_on<A: Allocator + Copy, R: Read>(
     let stretch = (whole - payload.len()).min(buffer.len()).min(STRETCH);
     let room = &mut buffer[..stretch];
     match read_behind(reader, room, &payload, whole) {
-        Ok(count) => Ok(go_on(head, payload, &room[..count], begun, ready)),
+        Ok(count) => Ok(go_on(head, payload, &room[..count], begun, spares, ready)),
         Err(ending) => Err(ending),
     }
 }
@@ -71,6 +72,7 @@ fn go_on<A: Allocator + Copy>(
     mut payload: Growing<A>,
     piece: &[u8],
     begun: &mut Option<BegunWrite<A>>,
+    spares: &mut Spares<A>,
     ready: &mut Vec<Request<A>, A>,
 ) -> Option<FeedFault>
     requires partly { IsPartly (record { head = head; payload = payload ++ piece.now }) }
@@ -79,7 +81,7 @@ fn go_on<A: Allocator + Copy>(
     ensures taken { TakesIn [] (head_text head
         ++ (payload ++ piece.now)) ready.new.items (taken_in begun.new nothing_held) result }
 {
-    match payload.append(piece) {
+    match payload.append(spares, piece) {
         Ok(()) => keep(head, payload, begun, ready),
         Err(_) => Some(FeedFault::NoMemory),
     }

@@ -5,7 +5,7 @@ ghost use Rattle.nbd_wire.specs.Pieces.{IsLong, BeginsLong, NoneBegins};
 use crate::protocol::WRITE;
 use crate::requests::{RequestHead, read_head};
 use nbd_base::NoMemory;
-use payload::Growing;
+use payload::{Growing, Spares};
 use std::alloc::Allocator;
 use std::marker::Model;
 
@@ -54,7 +54,7 @@ impl<A: Allocator + Copy> BegunWrite<A> {
 
 /// The WRITE whose head and a part of whose payload these bytes are, where it is one of `least` bytes or more.
 pub fn begin_write<A: Allocator + Copy>(
-    alloc: A,
+    spares: &mut Spares<A>,
     bytes: &[u8],
     least: usize,
 ) -> Result<Option<BegunWrite<A>>, NoMemory>
@@ -63,8 +63,8 @@ pub fn begin_write<A: Allocator + Copy>(
     let Some(head) = begun_head(bytes, least) else {
         return Ok(None);
     };
-    let mut payload = Growing::new(alloc, head.offset, head.length as usize)?;
-    payload.append(&bytes[HEAD..])?;
+    let mut payload = Growing::new(spares, head.offset)?;
+    payload.append(spares, &bytes[HEAD..])?;
     Ok(Some(BegunWrite::new(head, payload)))
 }
 

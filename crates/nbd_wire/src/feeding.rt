@@ -3,6 +3,7 @@ use crate::fault::FeedFault;
 use crate::pieces::gather;
 use crate::requests::Request;
 use nbd_base::NoMemory;
+use payload::Spares;
 use std::alloc::Allocator;
 use std::marker::Model;
 
@@ -13,7 +14,6 @@ use std::marker::Model;
 pub struct Decoder<A: Allocator + Copy> {
     held: Vec<u8, A>,
     failed: bool,
-    alloc: A,
 }
 
 impl<A: Allocator + Copy> Model for Decoder<A> {
@@ -40,7 +40,6 @@ impl<A: Allocator + Copy> Decoder<A> {
         Decoder {
             held: Vec::new(alloc),
             failed: false,
-            alloc,
         }
     }
 
@@ -56,6 +55,7 @@ impl<A: Allocator + Copy> Decoder<A> {
     /// Once a call failed, each later one answers `Failed`.
     pub fn feed<B: Allocator>(
         &mut self,
+        spares: &mut Spares<A>,
         piece: &[u8],
         out: &mut Vec<Request<A>, B>,
     ) -> Result<(), FeedFault>
@@ -64,21 +64,25 @@ impl<A: Allocator + Copy> Decoder<A> {
         if self.failed {
             return Err(FeedFault::Failed);
         }
-        let outcome = gather(self.alloc, &mut self.held, piece, out);
+        let outcome = gather(spares, &mut self.held, piece, out);
         self.failed = outcome.is_err();
         outcome
     }
 
     /// Hands over the WRITE that is held, where it is one of `least` bytes or more, so that the rest of its payload can go
     /// straight into its pages. The next piece is to begin behind it. Where memory is refused nothing changes.
-    pub fn take_begun(&mut self, least: usize) -> Result<Option<BegunWrite<A>>, NoMemory>
+    pub fn take_begun(
+        &mut self,
+        spares: &mut Spares<A>,
+        least: usize,
+    ) -> Result<Option<BegunWrite<A>>, NoMemory>
         ensures taken { IfOk result (HandsOver least self.old self.new) }
         ensures kept { OnErr result (self.new ≡ self.old) }
     {
         if self.failed {
             return Ok(None);
         }
-        let begun = begin_write(self.alloc, self.held.as_slice(), least)?;
+        let begun = begin_write(spares, self.held.as_slice(), least)?;
         if begun.is_some() {
             self.held.clear();
         }

@@ -6,14 +6,14 @@ use crate::fault::{FeedFault, WireFault};
 use crate::protocol::WRITE;
 use crate::requests::{Request, RequestHead, read_head};
 use bytes::Bytes;
-use payload::Payload;
+use payload::{Payload, Spares};
 use std::alloc::Allocator;
 
 const HEAD: usize = 28;
 
 /// Adds a piece to the bytes that are held, and takes each request that is whole then.
 pub fn gather<A: Allocator + Copy, B: Allocator>(
-    alloc: A,
+    spares: &mut Spares<A>,
     held: &mut Vec<u8, A>,
     piece: &[u8],
     out: &mut Vec<Request<A>, B>,
@@ -21,19 +21,19 @@ pub fn gather<A: Allocator + Copy, B: Allocator>(
     ensures { Gathers held.old.items piece.now held.new.items out.old.items out.new.items result }
 {
     if held.is_empty() {
-        return gather_alone(alloc, held, piece, out);
+        return gather_alone(spares, held, piece, out);
     }
     if held.extend_from_slice(piece).is_err() {
         return Err(FeedFault::NoMemory);
     }
-    let (at, outcome) = split(alloc, held.as_slice(), out);
+    let (at, outcome) = split(spares, held.as_slice(), out);
     drop_front(held, at);
     outcome
 }
 
 /// The same where none are held: only what is behind the piece's requests is copied.
 fn gather_alone<A: Allocator + Copy, B: Allocator>(
-    alloc: A,
+    spares: &mut Spares<A>,
     held: &mut Vec<u8, A>,
     piece: &[u8],
     out: &mut Vec<Request<A>, B>,
@@ -44,7 +44,7 @@ fn gather_alone<A: Allocator + Copy, B: Allocator>(
     if held.try_reserve(piece.len()).is_err() {
         return Err(FeedFault::NoMemory);
     }
-    let (at, outcome) = split(alloc, piece, out);
+    let (at, outcome) = split(spares, piece, out);
     match held.extend_from_slice(&piece[at..]) {
         Ok(()) => outcome,
         Err(_) => unreachable!(),
@@ -53,7 +53,7 @@ fn gather_alone<A: Allocator + Copy, B: Allocator>(
 
 /// Takes the requests at the front of some bytes, and tells where they end.
 fn split<A: Allocator + Copy, B: Allocator>(
-    alloc: A,
+    spares: &mut Spares<A>,
     bytes: &[u8],
     out: &mut Vec<Request<A>, B>,
 ) -> (usize, Result<(), FeedFault>)
@@ -63,7 +63,7 @@ fn split<A: Allocator + Copy, B: Allocator>(
 {
     let mut at = 0;
     loop {
-        let request = match first(alloc, &bytes[at..]) {
+        let request = match first(spares, &bytes[at..]) {
             Ok(Some(request)) => request,
             Ok(None) => return (at, Ok(())),
             Err(fault) => return (at, Err(fault)),
@@ -90,7 +90,10 @@ fn drop_front<A: Allocator>(held: &mut Vec<u8, A>, at: usize)
 }
 
 /// The request at the front of some bytes, where it is whole.
-fn first<A: Allocator + Copy>(alloc: A, bytes: &[u8]) -> Result<Option<Request<A>>, FeedFault>
+fn first<A: Allocator + Copy>(
+    spares: &mut Spares<A>,
+    bytes: &[u8],
+) -> Result<Option<Request<A>>, FeedFault>
     ensures { IsFirst bytes.now result }
 {
     if bytes.len() < HEAD {
@@ -101,13 +104,13 @@ fn first<A: Allocator + Copy>(alloc: A, bytes: &[u8]) -> Result<Option<Request<A
     match read_head(&head) {
         Err(WireFault::BadMagic) => Err(FeedFault::BadMagic),
         Err(WireFault::TooLong) => Err(FeedFault::TooLong),
-        Ok(head) => behind_head(alloc, head, &bytes[28..]),
+        Ok(head) => behind_head(spares, head, &bytes[28..]),
     }
 }
 
 /// The request of a head, where what follows it is whole.
 fn behind_head<A: Allocator + Copy>(
-    alloc: A,
+    spares: &mut Spares<A>,
     head: RequestHead,
     rest: &[u8],
 ) -> Result<Option<Request<A>>, FeedFault>
@@ -122,7 +125,7 @@ fn behind_head<A: Allocator + Copy>(
     if rest.len() < count {
         return Ok(None);
     }
-    match Payload::copied(alloc, head.offset, &rest[..count]) {
+    match Payload::copied_to(spares, head.offset, &rest[..count]) {
         Ok(payload) => Ok(Some(Request::new(head, payload))),
         Err(_) => Err(FeedFault::NoMemory),
     }

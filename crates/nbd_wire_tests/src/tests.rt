@@ -2,7 +2,7 @@ use bytes::Bytes;
 use nbd_base::NoMemory;
 use nbd_wire::protocol::{DISC, READ, WRITE};
 use nbd_wire::*;
-use payload::{Growing, Payload, Pieces};
+use payload::{Growing, Payload, Pieces, Spares};
 use refusing::Refusing;
 use std::alloc::{AllocError, Allocator, Global};
 
@@ -146,17 +146,27 @@ fn messages_of_bytes(rt: HostRuntime) {
 // Requests on this heap.
 type Requests<A> = Vec<Request<A>, A>;
 
+// Feeds a piece, where no page is spare.
+fn feed<A: Allocator + Copy>(
+    decoder: &mut Decoder<A>,
+    piece: &[u8],
+    requests: &mut Requests<A>,
+) -> Result<(), FeedFault> {
+    let mut spares = Spares::new(*requests.allocator());
+    decoder.feed(&mut spares, piece, requests)
+}
+
 // Whether the stream is decoded in pieces of so many bytes.
 fn decodes<A: Allocator + Copy>(
     decoder: &mut Decoder<A>,
     requests: &mut Requests<A>,
     size: usize,
 ) -> bool {
-    if size == 0 || decoder.feed(&[], requests) != Ok(()) {
+    if size == 0 || feed(decoder, &[], requests) != Ok(()) {
         return false;
     }
     for (i, piece) in STREAM.chunks(size).enumerate() {
-        if decoder.feed(piece, requests) != Ok(()) {
+        if feed(decoder, piece, requests) != Ok(()) {
             return false;
         }
         if i == 0 && size == 27 && (requests.len(), decoder.rest()) != (0, 27) {
@@ -184,10 +194,10 @@ fn pieces_of_any_size(rt: HostRuntime) {
 fn gives_three(decoder: &mut Decoder<Global>, requests: &mut Requests<Global>) -> bool {
     let mut stream = [0; 116];
     stream[..88].copy_from_slice(STREAM);
-    decoder.feed(&stream, requests) == Err(FeedFault::BadMagic)
+    feed(decoder, &stream, requests) == Err(FeedFault::BadMagic)
         && (requests.len(), decoder.rest()) == (3, 0)
         && are_first(requests.as_slice())
-        && decoder.feed(STREAM, requests) == Err(FeedFault::Failed)
+        && feed(decoder, STREAM, requests) == Err(FeedFault::Failed)
         && requests.len() == 3
 }
 
@@ -208,7 +218,7 @@ fn gives_first<'a>(
     decoder: &mut Decoder<Refused<'a>>,
     requests: &mut Requests<Refused<'a>>,
 ) -> bool {
-    let outcome = decoder.feed(STREAM, requests);
+    let outcome = feed(decoder, STREAM, requests);
     let given = requests.len();
     if !are_first(requests.as_slice()) {
         return false;
@@ -218,7 +228,7 @@ fn gives_first<'a>(
     }
     (outcome, decoder.rest()) == (Err(FeedFault::NoMemory), 0)
         && given < 3
-        && decoder.feed(STREAM, requests) == Err(FeedFault::Failed)
+        && feed(decoder, STREAM, requests) == Err(FeedFault::Failed)
         && requests.len() == given
 }
 
@@ -267,7 +277,7 @@ fn begins<'a>(
 ) -> bool {
     match long_write(heap, 100) {
         Ok(bytes) => {
-            decoder.feed(bytes.as_slice(), requests) == Ok(())
+            feed(decoder, bytes.as_slice(), requests) == Ok(())
                 && (requests.len(), decoder.rest()) == (1, 88)
         }
         Err(NoMemory) => false,
@@ -276,11 +286,12 @@ fn begins<'a>(
 
 // Whether it stays where one of 101 bytes is wanted, and where there is no memory.
 fn stays<'a>(heap: Refused<'a>, decoder: &mut Decoder<Refused<'a>>) -> bool {
-    if !matches!(decoder.take_begun(101), Ok(None)) {
+    let mut spares = Spares::new(heap);
+    if !matches!(decoder.take_begun(&mut spares, 101), Ok(None)) {
         return false;
     }
     heap.arm(1);
-    decoder.take_begun(100).is_err() && decoder.rest() == 88
+    decoder.take_begun(&mut spares, 100).is_err() && decoder.rest() == 88
 }
 
 // Whether what came of a payload is sixty sevens.
@@ -295,8 +306,12 @@ fn is_sevens(payload: Growing<Refused<'_>>, alloc: Global) -> bool {
 }
 
 // Whether it is handed over with the sixty bytes that came.
-fn is_handed_over(decoder: &mut Decoder<Refused<'_>>, alloc: Global) -> bool {
-    match decoder.take_begun(100) {
+fn is_handed_over<'a>(
+    heap: Refused<'a>,
+    decoder: &mut Decoder<Refused<'a>>,
+    alloc: Global,
+) -> bool {
+    match decoder.take_begun(&mut Spares::new(heap), 100) {
         Ok(Some(begun)) => {
             let (head, payload) = begun.into_parts();
             (head.length, payload.len()) == (100, 60) && is_sevens(payload, alloc)
@@ -308,11 +323,14 @@ fn is_handed_over(decoder: &mut Decoder<Refused<'_>>, alloc: Global) -> bool {
 // Whether the stream is decoded behind it, and nothing is handed over behind a fault.
 fn goes_on<'a>(decoder: &mut Decoder<Refused<'a>>, requests: &mut Requests<Refused<'a>>) -> bool {
     decoder.rest() == 0
-        && decoder.feed(STREAM, requests) == Ok(())
+        && feed(decoder, STREAM, requests) == Ok(())
         && (requests.len(), decoder.rest()) == (4, 0)
         && are_first(requests.as_slice().get(1..).unwrap_or_default())
-        && decoder.feed(&[0; 28], requests).is_err()
-        && matches!(decoder.take_begun(0), Ok(None))
+        && feed(decoder, &[0; 28], requests).is_err()
+        && matches!(
+            decoder.take_begun(&mut Spares::new(*requests.allocator()), 0),
+            Ok(None)
+        )
 }
 
 #[test]
@@ -322,7 +340,7 @@ fn a_long_write_is_handed_over(rt: HostRuntime) {
     let mut decoder = Decoder::new(&heap);
     assert!(rt; begins(&heap, &mut decoder, &mut requests));
     assert!(rt; stays(&heap, &mut decoder));
-    assert!(rt; is_handed_over(&mut decoder, rt.alloc()));
+    assert!(rt; is_handed_over(&heap, &mut decoder, rt.alloc()));
     assert!(rt; goes_on(&mut decoder, &mut requests));
 }
 
@@ -331,7 +349,7 @@ fn begins_none(heap: &Refusing<Global>, from: usize, to: usize, length: u32, lea
     match long_write(heap, length) {
         Ok(bytes) => {
             let part = bytes.as_slice().get(from..to).unwrap_or_default();
-            matches!(begin_write(heap, part, least), Ok(None))
+            matches!(begin_write(&mut Spares::new(heap), part, least), Ok(None))
         }
         Err(NoMemory) => false,
     }
@@ -350,7 +368,7 @@ fn begins_with_its_head(heap: &Refusing<Global>) -> bool {
     match long_write(heap, 33_554_432) {
         Ok(bytes) => {
             let part = bytes.as_slice().get(28..56).unwrap_or_default();
-            match begin_write(heap, part, 100) {
+            match begin_write(&mut Spares::new(heap), part, 100) {
                 Ok(Some(begun)) => is_of_its_parts(begun),
                 _ => false,
             }

@@ -3,10 +3,14 @@ ghost use Rattle.page_table.specs.Swept.{nothing};
 
 use crate::chunk::Chunk;
 use nbd_base::NoMemory;
-use payload::Page;
+use payload::{Page, Spares};
 use std::alloc::Allocator;
 use std::collections::LinkedList;
 use std::marker::Model;
+use std::mem;
+
+/// For how many pages an image is lent memory.
+const SPARES: usize = 32;
 
 /// What an image doesn't need any more: pages, and whole chunks of them.
 #[derive(Drop)]
@@ -14,6 +18,8 @@ pub struct Swept<A: Allocator + Copy> {
     pages: Vec<Page<A>, A>,
     // A list, so that one more moves none of the others.
     chunks: LinkedList<Chunk<A>, A>,
+    // What the image is lent for pages that it makes.
+    spares: Spares<A>,
 }
 
 impl<A: Allocator + Copy> Model for Swept<A> {
@@ -33,6 +39,7 @@ impl<A: Allocator + Copy> Swept<A> {
         Swept {
             pages: Vec::new(alloc),
             chunks: LinkedList::new(alloc),
+            spares: Spares::new(alloc),
         }
     }
 
@@ -44,6 +51,7 @@ impl<A: Allocator + Copy> Swept<A> {
         Ok(Swept {
             pages,
             chunks: LinkedList::new(alloc),
+            spares: Spares::with_places(alloc, 2 * SPARES)?,
         })
     }
 
@@ -61,12 +69,30 @@ impl<A: Allocator + Copy> Swept<A> {
         self.chunks.len()
     }
 
-    /// Lets all go. The memory of pages that nobody else holds is given back.
-    pub fn let_go(&mut self)
+    /// Lets all go. The memory of pages that came alone and that nobody else shows is spare, as far as there are places, and of
+    /// that the image is lent some for the pages that it makes.
+    pub fn recycle(&mut self, spares: &mut Spares<A>)
         ensures { self.new ≡ nothing }
     {
-        self.pages.clear();
+        while let Some(page) = self.pages.pop() {
+            spares.keep(page);
+        }
         self.chunks.clear();
+        self.spares.level(spares, SPARES);
+    }
+
+    /// Takes out what the image is lent, until `take_back`.
+    pub fn lend(&mut self, alloc: A) -> Spares<A>
+        ensures { self.new ≡ self.old }
+    {
+        mem::replace(&mut self.spares, Spares::new(alloc))
+    }
+
+    /// Takes back what is left of it.
+    pub fn take_back(&mut self, spares: Spares<A>)
+        ensures { self.new ≡ self.old }
+    {
+        self.spares = spares;
     }
 
     /// A page that isn't needed any more. Where there is no room for it, it is let go.

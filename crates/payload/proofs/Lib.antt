@@ -1,3 +1,4 @@
 pub mod BytesLemmas
 pub mod Overwriting
 pub mod RowLemmas
+pub mod SpareLemmas

@@ -12,10 +12,9 @@ zeroed-next image at n end some within = same_lists _ _ (search (rules, places))
 pub range_of-next : (image : List ℕ) (at n end : ℕ) → at + n ≤ end → end ≤ length image → range_of image at n ++ range_of image (at + n) (end - (at + n)) ≡ range_of image at (end - at)
 range_of-next image at n end some within = same_lists _ _ (search (rules, places)) (λ k d h. grind (arith, places))
 
--- the next part of a range is written
-pub overwritten-next : (page bytes : List ℕ) (start from done n : ℕ) → start + (done + n) ≤ length page → from + (done + n) ≤ length bytes
-    → overwritten (overwritten page start done (range_of bytes from done)) (start + done) n (range_of bytes (from + done) n) ≡ overwritten page start (done + n) (range_of bytes from (done + n))
-overwritten-next page bytes start from done n fits within = same_lists _ _ (search (rules, places)) (λ k d h. grind (arith, places))
+-- a range in two parts
+pub range_of-in_two : (bytes : List ℕ) (at m n : ℕ) → at + (m + n) ≤ length bytes → range_of bytes at (m + n) ≡ range_of bytes at m ++ range_of bytes (at + m) n
+range_of-in_two bytes at m n within = same_lists _ _ (search (rules, places)) (λ k d h. grind (arith, places))
 
 -- nothing is written yet
 pub overwritten-none : (page bytes : List ℕ) (start : ℕ) → start ≤ length page → overwritten page start 0 (take 0 bytes) ≡ page

@@ -1,5 +1,5 @@
 -- Pages in a row: how long they are, and a range that lies in one of them.
-use Rattle.std.proofs.Common.{◌≡◌, ℕ, zero, suc, ◌+◌, ◌-◌, ◌*◌, ◌/◌, ◌%◌, ◌<◌, ◌≤◌, List, [], ◌∷◌, ◌++◌, length, take, drop, get_or, refl, sym, ap, subst, ◌∙◌, arith, rules, length-append}
+use Rattle.std.proofs.Common.{◌≡◌, ℕ, zero, suc, ◌+◌, ◌-◌, ◌*◌, ◌/◌, ◌%◌, ◌<◌, ◌≤◌, List, [], ◌∷◌, ◌++◌, length, take, drop, get_or, refl, sym, ap, ◌∙◌, arith, rules, length-append}
 use Rattle.std.specs.List.{concat}
 use Rattle.std.proofs.lemmas.List.{places, same_lists, drop-take, length-replicate, append-nil, take_all}
 use Rattle.std.proofs.lemmas.List.Folds.{concat-append}
@@ -43,6 +43,12 @@ range_in_page (page ∷ pages) whole (suc number) start n d below within =
 -- a page is all of itself
 pub range_of-page : (page : List ℕ) → length page ≡ 4096 → range_of page 0 4096 ≡ page
 range_of-page page whole = take_all 4096 page (omega (arith, whole))
+
+-- pages in a row are all of their bytes
+pub all_pages : (pages : List (List ℕ)) (start end : ℕ) → AreWhole pages → start ≡ 0 → end % 4096 ≡ 0 → end / 4096 ≡ length pages → concat pages ≡ range_of (concat pages) start (end - start)
+all_pages pages start end whole none paged all =
+    let count : end - start ≡ end = omega (arith, none) in
+    rw (count, none) (sym (take_all end (concat pages) (omega (arith, length-concat pages whole, paged, all))))
 
 -- where a byte of a payload lies
 module _ (pages : List (List ℕ)) (start end : ℕ) (is : IsRange pages start end) (bytes : List ℕ) (view : range_of (concat pages) start (end - start) ≡ bytes) where

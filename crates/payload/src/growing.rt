@@ -1,34 +1,26 @@
 ghost use Rattle.std.specs.Prelude.{◌≡◌, ◌+◌, ◌<◌, ◌≤◌, ◌%◌, ◌++◌, [], length, take, IfOk, OnOk, OnErr};
 ghost use Rattle.std.specs.List.{concat};
-ghost use Rattle.payload.specs.Rows.{AreWhole};
+ghost use Rattle.payload.specs.Rows.{AreWhole, HasRoom};
 
 use crate::page::{PAGE, Page, zeros};
 use crate::payload::Payload;
-use bytes::Bytes;
+use crate::spares::Spares;
+use bytes::BytesMut;
 use nbd_base::NoMemory;
 use std::alloc::Allocator;
 use std::marker::Model;
 use std::mem;
-
-// How many pages in a row of an image are a group, and how many bytes these have.
-const GROUP: usize = 16;
-
-const BLOCK: usize = 65_536;
 
 /// A payload whose bytes come one after another.
 #[derive(Drop)]
 pub struct Growing<A: Allocator + Copy> {
     alloc: A,
     pages: Vec<Page<A>, A>,
-    // The beginning of the pages that follow, and how many bytes these have.
-    last: Vec<u8, A>,
-    room: usize,
+    // The beginning of the page that follows.
+    last: BytesMut<A>,
     // How many bytes of the first page lie before the payload, and how many there are with these.
     start: usize,
     end: usize,
-    // The number of the first page in the image, and how many are to come whole.
-    first: usize,
-    whole: usize,
 }
 
 impl<A: Allocator + Copy> Model for Growing<A> {
@@ -42,91 +34,81 @@ impl<A: Allocator + Copy> Model for Growing<A> {
         drop growing.start (concat growing.pages.items ++ growing.last.items) };
 
     ghost invariant = { λ growing.
-        IsGrown growing.pages.items growing.last.items growing.room growing.start growing.end };
+        IsGrown growing.pages.items growing.last growing.start growing.end };
 }
 
-// How many bytes become pages together, once so many pages came: those of 16 pages where these are a whole group of the image's,
-// which then share a block, and else those of one. So an image never holds pages of two blocks in one group: the next block that
-// is written there takes the places of all of them.
-fn room_for(first: usize, came: usize, whole: usize) -> usize
-    ensures some { 0 < result }
-    ensures paged { result % 4096 ≡ 0 }
+// Appends bytes to the beginning of a page, which gets its memory with its first byte.
+fn begin<A: Allocator + Copy>(
+    spares: &mut Spares<A>,
+    last: &mut BytesMut<A>,
+    bytes: &[u8],
+) -> Result<(), NoMemory>
+    requires fits { length last.old.items + length bytes.now ≤ 4096 }
+    requires room { HasRoom last.old }
+    ensures bytes { OnOk result (last.new.items ≡ last.old.items ++ bytes.now) }
+    ensures room { OnOk result (HasRoom last.new) }
 {
-    if first.wrapping_add(came) % GROUP == 0 && whole.saturating_sub(came) >= GROUP {
-        BLOCK
-    } else {
-        PAGE
+    if bytes.is_empty() {
+        return Ok(());
     }
-}
-
-// Appends bytes to the beginning of pages, which gets memory for all of these with its first byte.
-fn begin<A: Allocator>(last: &mut Vec<u8, A>, bytes: &[u8], room: usize) -> Result<(), NoMemory>
-    requires { length last.old.items + length bytes.now ≤ room }
-    ensures { OnOk result (last.new.items ≡ last.old.items ++ bytes.now) }
-{
-    if !bytes.is_empty() {
-        last.reserve_exact(room - last.len())?;
-        last.extend_from_slice(bytes)?;
+    if last.is_empty() {
+        *last = spares.take()?;
     }
+    last.extend_reserved(bytes);
     Ok(())
 }
 
-// The bytes of a block become pages, which share it.
-fn cut<A: Allocator>(block: Bytes<A>, pages: &mut Vec<Page<A>, A>) -> Result<(), NoMemory>
-    requires paged { length block % 4096 ≡ 0 }
+// One more page, of these bytes.
+fn close<A: Allocator + Copy>(
+    pages: &mut Vec<Page<A>, A>,
+    bytes: BytesMut<A>,
+) -> Result<(), NoMemory>
+    requires full { length bytes.items ≡ 4096 }
     requires whole { AreWhole pages.old.items }
     ensures whole { OnOk result (AreWhole pages.new.items) }
-    ensures bytes { OnOk result (concat pages.new.items ≡ concat pages.old.items ++ block) }
+    ensures bytes { OnOk result (concat pages.new.items ≡ concat pages.old.items ++ bytes.items) }
 {
-    let mut left = block;
-    while !left.is_empty() {
-        let page = left.split_to(PAGE)?;
-        pages.push(Page::of(page))?;
-    }
+    let bytes = bytes.freeze()?;
+    pages.push(Page::of(bytes))?;
     Ok(())
 }
 
-// The pages, and those that begin with the bytes of the last where there are any.
+// The pages, and one that begins with the bytes of the last where there are any.
 fn closed<A: Allocator + Copy>(
     mut pages: Vec<Page<A>, A>,
-    mut last: Vec<u8, A>,
+    mut last: BytesMut<A>,
 ) -> Result<Vec<Page<A>, A>, NoMemory>
+    requires begun { length last.items < 4096 }
+    requires room { HasRoom last }
     requires whole { AreWhole pages.items }
     ensures whole { IfOk result (λ all. AreWhole all.items) }
     ensures bytes { IfOk result
         (λ all. take (length (concat pages.items ++ last.items)) (concat all.items)
         ≡ concat pages.items ++ last.items) }
 {
-    let behind = last.len() % PAGE;
-    if behind > 0 {
-        last.extend_from_slice(&zeros()[behind..])?;
+    if last.is_empty() {
+        return Ok(pages);
     }
-    let block = Bytes::from_vec(last)?;
-    cut(block, &mut pages)?;
+    last.extend_reserved(&zeros()[last.len()..]);
+    close(&mut pages, last)?;
     Ok(pages)
 }
 
 impl<A: Allocator + Copy> Growing<A> {
-    /// None yet of `count` bytes, the first of which has this offset in an image: a page of the payload begins where one of the
-    /// image does.
-    pub fn new(alloc: A, offset: u64, count: usize) -> Result<Growing<A>, NoMemory>
+    /// None yet, the first of which has this offset in an image: a page of the payload begins where one of the image does.
+    pub fn new(spares: &mut Spares<A>, offset: u64) -> Result<Growing<A>, NoMemory>
         ensures { IfOk result (λ growing. growing ≡ []) }
     {
-        let first = (offset / 4096) as usize;
+        let alloc = spares.alloc();
         let start = (offset % 4096) as usize;
-        let whole = start.saturating_add(count) / PAGE;
-        let room = room_for(first, 0, whole);
-        let mut last = Vec::new(alloc);
-        begin(&mut last, &zeros()[..start], room)?;
+        let mut last = BytesMut::new(alloc);
+        begin(spares, &mut last, &zeros()[..start])?;
         Ok(Growing {
             alloc,
             pages: Vec::new(alloc),
             last,
-            room,
             start,
             end: start,
-            first,
-            whole,
         })
     }
 
@@ -137,12 +119,9 @@ impl<A: Allocator + Copy> Growing<A> {
         Growing {
             alloc,
             pages: Vec::new(alloc),
-            last: Vec::new(alloc),
-            room: PAGE,
+            last: BytesMut::new(alloc),
             start: 0,
             end: 0,
-            first: 0,
-            whole: 0,
         }
     }
 
@@ -154,51 +133,43 @@ impl<A: Allocator + Copy> Growing<A> {
     }
 
     // The same with these bytes behind it.
-    fn longer(self, bytes: &[u8]) -> Result<Growing<A>, NoMemory>
+    fn longer(self, spares: &mut Spares<A>, bytes: &[u8]) -> Result<Growing<A>, NoMemory>
         ensures { IfOk result (λ growing. growing ≡ self ++ bytes.now) }
     {
         let Growing {
             alloc,
             mut pages,
             mut last,
-            mut room,
             start,
             end,
-            first,
-            whole,
         } = self;
         let Some(end) = end.checked_add(bytes.len()) else {
             return Err(NoMemory);
         };
         let mut left = bytes;
-        while room - last.len() <= left.len() {
-            let (rest, behind) = left.split_at(room - last.len());
-            begin(&mut last, rest, room)?;
-            let block = Bytes::from_vec(mem::replace(&mut last, Vec::new(alloc)))?;
-            cut(block, &mut pages)?;
-            room = room_for(first, pages.len(), whole);
+        while PAGE - last.len() <= left.len() {
+            let (rest, behind) = left.split_at(PAGE - last.len());
+            begin(spares, &mut last, rest)?;
+            close(&mut pages, mem::replace(&mut last, BytesMut::new(alloc)))?;
             left = behind;
         }
-        begin(&mut last, left, room)?;
+        begin(spares, &mut last, left)?;
         Ok(Growing {
             alloc,
             pages,
             last,
-            room,
             start,
             end,
-            first,
-            whole,
         })
     }
 
     /// Appends bytes. After an error none are left.
-    pub fn append(&mut self, bytes: &[u8]) -> Result<(), NoMemory>
+    pub fn append(&mut self, spares: &mut Spares<A>, bytes: &[u8]) -> Result<(), NoMemory>
         ensures ok { OnOk result (self.new ≡ self.old ++ bytes.now) }
         ensures err { OnErr result (self.new ≡ []) }
     {
         let none = Growing::none(self.alloc);
-        *self = mem::replace(self, none).longer(bytes)?;
+        *self = mem::replace(self, none).longer(spares, bytes)?;
         Ok(())
     }
 
@@ -210,11 +181,8 @@ impl<A: Allocator + Copy> Growing<A> {
             alloc,
             pages,
             last,
-            room: _,
             start,
             end,
-            first: _,
-            whole: _,
         } = self;
         let pages = closed(pages, last)?;
         Payload::among(alloc, pages, start, end)

@@ -7,8 +7,10 @@ mod growing;
 mod page;
 mod payload;
 mod pieces;
+mod spares;
 
 pub use growing::Growing;
 pub use page::{PAGE, Page};
 pub use payload::Payload;
 pub use pieces::Pieces;
+pub use spares::Spares;

@@ -1,16 +1,35 @@
 ghost use Rattle.std.specs.Prelude.{◌≡◌, ◌+◌, ◌-◌, ◌<◌, ◌≤◌, ◌++◌, ◌==◌, [], length, IfOk, IfErr, IfSome, OnOk, OnErr};
 ghost use Rattle.std.specs.List.{concat};
 ghost use Rattle.payload.specs.Bytes.{range_of, overwritten};
-ghost use Rattle.payload.specs.Rows.{AreWhole};
+ghost use Rattle.payload.specs.Rows.{AreWhole, IsRange};
+ghost use Rattle.std.specs.Arc.{arc_value};
 
 use crate::growing::Growing;
-use crate::page::{PAGE, Page, put};
+use crate::page::{PAGE, Page};
 use crate::pieces::Pieces;
+use crate::spares::Spares;
 use bytes::Bytes;
 use nbd_base::NoMemory;
 use std::alloc::{AllocError, Allocator};
 use std::marker::Model;
 use std::sync::Arc;
+
+// A copy of at most a page: a whole one in memory of a spare page, if there is one.
+fn in_a_block<A: Allocator + Copy>(
+    spares: &mut Spares<A>,
+    bytes: &[u8],
+) -> Result<Bytes<A>, NoMemory>
+    ensures { IfOk result (λ copy. copy ≡ bytes.now) }
+{
+    if bytes.len() != PAGE {
+        let copy = Bytes::copy_from_slice(spares.alloc(), bytes)?;
+        return Ok(copy);
+    }
+    let mut block = spares.take()?;
+    block.extend_reserved(bytes);
+    let copy = block.freeze()?;
+    Ok(copy)
+}
 
 // Where the bytes of a payload are.
 #[derive(Drop)]
@@ -21,6 +40,37 @@ enum Kept<A: Allocator> {
     Piece(Bytes<A>),
     // In pages in a row, from one of their bytes on before an end.
     Several(Arc<Vec<Page<A>, A>, A>, usize, usize),
+}
+
+// A payload of a range of the bytes of pages in a row.
+fn ranging<A: Allocator>(pages: Arc<Vec<Page<A>, A>, A>, start: usize, end: usize) -> Payload<A>
+    requires { IsRange (arc_value pages).items start end }
+    ensures { result ≡ range_of (concat (arc_value pages).items) start (end - start) }
+{
+    let kept = Kept::Several(pages, start, end);
+    Payload { kept }
+}
+
+// Pages in a row, where the range is all of their bytes and nobody else has them. Else they come back as a payload.
+fn all_of<A: Allocator>(
+    pages: Arc<Vec<Page<A>, A>, A>,
+    start: usize,
+    end: usize,
+) -> Result<Vec<Page<A>, A>, Payload<A>>
+    requires { IsRange (arc_value pages).items start end }
+    ensures whole { IfOk result (λ all. AreWhole all.items) }
+    ensures pages { IfOk result (λ all. concat all.items
+        ≡ range_of (concat (arc_value pages).items) start (end - start)) }
+    ensures back { IfErr result (λ back.
+        back ≡ range_of (concat (arc_value pages).items) start (end - start)) }
+{
+    if start != 0 || end % PAGE != 0 || end / PAGE != pages.len() {
+        return Err(ranging(pages, start, end));
+    }
+    match Arc::try_unwrap(pages) {
+        Ok(pages) => Ok(pages),
+        Err(pages) => Err(ranging(pages, start, end)),
+    }
 }
 
 /// What a WRITE carries or a READ answers: bytes that don't change, in one piece or in pages in a row. A clone is one more owner
@@ -177,6 +227,20 @@ impl<A: Allocator> Payload<A> {
         }
     }
 
+    /// The pages that these bytes are, where they are whole pages and nobody else has them. Else they come back. No count of owners
+    /// changes.
+    pub fn into_whole_pages(self) -> Result<Vec<Page<A>, A>, Payload<A>>
+        ensures whole { IfOk result (λ pages. AreWhole pages.items) }
+        ensures bytes { IfOk result (λ pages. concat pages.items ≡ self) }
+        ensures back { IfErr result (λ back. back ≡ self) }
+    {
+        let Payload { kept } = self;
+        match kept {
+            Kept::Several(pages, start, end) => all_of(pages, start, end),
+            other => Err(Payload { kept: other }),
+        }
+    }
+
     /// Appends the bytes, or none where memory is refused.
     pub fn append<B: Allocator>(&self, out: &mut Vec<u8, B>) -> Result<(), NoMemory>
         ensures ok { OnOk result (out.new.items ≡ out.old.items ++ self.now) }
@@ -198,21 +262,48 @@ impl<A: Allocator + Copy> Payload<A> {
     pub fn copied(alloc: A, offset: u64, bytes: &[u8]) -> Result<Payload<A>, NoMemory>
         ensures { IfOk result (λ payload. payload ≡ bytes.now) }
     {
+        Payload::copied_to(&mut Spares::new(alloc), offset, bytes)
+    }
+
+    /// The same, in memory of spare pages as far as there are any.
+    pub fn copied_to(
+        spares: &mut Spares<A>,
+        offset: u64,
+        bytes: &[u8],
+    ) -> Result<Payload<A>, NoMemory>
+        ensures { IfOk result (λ payload. payload ≡ bytes.now) }
+    {
         let start = (offset % 4096) as usize;
         if bytes.len() <= PAGE - start {
-            let bytes = Bytes::copy_from_slice(alloc, bytes)?;
+            let bytes = in_a_block(spares, bytes)?;
             return Ok(Payload::in_one_piece(bytes));
         }
-        let mut growing = Growing::new(alloc, offset, bytes.len())?;
-        growing.append(bytes)?;
+        let mut growing = Growing::new(spares, offset)?;
+        growing.append(spares, bytes)?;
         growing.finish()
+    }
+
+    /// Lets the bytes go. The memory of pages that nobody else has is kept as spare, as far as there are places.
+    pub fn recycle(self, spares: &mut Spares<A>)
+        ensures { spares.old ≤ spares.new }
+    {
+        let Payload { kept } = self;
+        match kept {
+            Kept::Whole(page) => spares.keep(page),
+            Kept::Piece(_) => {}
+            Kept::Several(pages, _, _) => {
+                if let Some(pages) = Arc::into_inner(pages) {
+                    spares.keep_all(pages);
+                }
+            }
+        }
     }
 
     /// A page with so many of these bytes, from one on, in place of its own from the start on. Where they are a whole page of
     /// this payload, it is that one.
     pub fn put_over(
         &self,
-        alloc: A,
+        spares: &mut Spares<A>,
         page: &Page<A>,
         start: usize,
         from: usize,
@@ -231,13 +322,13 @@ impl<A: Allocator + Copy> Payload<A> {
                 return Ok(page);
             }
         }
-        self.copied_over(alloc, page, start, from, count)
+        self.copied_over(spares, page, start, from, count)
     }
 
     // The same by a copy.
     fn copied_over(
         &self,
-        alloc: A,
+        spares: &mut Spares<A>,
         page: &Page<A>,
         start: usize,
         from: usize,
@@ -251,15 +342,17 @@ impl<A: Allocator + Copy> Payload<A> {
     {
         // No place is past the greatest usize, since the length is one.
         let _len = self.len();
-        let mut bytes = Vec::from_slice(alloc, page.as_slice())?;
+        let mut block = spares.take()?;
+        block.extend_reserved(&page.as_slice()[..start]);
         let mut done = 0;
         while done < count {
             let part = self.from(from + done);
             let n = part.len().min(count - done);
-            put(&mut bytes, start + done, &part[..n]);
+            block.extend_reserved(&part[..n]);
             done += n;
         }
-        let bytes = Bytes::from_vec(bytes)?;
+        block.extend_reserved(&page.as_slice()[start + count..]);
+        let bytes = block.freeze()?;
         Ok(Page::of(bytes))
     }
 }

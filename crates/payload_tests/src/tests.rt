@@ -1,5 +1,5 @@
 use bytes::Bytes;
-use payload::{Growing, PAGE, Page, Payload, Pieces};
+use payload::{Growing, PAGE, Page, Payload, Pieces, Spares};
 use refusing::Refusing;
 use std::alloc::Global;
 use std::process::Abort;
@@ -77,7 +77,8 @@ fn a_payload_begins_where_its_image_does(rt: HostRuntime) {
 
 #[test]
 fn a_payload_of_no_bytes(rt: HostRuntime) {
-    let growing = Growing::new(rt.alloc(), 4_095, 0).expect(&rt, "memory");
+    let mut spares = Spares::new(rt.alloc());
+    let growing = Growing::new(&mut spares, 4_095).expect(&rt, "memory");
     let none = growing.finish().expect(&rt, "memory");
     assert!(rt; none.is_empty());
     is_of(&rt, &Payload::new(), b"");
@@ -87,7 +88,7 @@ fn a_payload_of_no_bytes(rt: HostRuntime) {
 // Sees that a page of a payload of 10,000 bytes from a place on has these.
 fn gives_a_page<R: Abort + AllocGlobal>(rt: &R, payload: &Kept, at: usize, bytes: &[u8]) {
     assert!(rt; payload.len() == 10_000 && at <= 4_000);
-    let page = payload.put_over(rt.alloc(), &Page::zeros(), 0, at, 4_096);
+    let page = payload.put_over(&mut Spares::new(rt.alloc()), &Page::zeros(), 0, at, 4_096);
     let page = page.expect(rt, "memory");
     assert!(rt; Some(page.as_slice()) == bytes.get(at..at + 4_096));
 }
@@ -96,7 +97,7 @@ fn gives_a_page<R: Abort + AllocGlobal>(rt: &R, payload: &Kept, at: usize, bytes
 fn gives_an_edge<R: Abort + AllocGlobal>(rt: &R, payload: &Kept, bytes: &[u8]) {
     assert!(rt; payload.len() == 10_000);
     let page = payload.page_at(4_000).expect(rt, "a page");
-    let edge = payload.put_over(rt.alloc(), page, 4_000, 8_000, 96);
+    let edge = payload.put_over(&mut Spares::new(rt.alloc()), page, 4_000, 8_000, 96);
     let edge = edge.expect(rt, "memory");
     assert!(rt; edge.as_slice().get(4_000..) == bytes.get(8_000..8_096));
     assert!(rt; edge.as_slice().get(..4_000) == bytes.get(4_000..8_000));
@@ -174,11 +175,12 @@ fn bytes_of_a_page_are_that_page(rt: HostRuntime) {
     is_a_page(&rt, payload, &bytes);
 }
 
-// What grows by these bytes in pieces of a size, where so many are to come from an offset of an image on.
-fn grown<R: Abort + AllocGlobal>(rt: &R, to: (u64, usize), bytes: &[u8], size: usize) -> Kept {
-    let mut growing = Growing::new(rt.alloc(), to.0, to.1).expect(rt, "memory");
+// What grows by these bytes in pieces of a size, from an offset of an image on.
+fn grown<R: Abort + AllocGlobal>(rt: &R, offset: u64, bytes: &[u8], size: usize) -> Kept {
+    let mut spares = Spares::new(rt.alloc());
+    let mut growing = Growing::new(&mut spares, offset).expect(rt, "memory");
     for piece in bytes.chunks(size.max(1)) {
-        growing.append(piece).expect(rt, "memory");
+        growing.append(&mut spares, piece).expect(rt, "memory");
     }
     assert!(rt; growing.len() == bytes.len());
     growing.finish().expect(rt, "memory")
@@ -190,15 +192,14 @@ fn begins_with<R: Abort + AllocGlobal>(rt: &R, payload: &Kept, bytes: &[u8], fir
     assert!(rt; !payload.is_empty() && payload.from(0).len() == first);
 }
 
-// The second is a block that doesn't come whole.
 #[test]
 fn a_payload_grows(rt: HostRuntime) {
     let bytes = numbers(&rt, 20_000);
     assert!(rt; bytes.len() == 20_000);
-    let payload = grown(&rt, (1_000, 20_000), &bytes, 1_500);
+    let payload = grown(&rt, 1_000, &bytes, 1_500);
     begins_with(&rt, &payload, &bytes, 3_096);
     let bytes = bytes.as_slice().get(..9_000).expect(&rt, "bytes");
-    begins_with(&rt, &grown(&rt, (0, 65_536), bytes, 9_000), bytes, 4_096);
+    begins_with(&rt, &grown(&rt, 0, bytes, 9_000), bytes, 4_096);
 }
 
 // A page of a payload that is these 140,000 bytes, which stays when the payload is gone.
@@ -209,12 +210,74 @@ fn page_of<R: Abort + AllocGlobal>(rt: &R, payload: Kept, bytes: &[u8]) -> Page<
     page.clone().expect(rt, "memory")
 }
 
-// Offset 61,440 is the last page of a group of 16: behind that one come two whole groups and the beginning of the next.
 #[test]
-fn groups_come_as_blocks(rt: HostRuntime) {
+fn a_page_outlives_its_payload(rt: HostRuntime) {
     let bytes = numbers(&rt, 140_000);
-    let page = page_of(&rt, grown(&rt, (61_440, 140_000), &bytes, 50_000), &bytes);
+    let page = page_of(&rt, grown(&rt, 61_440, &bytes, 50_000), &bytes);
     assert!(rt; Some(page.as_slice()) == bytes.get(4_096 * 17..4_096 * 18));
+}
+
+// Spare memory of so many pages, of which one was shown by a payload that is gone: so many as there are places.
+fn kept<R: Abort + AllocGlobal>(rt: &R, bytes: &[u8], places: usize) -> Spares<Global> {
+    let mut spares = Spares::with_places(rt.alloc(), places).expect(rt, "memory");
+    let payload = grown(rt, 0, bytes, 20_000);
+    payload.recycle(&mut spares);
+    spares
+}
+
+// Sees that a page of spare memory has these bytes, and that its memory is spare no longer.
+fn is_used_again<R: Abort>(rt: &R, spares: &mut Spares<Global>, bytes: &[u8]) {
+    let before = spares.len();
+    let page = Payload::copied_to(spares, 4_096, bytes).expect(rt, "memory");
+    assert!(rt; before > 0 && spares.len() == before - 1);
+    assert!(rt; page.len() == 4_096 && page.from(0) == bytes);
+}
+
+#[test]
+fn memory_of_pages_is_spare(rt: HostRuntime) {
+    let bytes = numbers(&rt, 20_000);
+    assert!(rt; bytes.len() == 20_000);
+    let mut spares = kept(&rt, &bytes, 8);
+    assert!(rt; spares.len() == 5);
+    is_used_again(
+        &rt,
+        &mut spares,
+        bytes.as_slice().get(1..4_097).expect(&rt, "bytes"),
+    );
+    assert!(rt; kept(&rt, &bytes, 3).len() == 3);
+}
+
+#[test]
+fn spare_memory_is_passed_on(rt: HostRuntime) {
+    let bytes = numbers(&rt, 20_000);
+    let mut some = kept(&rt, &bytes, 8);
+    let mut others = Spares::with_places(rt.alloc(), 4).expect(&rt, "memory");
+    some.level(&mut others, 2);
+    assert!(rt; (some.len(), others.len()) == (2, 3));
+    some.level(&mut others, 4);
+    assert!(rt; (some.len(), others.len()) == (4, 1));
+    some.level(&mut others, 9);
+    assert!(rt; (some.len(), others.len()) == (5, 0));
+    some.level(&mut others, 0);
+    assert!(rt; (some.len(), others.len()) == (1, 4));
+}
+
+// Sees that a page that something else shows isn't spare.
+fn stays_shown<R: Abort>(rt: &R, payload: Kept, spares: &mut Spares<Global>) {
+    let copy = payload.clone().expect(rt, "memory");
+    payload.recycle(spares);
+    assert!(rt; spares.len() == 0 && !copy.is_empty());
+    copy.recycle(spares);
+    assert!(rt; spares.len() == 1);
+}
+
+#[test]
+fn memory_that_is_shown_is_kept(rt: HostRuntime) {
+    let bytes = numbers(&rt, 4_096);
+    let mut spares = Spares::with_places(rt.alloc(), 2).expect(&rt, "memory");
+    stays_shown(&rt, copied(&rt, 0, &bytes), &mut spares);
+    copied(&rt, 0, b"a").recycle(&mut spares);
+    assert!(rt; spares.len() == 1);
 }
 
 // Whether a payload whose memory is had there is these bytes. None where it is refused.
@@ -227,8 +290,9 @@ fn is_copied(heap: &Refusing<Global>, bytes: &[u8]) -> Option<bool> {
 
 // Whether as many bytes came as should. None where memory is refused and none came.
 fn comes_whole(heap: &Refusing<Global>, bytes: &[u8]) -> Option<bool> {
-    let mut growing = Growing::new(heap, 0, 70_000).ok()?;
-    match growing.append(bytes) {
+    let mut spares = Spares::new(heap);
+    let mut growing = Growing::new(&mut spares, 0).ok()?;
+    match growing.append(&mut spares, bytes) {
         Err(_) if growing.len() == 0 => None,
         came => Some(came.is_ok() && growing.len() == bytes.len()),
     }
@@ -254,8 +318,8 @@ fn sees_refusals<R: Abort + AllocGlobal>(rt: &R, whole: bool, bytes: &[u8], leas
 
 #[test]
 fn each_growth_is_refused_in_turn(rt: HostRuntime) {
-    let bytes = numbers(&rt, 70_000);
+    let bytes = numbers(&rt, 20_000);
     let few = bytes.as_slice().get(..9_000).expect(&rt, "bytes");
     sees_refusals(&rt, false, few, 6);
-    sees_refusals(&rt, true, &bytes, 5);
+    sees_refusals(&rt, true, &bytes, 9);
 }

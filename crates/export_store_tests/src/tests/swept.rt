@@ -91,11 +91,15 @@ fn hands_nothing_out(
 }
 
 // Whether zeros hand out a chunk that goes whole, and the pages of one that they find a part of.
-fn hands_each_out(image: &mut Paged<Global>, swept: &mut Swept<Global>) -> bool {
+fn hands_each_out(
+    image: &mut Paged<Global>,
+    swept: &mut Swept<Global>,
+    spares: &mut Spares<Global>,
+) -> bool {
     let zeroed = zeroes(image, 4_096, (2 << 20) + 4_096, false) && image.held() == 255;
     image.sweep(swept);
     let parts = swept.pages().len() == 257 && swept.chunks() == 1;
-    swept.let_go();
+    swept.recycle(spares);
     let gone = zeroes(image, 0, 4_096, false) && image.held() == 254;
     image.sweep(swept);
     zeroed && parts && gone && swept.chunks() == 1
@@ -107,5 +111,5 @@ fn zeros_hand_out_chunks_and_pages(rt: HostRuntime) {
     let mut swept = Swept::with_room(rt.alloc(), 512).expect(&rt, "memory");
     let piece = sevens(rt.alloc(), 0, 3 << 20).expect(&rt, "memory");
     assert!(rt; hands_nothing_out(&mut image, &mut swept, &piece));
-    assert!(rt; hands_each_out(&mut image, &mut swept));
+    assert!(rt; hands_each_out(&mut image, &mut swept, &mut Spares::new(rt.alloc())));
 }

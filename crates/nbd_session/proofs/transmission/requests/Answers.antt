@@ -7,7 +7,7 @@ use Rattle.nbd_session.specs.Frames.{Reading}
 use Rattle.nbd_session.specs.Streams.{Rises}
 use Rattle.nbd_session.specs.Requests.{opened}
 use Rattle.nbd_session.proofs.ServeLemmas.{served_by, still_idle, still_terms, still_few, few_at_first, worn_by_count}
-use Rattle.nbd_session.proofs.KeptLemmas.{keeps_nothing, is_ended, is_without_memory, read_rises, reads_kept, is_disc, disc_by, no_disc_by, is_worn, is_part, keeps_on, gives}
+use Rattle.nbd_session.proofs.KeptLemmas.{keeps_nothing, is_ended, is_without_memory, read_rises, reads_kept, is_disc, disc_by, no_disc_by, is_worn, is_part, keeps_on, gives, no_write_failed}
 use Rattle.nbd_session.proofs.transmission.requests.Goals as goal
 
 on_any : (P : Type 0) (answer : Result End TalkFault) → P → OnOk answer P
@@ -16,6 +16,9 @@ on_any P (Err fault) holds = tt
 
 pub returns-in-Ended-clause-written : goal.returns-in-Ended-clause-written
 returns-in-Ended-clause-written g c = on_any _ c.end_of.result c.loop-request.invariant.write_kept
+
+pub returns-in-Ended-clause-write_failed : goal.returns-in-Ended-clause-write_failed
+returns-in-Ended-clause-write_failed g c = no_write_failed _ c.in-Ended.ending c.end_of.result c.end_of.ensures
 
 pub loop-request-init : goal.loop-request-init
 loop-request-init g c =

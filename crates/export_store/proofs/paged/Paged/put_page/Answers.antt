@@ -1,8 +1,9 @@
-use Rattle.std.proofs.Common.{◌≡◌, ℕ, List, Option, ◌%◌, ◌/◌, length, unwrap_or, sym, ap, ◌∙◌, arith}
+use Rattle.std.proofs.Common.{◌≡◌, ℕ, List, Option, ◌%◌, ◌/◌, length, unwrap_or, is_some, inl, inr, sym, ap, ◌∙◌, arith}
+use Rattle.std.proofs.lemmas.Bool.{cases_eq}
 use Rattle.payload.specs.Bytes.{overwritten}
 use Rattle.payload.specs.Rows.{zero_page}
 use Rattle.payload.proofs.Overwriting.{overwritten-all}
-use Rattle.export_store.specs.Pages.{page_of}
+use Rattle.export_store.specs.Pages.{is_stored, page_of}
 use Rattle.export_store.proofs.ImageLemmas.{image_written}
 use Rattle.export_store.proofs.paged.Paged.put_page.Goals as goal
 
@@ -19,3 +20,12 @@ returns-clause-written g c =
     image_written old c.replace.new.self c.args.offset page pages after.size (omega arith) (omega arith)
     (ap shown after.here ∙ sym all ∙ ap (λ (n : ℕ). overwritten (page_of old number) n (length page) page) start)
     (λ k apart. ap shown (after.others k apart))
+
+pub returns-clause-stored : goal.returns-clause-stored
+returns-clause-stored g c =
+    let after = c.in-Ok.ensures in
+    let number = c.args.offset / 4096 in λ k there.
+    elim (cases_eq k number) [
+      | inl e ↦ ap (is_stored c.replace.new.self) e ∙ ap is_some after.here
+      | inr apart ↦ ap is_some (after.others k apart) ∙ there
+    ]

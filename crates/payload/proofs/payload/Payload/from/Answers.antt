@@ -1,4 +1,4 @@
-use Rattle.std.proofs.Common.{◌≡◌, ℕ, ◌+◌, ◌-◌, ◌/◌, ◌%◌, ◌≤◌, List, length, slice_index_or, sym, ap, ◌∙◌, arith}
+use Rattle.std.proofs.Common.{◌≡◌, ℕ, ◌+◌, ◌-◌, ◌%◌, ◌≤◌, List, length, sym, ap, ◌∙◌, arith}
 use Rattle.payload.specs.Bytes.{range_of}
 use Rattle.payload.proofs.BytesLemmas.{length-range_of}
 use Rattle.payload.proofs.RowLemmas.{length-payload, page_there, range_from}
