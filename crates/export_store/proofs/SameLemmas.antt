@@ -2,20 +2,18 @@
 use Rattle.std.proofs.Common.{◌≡◌, ℕ, ◌+◌, ◌-◌, ◌≤◌, List, ◌++◌, length, take, drop, sym, ap, ◌∙◌, arith, rules}
 use Rattle.std.proofs.lemmas.List.{places, same_lists}
 use Rattle.payload.specs.Bytes.{range_of, overwritten}
+use Rattle.payload.proofs.Overwriting.{range_of-in_two}
 use Rattle.payload.proofs.RowLemmas.{range_of-range_of}
-
-in_two : (bytes : List ℕ) (at m n : ℕ) → at + (m + n) ≤ length bytes → range_of bytes at (m + n) ≡ range_of bytes at m ++ range_of bytes (at + m) n
-in_two bytes at m n within = same_lists _ _ (search (rules, places)) (λ k d h. grind (arith, places))
 
 -- the next parts of two ranges
 pub same-next : (bytes piece : List ℕ) (start from done n : ℕ) → start + (done + n) ≤ length bytes → from + (done + n) ≤ length piece
     → range_of bytes start done ≡ range_of piece from done → range_of bytes (start + done) n ≡ range_of piece (from + done) n
     → range_of bytes start (done + n) ≡ range_of piece from (done + n)
 same-next bytes piece start from done n fits within before next =
-    in_two bytes start done n fits
+    range_of-in_two bytes start done n fits
     ∙ ap (λ (xs : List ℕ). xs ++ range_of bytes (start + done) n) before
     ∙ ap (λ (xs : List ℕ). range_of piece from done ++ xs) next
-    ∙ sym (in_two piece from done n within)
+    ∙ sym (range_of-in_two piece from done n within)
 
 -- parts of two ranges that are the same
 pub same-part : (bytes piece : List ℕ) (start from count done n : ℕ) → done + n ≤ count → range_of bytes start count ≡ range_of piece from count
