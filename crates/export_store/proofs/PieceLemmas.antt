@@ -18,7 +18,7 @@ length-part : (offset : ℕ) (piece : List ℕ) (number : ℕ) → length (part_
 length-part offset piece number = grind (arith, places)
 
 -- a page that lies whole in the piece
-page_whole : (offset : ℕ) (piece : List ℕ) (number : ℕ) (page : List ℕ) → length page ≡ 4096 → length (part_in offset piece number) ≡ 4096 → page_after offset piece number page ≡ part_in offset piece number
+pub page_whole : (offset : ℕ) (piece : List ℕ) (number : ℕ) (page : List ℕ) → length page ≡ 4096 → length (part_in offset piece number) ≡ 4096 → page_after offset piece number page ≡ part_in offset piece number
 unfolding page_after
 page_whole offset piece number page whole full =
     let start : offset - 4096 * number ≡ 0 = omega (arith, length-part offset piece number) in

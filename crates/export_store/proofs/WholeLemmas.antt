@@ -1,26 +1,18 @@
--- Whole pages, of which the last is written first.
-use Rattle.std.proofs.Common.{◌≡◌, ℕ, ◌+◌, ◌*◌, ◌/◌, ◌%◌, ◌<◌, ◌≤◌, List, [], ◌∷◌, ◌++◌, length, true, sym, ap, subst, ◌∙◌, refl, arith, rules, length-append}
+-- Whole pages that are put in the place of others of an image.
+use Rattle.std.proofs.Common.{◌≡◌, ℕ, ◌+◌, ◌-◌, ◌*◌, ◌/◌, ◌%◌, ◌<◌, ◌≤◌, ◌⊎◌, inl, inr, Bool, true, false, ◌||◌, is_some, Option, Some, List, [], length, get_or, if◌then◌else◌, refl, sym, ap, ◌∙◌, arith}
 use Rattle.std.specs.List.{concat}
-use Rattle.std.proofs.Math.Seq.{get_or-append_seam}
-use Rattle.std.proofs.lemmas.List.{places, same_lists, get_or_append_left}
-use Rattle.payload.specs.Bytes.{overwritten}
+use Rattle.std.proofs.lemmas.Bool.{cases_lt}
+use Rattle.std.proofs.lemmas.Bool.Decides.{nat_tests}
+use Rattle.payload.specs.Bytes.{range_of, overwritten}
 use Rattle.payload.specs.Rows.{AreWhole}
-use Rattle.payload.proofs.BytesLemmas.{length-overwritten}
-use Rattle.payload.proofs.Overwriting.{overwritten-none}
-use Rattle.payload.proofs.RowLemmas.{length-concat, concat-next}
-use Rattle.export_store.specs.Pages.{has_byte_of}
+use Rattle.payload.proofs.RowLemmas.{length-concat, range_in_page, range_of-page}
+use Rattle.number_sets.specs.Bits.{is_between}
+use Rattle.number_sets.proofs.RangeLemmas.{between_yes, between_before, between_behind}
+use Rattle.page_table.specs.Table.{Stored, in_table, put_from}
+use Rattle.export_store.specs.Pages.{Pages, IsPaged, stored_page, is_stored, is_held_zeros, is_held, page_of, image_of, part_in, page_after, has_byte_of}
+use Rattle.export_store.proofs.ImageLemmas.{shown}
 use Rattle.export_store.proofs.RangeLemmas.{has_byte}
-
--- the bytes behind others are written, and then these
-overwritten-back : (image front back : List ℕ) (offset : ℕ) → offset + (length front + length back) ≤ length image
-    → overwritten (overwritten image (offset + length front) (length back) back) offset (length front) front ≡ overwritten image offset (length (front ++ back)) (front ++ back)
-overwritten-back image front back offset within = same_lists _ _ (search (rules, places)) (λ k d h. grind (arith, places))
-
--- no page is left
-pub none_left : (pages : List (List ℕ)) (image : List ℕ) (offset : ℕ) → length pages ≡ 0 → offset + length (concat pages) ≤ length image
-    → image ≡ overwritten image offset (length (concat pages)) (concat pages)
-none_left [] image offset none within = sym (overwritten-none image [] offset (omega (arith, within)))
-none_left (page ∷ pages) image offset none within = absurd (omega (arith, none))
+use Rattle.export_store.proofs.PieceLemmas.{page_whole, untouched, length-page_after, image_after}
 
 -- the pages have bytes, so each of their places is in the range
 pub place_in_range : (pages : List (List ℕ)) (offset count j : ℕ) → AreWhole pages → offset % 4096 ≡ 0 → count ≡ length (concat pages) → j < length pages
@@ -29,40 +21,100 @@ place_in_range pages offset count j whole paged is below =
     let long : count ≡ 4096 * length pages = is ∙ length-concat pages whole in
     has_byte offset count (offset / 4096 + j) (omega (arith, long, below)) (omega arith) (omega (arith, long, below, paged))
 
--- the last of several pages
-module _ (pages front : List (List ℕ)) (page : List ℕ) (whole : AreWhole pages) (is : pages ≡ front ++ page ∷ []) where
-  all : AreWhole (front ++ page ∷ [])
-  all = subst (λ (rows : List (List ℕ)). AreWhole rows) is whole
+-- what is so in so many places from one on is so in each between
+pub so_between : (test : ℕ → Bool) (first n k : ℕ) → ((j : ℕ) → j < n → test (first + j) ≡ true) → is_between first (first + n) k ≡ true → test k ≡ true
+so_between test first n k all inside =
+    let above : first ≤ k = grind (arith, nat_tests) in
+    let below : k < first + n = grind (arith, nat_tests) in
+    let place : k ≡ first + (k - first) = omega arith in
+    ap test place ∙ all (k - first) (omega arith)
 
-  longer : length (front ++ page ∷ []) ≡ length front + 1
-  longer = length-append front (page ∷ [])
+-- a number is between, or it isn't
+where_it_is : (first end k : ℕ) → ((first ≤ k) × (k < end)) ⊎ ((k < first) ⊎ (end ≤ k))
+where_it_is first end k =
+    elim (cases_lt k first) [
+      | inl lt ↦ inr (inl lt)
+      | inr le ↦ elim (cases_lt k end) [ inl lt ↦ inl (le, lt) | inr ge ↦ inr (inr ge) ]
+    ]
 
-  pub front_whole : AreWhole front
-  front_whole k d below = sym (ap length (get_or_append_left front (page ∷ []) d k below)) ∙ all k d (omega (arith, longer, below))
+between_no : (first end k : ℕ) → (k < first) ⊎ (end ≤ k) → is_between first end k ≡ false
+between_no first end k out = elim out [ inl lt ↦ between_before first end k lt | inr ge ↦ between_behind first end k ge ]
 
-  pub last_whole : length page ≡ 4096
-  last_whole = ap length (sym (get_or-append_seam front page [] page)) ∙ all (length front) page (omega (arith, longer))
+-- the page of a piece of whole pages that is written, and one beside it
+page_of_piece : (pages : List (List ℕ)) (offset k : ℕ) (page : List ℕ) → AreWhole pages → offset % 4096 ≡ 0 → length page ≡ 4096 → offset / 4096 ≤ k → k < offset / 4096 + length pages
+    → page_after offset (concat pages) k page ≡ get_or pages (k - offset / 4096) []
+page_of_piece pages offset k page whole paged is above below =
+    let number : ℕ = k - offset / 4096 in
+    let there : number < length pages = omega arith in
+    let begin : 4096 * k - offset ≡ 4096 * number + 0 = omega arith in
+    let all : 4096 - (offset - 4096 * k) ≡ 4096 = omega arith in
+    let part : part_in offset (concat pages) k ≡ get_or pages number [] =
+    ap (λ (at : ℕ). range_of (concat pages) at (4096 - (offset - 4096 * k))) begin
+    ∙ ap (λ (n : ℕ). range_of (concat pages) (4096 * number + 0) n) all
+    ∙ range_in_page pages whole number 0 4096 [] there (omega arith)
+    ∙ range_of-page (get_or pages number []) (whole number [] there) in
+    page_whole offset (concat pages) k page is (ap length part ∙ whole number [] there) ∙ part
 
-  pub one_more : length pages ≡ length front + 1
-  one_more = ap length is ∙ longer
+page_beside : (pages : List (List ℕ)) (offset k : ℕ) (page : List ℕ) → AreWhole pages → offset % 4096 ≡ 0 → (k < offset / 4096) ⊎ (offset / 4096 + length pages ≤ k)
+    → page_after offset (concat pages) k page ≡ page
+page_beside pages offset k page whole paged out =
+    let long : length (concat pages) ≡ 4096 * length pages = length-concat pages whole in
+    let apart : has_byte_of offset (length (concat pages)) k ≡ false = elim out [
+      | inl lt ↦ let past : 4096 * k + 4096 ≤ offset = omega arith in grind (arith, nat_tests)
+      | inr ge ↦ let past : offset + length (concat pages) ≤ 4096 * k = omega (arith, long, ge, paged) in grind (arith, nat_tests)
+    ] in
+    untouched offset (concat pages) k page apart
 
-  pub bytes_of_all : concat pages ≡ concat front ++ page
-  bytes_of_all = ap concat is ∙ concat-next front page
+-- the new pages are the old ones, but that these are stored in place of those that were from an offset on
+pub record Puts (old new : Pages) (offset : ℕ) (pages : List (List ℕ)) : Type 0 where
+  pub paged : offset % 4096 ≡ 0
+  pub whole : AreWhole pages
+  pub stored : (j : ℕ) → j < length pages → is_stored old (offset / 4096 + j) ≡ true
+  pub size : new.size ≡ old.size
+  pub zeros : (k : ℕ) → is_held_zeros new k ≡ is_held_zeros old k
+  pub put : (k : ℕ) → stored_page new k ≡ put_from (offset / 4096) pages (stored_page old) k
 
-  pub length_of_all : length (concat pages) ≡ length (concat front) + 4096
-  length_of_all = ap length bytes_of_all ∙ length-append (concat front) page ∙ ap (λ (n : ℕ). length (concat front) + n) last_whole
+-- as the fields of an image were found, where `now` is what contracts see of it, and `row` are the pages
+pub puts : (size : ℕ) (m n : Stored) (z : List (ℕ × List ℕ)) (now : Pages) (offset : ℕ) (pages row : List (List ℕ)) → record { size = size; chunks = m; zeros = z } ≡ now → row ≡ pages → offset % 4096 ≡ 0 → AreWhole pages
+    → ((j : ℕ) → j < length pages → is_stored now (offset / 4096 + j) ≡ true) → ((k : ℕ) → in_table n k ≡ put_from (offset / 4096) row (in_table m) k)
+    → Puts (record { size = size; chunks = m; zeros = z }) (record { size = size; chunks = n; zeros = z }) offset pages
+puts size m n z now offset pages row seen is paged whole stored put = record {
+  paged = paged;
+  whole = whole;
+  stored = λ j below. ap (λ (p : Pages). is_stored p (offset / 4096 + j)) seen ∙ stored j below;
+  size = refl;
+  zeros = λ k. refl;
+  put = λ k. put k ∙ ap (λ (rows : List (List ℕ)). put_from (offset / 4096) rows (in_table m) k) is;
+}
 
-  pub length_of_front : length (concat front) ≡ 4096 * length front
-  length_of_front = length-concat front front_whole
+module _ (old new : Pages) (offset : ℕ) (pages : List (List ℕ)) (puts : Puts old new offset pages) where
+  put_or_not : (k : ℕ) (b : Bool) → is_between (offset / 4096) (offset / 4096 + length pages) k ≡ b → stored_page new k ≡ (if b then Some (get_or pages (k - offset / 4096) []) else stored_page old k)
+  put_or_not k b is = puts.put k ∙ ap {B = Option (List ℕ)} (λ (c : Bool). if c then Some (get_or pages (k - offset / 4096) []) else stored_page old k) is
 
-  -- the last is written, and what is left makes the same of the image
-  module _ (image after : List ℕ) (offset at : ℕ) (place : at ≡ offset + length (concat front)) (within : offset + length (concat pages) ≤ length image)
-      (put : after ≡ overwritten image at (length page) page) where
-    pub as_long : length after ≡ length image
-    as_long = ap length put ∙ length-overwritten image at (length page) page (omega (arith, place, within, length_of_all, last_whole)) refl
+  page_put : IsPaged old → (k : ℕ) → page_of new k ≡ page_after offset (concat pages) k (page_of old k)
+  page_put is k =
+      elim (where_it_is (offset / 4096) (offset / 4096 + length pages) k) [
+        | inl inside ↦ ap shown (put_or_not k true (between_yes _ _ k inside.0 inside.1)) ∙ sym (page_of_piece pages offset k (page_of old k) puts.whole puts.paged (is.whole k) inside.0 inside.1)
+        | inr out ↦ ap shown (put_or_not k false (between_no _ _ k out)) ∙ sym (page_beside pages offset k (page_of old k) puts.whole puts.paged out)
+      ]
 
-    pub left_makes_the_same : overwritten after offset (length (concat front)) (concat front) ≡ overwritten image offset (length (concat pages)) (concat pages)
-    left_makes_the_same =
-        ap (λ (bytes : List ℕ). overwritten bytes offset (length (concat front)) (concat front)) (put ∙ ap (λ (n : ℕ). overwritten image n (length page) page) place)
-        ∙ overwritten-back image (concat front) page offset (omega (arith, within, length_of_all, last_whole))
-        ∙ ap (λ (bytes : List ℕ). overwritten image offset (length bytes) bytes) (sym bytes_of_all)
+  stored_put : (k : ℕ) → is_stored new k ≡ is_stored old k
+  stored_put k =
+      elim (where_it_is (offset / 4096) (offset / 4096 + length pages) k) [
+        | inl inside ↦ let here = between_yes (offset / 4096) (offset / 4096 + length pages) k inside.0 inside.1 in
+            ap is_some (put_or_not k true here) ∙ sym (so_between (is_stored old) (offset / 4096) (length pages) k puts.stored here)
+        | inr out ↦ ap is_some (put_or_not k false (between_no _ _ k out))
+      ]
+
+  pub held_put : (k : ℕ) → is_held new k ≡ is_held old k
+  held_put k = ap (λ (b : Bool). b || is_held_zeros new k) (stored_put k) ∙ ap (λ (b : Bool). is_stored old k || b) (puts.zeros k)
+
+  pub IsPaged-put : IsPaged old → IsPaged new
+  IsPaged-put is = record {
+    whole = λ k. ap length (page_put is k) ∙ length-page_after offset (concat pages) k (page_of old k) (is.whole k);
+    within = λ k held. rw puts.size (is.within k (sym (held_put k) ∙ held));
+    apart = λ k there. puts.zeros k ∙ is.apart k (sym (stored_put k) ∙ there);
+  }
+
+  pub image_put : IsPaged old → offset + length (concat pages) ≤ length (image_of old) → image_of new ≡ overwritten (image_of old) offset (length (concat pages)) (concat pages)
+  image_put is within = image_after old new offset (concat pages) is puts.size within (page_put is)

@@ -1,4 +1,4 @@
-ghost use Rattle.std.specs.Prelude.{◌≡◌, ℕ, ◌+◌, ◌-◌, ◌*◌, ◌/◌, ◌%◌, ◌<◌, ◌≤◌, ◌≢◌, ◌||◌, ◌&&◌, ◌==◌, length, drop, replicate, min, not, if◌then◌else◌, true, false, Some, IfOk, IsOk, OnOk, OnErr};
+ghost use Rattle.std.specs.Prelude.{◌≡◌, ℕ, ◌+◌, ◌-◌, ◌*◌, ◌/◌, ◌%◌, ◌<◌, ◌≤◌, ◌≢◌, ◌||◌, ◌&&◌, ◌==◌, length, drop, replicate, min, not, if◌then◌else◌, true, false, Some, None, IfOk, IsOk, OnSome, OnOk, OnErr};
 ghost use Rattle.std.specs.Bool.{OnFalse};
 ghost use Rattle.std.specs.Int.{div_ceil};
 ghost use Rattle.std.specs.List.{concat};
@@ -61,6 +61,11 @@ impl<A: Allocator + Copy> Paged<A> {
         ensures { result ≡ is_held self.now number }
     {
         self.pages.stores(number) || self.zeros.has(number)
+    }
+
+    /// Whether a page is stored that nobody else has, more or less (`Table::has_alone`).
+    pub fn has_alone(&self, number: usize) -> bool {
+        self.pages.has_alone(number)
     }
 
     /// How many pages are held. It looks at what is there, and not at each page of the image.
@@ -396,6 +401,26 @@ impl<A: Allocator + Copy> Paged<A> {
         self.put_all(offset, piece, pages)
     }
 
+    // Writes a piece from the beginning of a page on that is several whole pages. None where it isn't.
+    fn write_whole(&mut self, offset: usize, piece: &Payload<A>) -> Result<Option<()>, NoMemory>
+        requires paged { offset % 4096 ≡ 0 }
+        requires within { offset + length piece.now ≤ length (image_of self.old) }
+        ensures written { IfOk result (λ found. OnSome found (image_of self.new
+            ≡ overwritten (image_of self.old) offset (length piece.now) piece.now)) }
+        ensures held { IfOk result (λ found. OnSome found ((k : ℕ) → is_held self.new k
+            ≡ (is_held self.old k || has_byte_of offset (length piece.now) k))) }
+        ensures none { IfOk result (λ found. found ≡ None → self.new ≡ self.old) }
+        ensures no_memory { OnErr result (image_of self.new ≡ image_of self.old) }
+    {
+        let Some(pages) = piece.whole_pages(self.alloc)? else {
+            return Ok(None);
+        };
+        let bytes = piece.len();
+        self.store_all(offset, bytes)?;
+        self.put_whole(offset, bytes, pages);
+        Ok(Some(()))
+    }
+
     // Writes a piece, and makes pages by spare memory.
     fn write_by(
         &mut self,
@@ -416,6 +441,9 @@ impl<A: Allocator + Copy> Paged<A> {
         if in_page(offset, piece.len()) == piece.len() {
             return self.write_one(spares, offset, piece);
         }
+        if offset % PAGE == 0 && self.write_whole(offset, piece)?.is_some() {
+            return Ok(());
+        }
         self.write_many(spares, offset, piece)
     }
 
@@ -431,11 +459,9 @@ impl<A: Allocator + Copy> Paged<A> {
             ≡ overwritten (image_of self.old) offset count (concat pages.items) }
         ensures held { (k : ℕ) → is_held self.new k ≡ is_held self.old k }
     {
-        let mut at = self.end_of(offset, count);
-        while let Some(page) = pages.pop() {
-            at -= PAGE;
-            self.put_page(at, page);
-        }
+        let _end = self.end_of(offset, count);
+        self.pages.exchange(offset / PAGE, pages.as_mut_slice());
+        self.swept.take_pages(pages);
     }
 
     // Writes a piece from the beginning of a page on, and takes its pages where nobody else has them. Where memory is refused the piece

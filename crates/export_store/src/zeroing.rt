@@ -5,7 +5,7 @@ ghost use Rattle.page_table.specs.Table.{in_table};
 ghost use Rattle.export_store.specs.Pages.{has_byte_of, lies_whole_in, zeroed};
 
 use page_table::{Swept, Table};
-use payload::PAGE;
+use payload::{PAGE, Spares};
 use std::alloc::Allocator;
 
 /// The pages from a number on before an end.
@@ -81,6 +81,31 @@ pub(crate) fn emptied_pages<A: Allocator + Copy>(
     }
 }
 
+// Makes a range of an image of a size zero, and pages by spare memory. Pages that lie whole in it are stored no longer.
+fn zero_by<A: Allocator + Copy>(
+    pages: &mut Table<A>,
+    spares: &mut Spares<A>,
+    size: usize,
+    offset: usize,
+    count: usize,
+    swept: &mut Swept<A>,
+)
+    requires some { 0 < count }
+    requires within { offset + count ≤ size }
+    requires inside { (k : ℕ) → is_some (in_table pages.old k) ≡ true → 4096 * k < size }
+    ensures { (k : ℕ) → in_table pages.new k ≡ zeroed size offset count k (in_table pages.old k) }
+{
+    let whole = whole_pages(size, offset, count);
+    pages.remove(whole.first, whole.end, swept);
+    let (first, start) = (offset / PAGE, offset % PAGE);
+    pages.clear(spares, first, start, count.min(PAGE - start), swept);
+    let last = (offset + count - 1) / PAGE;
+    if last == first {
+        return;
+    }
+    pages.clear(spares, last, 0, offset + count - last * PAGE, swept);
+}
+
 /// Makes a range of an image of a size zero. Pages that lie whole in it are stored no longer.
 pub(crate) fn zero_pages<A: Allocator + Copy>(
     pages: &mut Table<A>,
@@ -95,13 +120,7 @@ pub(crate) fn zero_pages<A: Allocator + Copy>(
     requires inside { (k : ℕ) → is_some (in_table pages.old k) ≡ true → 4096 * k < size }
     ensures { (k : ℕ) → in_table pages.new k ≡ zeroed size offset count k (in_table pages.old k) }
 {
-    let whole = whole_pages(size, offset, count);
-    pages.remove(whole.first, whole.end, swept);
-    let (first, start) = (offset / PAGE, offset % PAGE);
-    pages.clear(alloc, first, start, count.min(PAGE - start), swept);
-    let last = (offset + count - 1) / PAGE;
-    if last == first {
-        return;
-    }
-    pages.clear(alloc, last, 0, offset + count - last * PAGE, swept);
+    let mut spares = swept.lend(alloc);
+    zero_by(pages, &mut spares, size, offset, count, swept);
+    swept.take_back(spares);
 }

@@ -121,7 +121,8 @@ pub const SPARES_OF_A_SESSION: usize = 1_024;
 /// How many spare pages there are at most that belong to no session: 64 MiB.
 pub const MOST_SPARES: usize = 16_384;
 
-/// How many pages that writes replaced a reader lets go behind a hold, of the export and of its base.
+/// How many pages that writes replaced a reader lets go behind a hold at first, of the export and of its base. Where there are more, the
+/// next hold has room for twice as many (`Swept::recycle`).
 pub const OUTDATED_PAGES: usize = 256;
 
 /// How much work is done at a hold's end on the base of its export, where steps are queued for that: in pages that are written,

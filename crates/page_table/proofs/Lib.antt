@@ -1,7 +1,9 @@
 pub mod PlacesLemmas
+pub mod RunLemmas
 pub mod ShownLemmas
 pub mod HolesLemmas
 pub mod RegionsLemmas
 pub mod ChunkLemmas
+pub mod ExchangeLemmas
 pub mod ChunksLemmas
 pub mod TableLemmas

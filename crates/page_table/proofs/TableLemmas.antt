@@ -52,12 +52,12 @@ eq_self k = grind (arith, nat_tests)
 eq_other : (p q : ℕ) → p ≢ q → nat_eq p q ≡ false
 eq_other p q apart = grind (arith, nat_tests)
 
-filled_bit : (b a : Bool) → a ≡ true → (b && not a) ≡ false
+pub filled_bit : (b a : Bool) → a ≡ true → (b && not a) ≡ false
 filled_bit true true e = refl
 filled_bit false true e = refl
 filled_bit b false e = absurd (cc)
 
-kept_bit : (b a : Bool) → a ≡ false → (b && not a) ≡ b
+pub kept_bit : (b a : Bool) → a ≡ false → (b && not a) ≡ b
 kept_bit true false e = refl
 kept_bit false false e = refl
 kept_bit b true e = absurd (cc)

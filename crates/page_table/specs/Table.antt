@@ -1,8 +1,8 @@
 -- Pages by their numbers, in chunks of 256 in a row, and these in regions of 256 in a row.
-use Rattle.std.specs.Prelude.{◌≡◌, ℕ, suc, ◌/◌, ◌%◌, ◌<◌, ◌^◌, Bool, true, Option, None, Some, is_some, IfSome, List, [], ◌∷◌, length, replicate, get_or, if◌then◌else◌}
+use Rattle.std.specs.Prelude.{◌≡◌, ℕ, suc, ◌+◌, ◌-◌, ◌/◌, ◌%◌, ◌<◌, ◌^◌, Bool, true, Option, None, Some, is_some, IfSome, List, [], ◌∷◌, length, replicate, get_or, if◌then◌else◌}
 use Rattle.std.specs.List.{filter}
 use Rattle.payload.specs.Bytes.{overwritten}
-use Rattle.number_sets.specs.Bits.{count_of}
+use Rattle.number_sets.specs.Bits.{count_of, is_between}
 use Rattle.page_table.specs.Holes.{Holes, is_hole, is_noted}
 
 -- what is in the places of a chunk
@@ -63,6 +63,10 @@ kept chunks = count_of (is_kept chunks) 0 (2 ^ 64)
 pub record HaveRoom (chunks : Regions) (holes : Holes) : Type 0 where
   pub pages : kept chunks ≡ holes.pages
   pub rows : (number : ℕ) → is_noted holes.rows number ≡ true → is_kept chunks number ≡ true
+
+-- the page of a number once these are put in the places of the numbers from one on
+abbrev pub put_from : ℕ → List (List ℕ) → (ℕ → Option (List ℕ)) → ℕ → Option (List ℕ)
+put_from first pages before number = if is_between first (first + length pages) number then Some (get_or pages (number - first) []) else before number
 
 -- a page with a range of it made zero, where it is stored
 abbrev pub cleared : ℕ → ℕ → Option (List ℕ) → Option (List ℕ)

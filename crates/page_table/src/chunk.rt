@@ -1,6 +1,6 @@
-ghost use Rattle.std.specs.Prelude.{◌≡◌, ◌≢◌, ℕ, ◌<◌, ◌≤◌, None, Some, IfSome, IfOk, IfErr, OnOk, OnErr, length, get_or, set, replicate, if◌then◌else◌};
+ghost use Rattle.std.specs.Prelude.{◌≡◌, ◌≢◌, ℕ, ◌+◌, ◌<◌, ◌≤◌, None, Some, IfSome, true, IsSome, IfOk, IfErr, OnOk, OnErr, length, get_or, set, replicate, if◌then◌else◌};
 ghost use Rattle.number_sets.specs.Bits.{is_between};
-ghost use Rattle.page_table.specs.Table.{in_chunk, taken};
+ghost use Rattle.page_table.specs.Table.{in_chunk, put_from, taken};
 
 use crate::places::Places;
 use crate::swept::Swept;
@@ -125,6 +125,27 @@ impl<A: Allocator + Copy> Chunk<A> {
                 Err(page)
             }
             Pages::Many(pages) => pages.exchange(place, page),
+        }
+    }
+
+    /// Exchanges pages for those in the places from one on, in each of which one is.
+    pub(crate) fn exchange_all(&mut self, first: usize, pages: &mut [Page<A>])
+        requires within { first + length pages.old ≤ 256 }
+        requires some { 0 < length pages.old }
+        requires there { (k : ℕ) → is_between first (first + length pages.old) k ≡ true
+            → IsSome (in_chunk (Some self.old) k) }
+        ensures here { (k : ℕ) → in_chunk (Some self.new) k
+            ≡ put_from first pages.old (in_chunk (Some self.old)) k }
+        ensures long { length pages.new ≡ length pages.old }
+    {
+        match &mut self.pages {
+            Pages::Nowhere => {}
+            Pages::One(at, stored) => {
+                // Read, so that it is known to be one of the 256 places.
+                let _place = *at;
+                mem::swap(stored, &mut pages[0]);
+            }
+            Pages::Many(places) => places.exchange_all(first, pages),
         }
     }
 

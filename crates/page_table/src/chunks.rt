@@ -1,6 +1,6 @@
-ghost use Rattle.std.specs.Prelude.{◌≡◌, ℕ, ◌+◌, ◌*◌, ◌/◌, ◌%◌, ◌<◌, ◌≤◌, ◌^◌, ◌≢◌, None, Some, IsSome, IfSome, IfErr, OnOk, OnErr, is_some, is_ok, if◌then◌else◌};
+ghost use Rattle.std.specs.Prelude.{◌≡◌, ℕ, ◌+◌, ◌*◌, ◌/◌, ◌%◌, ◌<◌, ◌≤◌, ◌^◌, ◌≢◌, None, Some, length, IsSome, IfSome, IfErr, OnOk, OnErr, is_some, true, is_ok, if◌then◌else◌};
 ghost use Rattle.number_sets.specs.Bits.{is_between, count_of};
-ghost use Rattle.page_table.specs.Table.{Chunk as Seen, chunk_of, in_chunk, in_chunks, is_kept, taken};
+ghost use Rattle.page_table.specs.Table.{Chunk as Seen, chunk_of, in_chunk, in_chunks, is_kept, put_from, taken};
 
 use crate::chunk::Chunk;
 use crate::regions::Regions;
@@ -83,6 +83,37 @@ impl<A: Allocator + Copy> Chunks<A> {
         };
         swept.take_page(before);
         Ok(())
+    }
+
+    // Exchanges pages for those of the numbers from one on, which are all stored and lie in one chunk.
+    fn exchange_in(&mut self, first: usize, pages: &mut [Page<A>])
+        requires within { first % 256 + length pages.old ≤ 256 }
+        requires some { 0 < length pages.old }
+        requires stored { (k : ℕ) → is_between first (first + length pages.old) k ≡ true
+            → is_kept self.old k ≡ true }
+        ensures here { (k : ℕ) → in_chunks self.new k
+            ≡ put_from first pages.old (in_chunks self.old) k }
+        ensures long { length pages.new ≡ length pages.old }
+    {
+        self.chunks
+            .exchange_pages(first / CHUNK, first % CHUNK, pages);
+    }
+
+    /// Exchanges pages for those of the numbers from one on, which are all stored.
+    pub(crate) fn exchange_all(&mut self, first: usize, pages: &mut [Page<A>])
+        requires room { first + length pages.old < 2 ^ 64 }
+        requires stored { (k : ℕ) → is_between first (first + length pages.old) k ≡ true
+            → is_kept self.old k ≡ true }
+        ensures { (k : ℕ) → in_chunks self.new k
+            ≡ put_from first pages.old (in_chunks self.old) k }
+    {
+        let mut done = 0;
+        while done < pages.len() {
+            let number = first + done;
+            let count = (CHUNK - number % CHUNK).min(pages.len() - done);
+            self.exchange_in(number, &mut pages[done..done + count]);
+            done += count;
+        }
     }
 
     /// Stores a page of whose number none is.

@@ -1,7 +1,7 @@
-ghost use Rattle.std.specs.Prelude.{◌≡◌, ◌≢◌, ℕ, ◌<◌, ◌≤◌, ◌==◌, None, Some, IsSome, IfSome, IfOk, IfErr, OnOk, OnErr, is_some, length, get_or, set, replicate, if◌then◌else◌};
+ghost use Rattle.std.specs.Prelude.{◌≡◌, ◌≢◌, ◌++◌, ℕ, ◌+◌, ◌<◌, ◌≤◌, ◌==◌, None, Some, IsSome, IfSome, IfOk, IfErr, OnOk, OnErr, is_some, true, take, drop, length, get_or, set, replicate, if◌then◌else◌};
 ghost use Rattle.std.specs.List.{filter};
 ghost use Rattle.number_sets.specs.Bits.{is_between};
-ghost use Rattle.page_table.specs.Table.{in_chunk, taken};
+ghost use Rattle.page_table.specs.Table.{in_chunk, put_from, taken};
 
 use crate::chunk::Chunk;
 use crate::swept::Swept;
@@ -142,6 +142,32 @@ impl<T: Drop, A: Allocator + Copy> Places<T, A> {
     }
 }
 
+// Exchanges others for a part of a row.
+fn exchange_part<T>(row: &mut [T], at: usize, others: &mut [T])
+    requires { at + length others.old ≤ length row.old }
+    ensures row { row.new
+        ≡ take at row.old ++ (others.old ++ drop (at + length others.old) row.old) }
+    ensures long { length others.new ≡ length others.old }
+{
+    row[at..at + others.len()].swap_with_slice(others);
+}
+
+impl<A: Allocator + Copy> Places<Page<A>, A> {
+    /// Exchanges pages for those in the places from one on, in each of which one is.
+    pub(crate) fn exchange_all(&mut self, first: usize, pages: &mut [Page<A>])
+        requires within { first + length pages.old ≤ 256 }
+        requires some { 0 < length pages.old }
+        requires there { (k : ℕ) → is_between first (first + length pages.old) k ≡ true
+            → IsSome (get_or self.old k None) }
+        ensures here { (k : ℕ) → get_or self.new k None
+            ≡ put_from first pages.old (in_chunk (Some self.old)) k }
+        ensures long { length pages.new ≡ length pages.old }
+    {
+        let at = bits::count_below(&self.marks, first);
+        exchange_part(self.items.as_mut_slice(), at, pages);
+    }
+}
+
 // Pages of a chunk are stored no longer, from a place on before an end, and are swept out. The answer is how many are stored then.
 fn remove_from<A: Allocator + Copy>(
     chunk: &mut Chunk<A>,
@@ -206,6 +232,22 @@ impl<A: Allocator + Copy> Places<Chunk<A>, A> {
     {
         let at = bits::count_below(&self.marks, chunk);
         self.items[at].add(alloc, place, page)
+    }
+
+    /// Exchanges pages for those in the places of a chunk from one on, in each of which one is.
+    pub(crate) fn exchange_pages(&mut self, chunk: usize, first: usize, pages: &mut [Page<A>])
+        requires chunk { chunk < 256 }
+        requires within { first + length pages.old ≤ 256 }
+        requires some { 0 < length pages.old }
+        requires there { (k : ℕ) → is_between first (first + length pages.old) k ≡ true
+            → IsSome (in_chunk (get_or self.old chunk None) k) }
+        ensures here { (k : ℕ) → in_chunk (get_or self.new chunk None) k
+            ≡ put_from first pages.old (in_chunk (get_or self.old chunk None)) k }
+        ensures others { (q : ℕ) → q ≢ chunk → get_or self.new q None ≡ get_or self.old q None }
+        ensures long { length pages.new ≡ length pages.old }
+    {
+        let at = bits::count_below(&self.marks, chunk);
+        self.items[at].exchange_all(first, pages);
     }
 
     /// Pages of a chunk that is there are stored no longer, from a place on before an end, and are swept out. The answer is how many

@@ -1,6 +1,6 @@
-ghost use Rattle.std.specs.Prelude.{◌≡◌, ℕ, ◌<◌, ◌≤◌, ◌≢◌, [], None, Some, IsSome, IfSome, IfOk, IfErr, OnOk, OnErr, length, get_or, if◌then◌else◌};
+ghost use Rattle.std.specs.Prelude.{◌≡◌, ℕ, ◌+◌, ◌<◌, ◌≤◌, ◌≢◌, [], true, None, Some, IsSome, IfSome, IfOk, IfErr, OnOk, OnErr, length, get_or, if◌then◌else◌};
 ghost use Rattle.number_sets.specs.Bits.{is_between};
-ghost use Rattle.page_table.specs.Table.{chunk_of, in_chunk, taken};
+ghost use Rattle.page_table.specs.Table.{chunk_of, in_chunk, put_from, taken};
 
 use crate::chunk::Chunk;
 use crate::places::Places;
@@ -116,6 +116,20 @@ impl<A: Allocator + Copy> Regions<A> {
         ensures no_memory { OnErr result (in_chunk (chunk_of self.new number) place ≡ None) }
     {
         self.regions[number / REGION].add_page(alloc, number % REGION, place, page)
+    }
+
+    /// Exchanges pages for those in the places of a chunk from one on, in each of which one is.
+    pub(crate) fn exchange_pages(&mut self, number: usize, first: usize, pages: &mut [Page<A>])
+        requires within { first + length pages.old ≤ 256 }
+        requires some { 0 < length pages.old }
+        requires there { (k : ℕ) → is_between first (first + length pages.old) k ≡ true
+            → IsSome (in_chunk (chunk_of self.old number) k) }
+        ensures here { (k : ℕ) → in_chunk (chunk_of self.new number) k
+            ≡ put_from first pages.old (in_chunk (chunk_of self.old number)) k }
+        ensures others { (q : ℕ) → q ≢ number → chunk_of self.new q ≡ chunk_of self.old q }
+        ensures long { length pages.new ≡ length pages.old }
+    {
+        self.regions[number / REGION].exchange_pages(number % REGION, first, pages);
     }
 
     /// Pages of a chunk that is there are stored no longer, from a place on before an end, and are swept out. The answer is how many

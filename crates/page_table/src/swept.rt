@@ -1,4 +1,4 @@
-ghost use Rattle.std.specs.Prelude.{◌≡◌, ◌⊎◌, ◌++◌, ◌∷◌, [], length, IfOk};
+ghost use Rattle.std.specs.Prelude.{◌≡◌, ◌⊎◌, ◌++◌, ◌∷◌, [], length, take, IfOk};
 ghost use Rattle.page_table.specs.Swept.{nothing};
 
 use crate::chunk::Chunk;
@@ -11,6 +11,12 @@ use std::mem;
 
 /// For how many pages an image is lent memory.
 const SPARES: usize = 32;
+
+/// For how many pages there is room at most: those of a WRITE of 32 MiB.
+const MOST_PAGES: usize = 8_192;
+
+/// At how many pages' counts of owners it looks before it changes the first.
+const LOOKED_AT: usize = 16;
 
 /// What an image doesn't need any more: pages, and whole chunks of them.
 #[derive(Drop)]
@@ -70,15 +76,41 @@ impl<A: Allocator + Copy> Swept<A> {
     }
 
     /// Lets all go. The memory of pages that came alone and that nobody else shows is spare, as far as there are places, and of
-    /// that the image is lent some for the pages that it makes.
+    /// that the image is lent some for the pages that it makes. Where the room for pages was full, it is twice as large from now on, if
+    /// there is memory.
     pub fn recycle(&mut self, spares: &mut Spares<A>)
         ensures { self.new ≡ nothing }
     {
+        let was_full = self.pages.len() == self.pages.capacity();
         while let Some(page) = self.pages.pop() {
+            if self.pages.len() % LOOKED_AT == 0 {
+                let _alone = self.look_at_last();
+            }
             spares.keep(page);
         }
         self.chunks.clear();
         self.spares.level(spares, SPARES);
+        if was_full {
+            self.widen();
+        }
+    }
+
+    // There is room for twice as many pages, up to those of the longest WRITE, where no memory is refused.
+    fn widen(&mut self)
+        ensures { self.new ≡ self.old }
+    {
+        let twice = self.pages.capacity().saturating_mul(2).min(MOST_PAGES);
+        let _ = self.pages.reserve(twice.saturating_sub(self.pages.len()));
+    }
+
+    // Looks at the counts of owners of the last pages, which mostly are in no cache: a processor waits for several at once, but for one
+    // after another where it changes each. Tells how many pages nobody else has, more or less.
+    fn look_at_last(&self) -> usize {
+        let mut alone = 0usize;
+        for page in self.pages.iter().rev().take(LOOKED_AT) {
+            alone = alone.wrapping_add(page.is_alone() as usize);
+        }
+        alone
     }
 
     /// Takes out what the image is lent, until `take_back`.
@@ -102,6 +134,16 @@ impl<A: Allocator + Copy> Swept<A> {
     {
         if self.pages.len() < self.pages.capacity() {
             self.pages.push_reserved(page);
+        }
+    }
+
+    /// Pages that aren't needed any more, each as `take_page` takes it.
+    pub fn take_pages(&mut self, pages: Vec<Page<A>, A>)
+        ensures pages { take (length self.old.0) self.new.0 ≡ self.old.0 }
+        ensures chunks { self.new.1 ≡ self.old.1 }
+    {
+        for page in pages {
+            self.take_page(page);
         }
     }
 

@@ -1,6 +1,6 @@
-ghost use Rattle.std.specs.Prelude.{◌≡◌, ℕ, ◌+◌, ◌*◌, ◌/◌, ◌<◌, ◌≤◌, ◌^◌, ◌≢◌, None, Some, IfOk, IsOk, IsSome, IfSome, OnOk, OnErr, is_some, true, false, if◌then◌else◌};
+ghost use Rattle.std.specs.Prelude.{◌≡◌, ℕ, ◌+◌, ◌*◌, ◌/◌, ◌<◌, ◌≤◌, ◌^◌, ◌≢◌, ◌%◌, length, None, Some, IfOk, IsOk, IsSome, IfSome, OnOk, OnErr, is_some, true, false, if◌then◌else◌};
 ghost use Rattle.number_sets.specs.Bits.{is_set, is_between, count_of};
-ghost use Rattle.page_table.specs.Table.{in_table, in_chunks, shown, cleared, chunk_of};
+ghost use Rattle.page_table.specs.Table.{in_table, in_chunks, is_kept, put_from, shown, cleared, chunk_of};
 ghost use Rattle.page_table.specs.Holes.{is_noted};
 
 use crate::chunks::{CHUNK, Chunks};
@@ -8,7 +8,7 @@ use crate::holes::Holes;
 use crate::swept::Swept;
 use nbd_base::NoMemory;
 use number_sets::bits;
-use payload::{PAGE, Page};
+use payload::{PAGE, Page, Spares};
 use std::alloc::Allocator;
 use std::marker::Model;
 
@@ -78,6 +78,15 @@ impl<A: Allocator + Copy> Table<A> {
         }
     }
 
+    /// Whether a page is stored that nobody else has, more or less: others may let it go meanwhile. It looks at the count of the page's
+    /// owners, so whoever asks has that in a cache then.
+    pub fn has_alone(&self, number: usize) -> bool {
+        let Some(page) = self.chunks.get(number) else {
+            return false;
+        };
+        page.is_alone()
+    }
+
     // The page of a number: the one that is stored, or a copy where some of its bytes were made zero since.
     fn current(&self, alloc: A, number: usize, page: &Page<A>) -> Result<Page<A>, NoMemory>
         requires { in_chunks self.now.chunks number ≡ Some page.now }
@@ -140,10 +149,24 @@ impl<A: Allocator + Copy> Table<A> {
         }
     }
 
+    /// Puts pages in the place of those of the numbers from one on, which are all stored: what was there is in their places in the row
+    /// then.
+    pub fn exchange(&mut self, first: usize, pages: &mut [Page<A>])
+        requires room { first + length pages.old < 2 ^ 64 }
+        requires stored { (k : ℕ) → is_between first (first + length pages.old) k ≡ true
+            → is_some (in_table self.old k) ≡ true }
+        ensures { (k : ℕ) → in_table self.new k
+            ≡ put_from first pages.old (in_table self.old) k }
+    {
+        let behind = first + pages.len();
+        self.chunks.exchange_all(first, pages);
+        self.holes.fill_all(first, behind);
+    }
+
     // The page of a number, with a range of it made zero.
     fn cleared(
         &self,
-        alloc: A,
+        spares: &mut Spares<A>,
         number: usize,
         page: &Page<A>,
         start: usize,
@@ -156,15 +179,15 @@ impl<A: Allocator + Copy> Table<A> {
     {
         let zeros: Page<A> = Page::zeros();
         let part = &zeros.as_slice()[..count];
-        let current = self.current(alloc, number, page)?;
-        let after = current.with(alloc, start, part)?;
+        let current = self.current(spares.alloc(), number, page)?;
+        let after = current.with(spares, start, part)?;
         Ok(after)
     }
 
     /// Makes a range of a page zero, where it is stored.
     pub fn clear(
         &mut self,
-        alloc: A,
+        spares: &mut Spares<A>,
         number: usize,
         start: usize,
         count: usize,
@@ -178,9 +201,9 @@ impl<A: Allocator + Copy> Table<A> {
             return;
         };
         let _whole = page.as_slice();
-        match self.cleared(alloc, number, page, start, count) {
+        match self.cleared(spares, number, page, start, count) {
             Ok(after) => {
-                let Ok(()) = self.put(alloc, number, after, swept) else {
+                let Ok(()) = self.put(spares.alloc(), number, after, swept) else {
                     unreachable!();
                 };
             }

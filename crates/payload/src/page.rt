@@ -2,6 +2,7 @@ ghost use Rattle.std.specs.Prelude.{◌≡◌, ◌+◌, ◌≤◌, length, IfOk}
 ghost use Rattle.payload.specs.Bytes.{overwritten};
 ghost use Rattle.payload.specs.Rows.{zero_page};
 
+use crate::spares::Spares;
 use bytes::Bytes;
 use nbd_base::NoMemory;
 use std::alloc::{AllocError, Allocator};
@@ -19,14 +20,6 @@ pub(crate) fn zeros() -> &'static [u8]
     ensures whole { length result.now ≡ 4096 }
 {
     &ZEROS
-}
-
-/// Puts bytes in the place of others from one on.
-pub(crate) fn put<A: Allocator>(bytes: &mut Vec<u8, A>, at: usize, part: &[u8])
-    requires { at + length part.now ≤ length bytes.old.items }
-    ensures { bytes.new.items ≡ overwritten bytes.old.items at (length part.now) part.now }
-{
-    bytes[at..at + part.len()].copy_from_slice(part);
 }
 
 /// 4,096 bytes that don't change. A clone is one more owner of them, and copies none.
@@ -100,6 +93,11 @@ impl<A: Allocator> Page<A> {
 }
 
 impl<A: Allocator + Copy> Page<A> {
+    /// Whether nobody else has it, by a look at the count of its owners. Another thread may let one go meanwhile.
+    pub fn is_alone(&self) -> bool {
+        self.bytes.is_unique()
+    }
+
     /// A page of these bytes.
     pub fn holding(alloc: A, bytes: [u8; 4096]) -> Result<Page<A>, NoMemory>
         ensures bytes { IfOk result (λ page. page ≡ bytes) }
@@ -109,16 +107,23 @@ impl<A: Allocator + Copy> Page<A> {
         Ok(Page::of(bytes))
     }
 
-    /// A page with other bytes in place of those from the start on.
-    pub fn with(&self, alloc: A, start: usize, part: &[u8]) -> Result<Page<A>, NoMemory>
+    /// A page with other bytes in place of those from the start on, in memory of a spare page where there is one.
+    pub fn with(
+        &self,
+        spares: &mut Spares<A>,
+        start: usize,
+        part: &[u8],
+    ) -> Result<Page<A>, NoMemory>
         requires { start + length part.now ≤ 4096 }
         ensures bytes { IfOk result (λ page.
             page ≡ overwritten self.now start (length part.now) part.now) }
         ensures whole { IfOk result (λ page. length page ≡ 4096) }
     {
-        let mut bytes = Vec::from_slice(alloc, self.as_slice())?;
-        put(&mut bytes, start, part);
-        let bytes = Bytes::from_vec(bytes)?;
+        let mut block = spares.take()?;
+        block.extend_reserved(&self.as_slice()[..start]);
+        block.extend_reserved(part);
+        block.extend_reserved(&self.as_slice()[start + part.len()..]);
+        let bytes = block.freeze()?;
         Ok(Page::of(bytes))
     }
 }

@@ -283,6 +283,22 @@ impl<A: Allocator + Copy> Payload<A> {
         growing.finish()
     }
 
+    /// The pages that these bytes are, where they are several whole ones. No byte is copied.
+    pub fn whole_pages(&self, alloc: A) -> Result<Option<Vec<Page<A>, A>>, NoMemory>
+        ensures whole { IfOk result (λ found. IfSome found (λ pages. AreWhole pages.items)) }
+        ensures bytes { IfOk result (λ found.
+            IfSome found (λ pages. concat pages.items ≡ self.now)) }
+    {
+        let Pieces::Pages(pages, start, end) = self.pieces() else {
+            return Ok(None);
+        };
+        if end / PAGE != pages.len() || end % PAGE != 0 || start != 0 {
+            return Ok(None);
+        }
+        let pages = Vec::from_clones(alloc, pages)?;
+        Ok(Some(pages))
+    }
+
     /// Lets the bytes go. The memory of pages that nobody else has is kept as spare, as far as there are places.
     pub fn recycle(self, spares: &mut Spares<A>)
         ensures { spares.old ≤ spares.new }

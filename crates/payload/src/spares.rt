@@ -55,8 +55,8 @@ impl<A: Allocator + Copy> Spares<A> {
         self.blocks.len()
     }
 
-    // Where memory comes from once there are none.
-    pub(crate) fn alloc(&self) -> A {
+    /// Where memory comes from once there are none.
+    pub fn alloc(&self) -> A {
         self.alloc
     }
 

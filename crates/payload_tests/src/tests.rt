@@ -41,7 +41,8 @@ fn comes_back<R: Abort + AllocGlobal>(rt: &R, payload: Kept, bytes: &[u8]) {
 
 // Sees that a change of a page that ends by `ab` is made in a copy.
 fn changes_by_a_copy<R: Abort + AllocGlobal>(rt: &R, page: &Page<Global>) {
-    let other = page.with(rt.alloc(), 4_095, b"c").expect(rt, "memory");
+    let mut spares = Spares::new(rt.alloc());
+    let other = page.with(&mut spares, 4_095, b"c").expect(rt, "memory");
     assert!(rt; other.as_slice().get(4_095) == Some(&99));
     let same = page.clone().expect(rt, "memory");
     assert!(rt; same.as_slice().get(4_094) == Some(&97) && same.as_slice().get(4_095) == Some(&98));
@@ -50,11 +51,41 @@ fn changes_by_a_copy<R: Abort + AllocGlobal>(rt: &R, page: &Page<Global>) {
 
 #[test]
 fn a_page_changes_by_a_copy(rt: HostRuntime) {
+    let mut spares = Spares::new(rt.alloc());
     let zeros = Page::zeros();
-    let page = zeros.with(rt.alloc(), 4_094, b"ab").expect(&rt, "memory");
+    let page = zeros.with(&mut spares, 4_094, b"ab").expect(&rt, "memory");
     changes_by_a_copy(&rt, &page);
     let full = Page::holding(rt.alloc(), [7; 4096]).expect(&rt, "memory");
     assert!(rt; full.copy().as_slice().get(4095) == Some(&7));
+}
+
+// Sees that two whole pages of a payload are pages of their own, which others have too.
+fn are_its_pages<R: Abort + AllocGlobal>(rt: &R, payload: &Kept, bytes: &[u8]) {
+    let found = payload.whole_pages(rt.alloc()).expect(rt, "memory");
+    let pages = found.expect(rt, "whole pages");
+    assert!(rt; pages.len() == 2);
+    for page in &pages {
+        assert!(rt; !page.is_alone());
+    }
+    let all = Payload::among(rt.alloc(), pages, 0, 8_192).expect(rt, "memory");
+    is_of(rt, &all, bytes);
+}
+
+// Sees that a payload isn't several whole pages.
+fn has_parts<R: Abort + AllocGlobal>(rt: &R, payload: &Kept) {
+    let found = payload.whole_pages(rt.alloc()).expect(rt, "memory");
+    assert!(rt; found.is_none());
+}
+
+#[test]
+fn a_payload_gives_its_whole_pages(rt: HostRuntime) {
+    let bytes = numbers(&rt, 8_192);
+    are_its_pages(&rt, &copied(&rt, 4_096, &bytes), &bytes);
+    has_parts(&rt, &copied(&rt, 4_095, &bytes));
+    has_parts(&rt, &copied(&rt, 0, &numbers(&rt, 8_191)));
+    has_parts(&rt, &copied(&rt, 0, &numbers(&rt, 4_096)));
+    let page = Page::holding(Spares::new(rt.alloc()).alloc(), [7; 4096]).expect(&rt, "memory");
+    assert!(rt; page.is_alone());
 }
 
 // Sees that a payload of 10,000 bytes lies in pages, of which the first holds 4,000.

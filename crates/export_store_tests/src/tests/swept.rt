@@ -34,6 +34,34 @@ fn outdated_pages_are_handed_out(rt: HostRuntime) {
     assert!(rt; is_but(alloc, &image, 7, 0, 0));
 }
 
+// Whether two whole pages of a payload come in the place of those that were there, which are handed out.
+fn exchanges(image: &mut Paged<Global>, swept: &mut Swept<Global>, pages: Payload<Global>) -> bool {
+    let written = puts(image, 4_096, &pages);
+    let shared = !image.has_alone(1) && !image.has_alone(2);
+    drop(pages);
+    image.sweep(swept);
+    let out = swept.pages().len() == 2
+        && swept
+            .pages()
+            .iter()
+            .zip([1, 2])
+            .all(|(page, first)| page.as_slice().first() == Some(&first));
+    written && shared && out && image.has_alone(1) && image.has_alone(2)
+}
+
+#[test]
+fn whole_pages_are_exchanged(rt: HostRuntime) {
+    let alloc = rt.alloc();
+    let mut image: Paged<Global> = Paged::zeros(alloc, 12288).expect(&rt, "memory");
+    assert!(rt; puts_sevens(alloc, &mut image, 12288));
+    assert!(rt; writes(alloc, &mut image, 4096, &[1]) && writes(alloc, &mut image, 8192, &[2]));
+    let mut swept = Swept::with_room(alloc, 4).expect(&rt, "memory");
+    image.sweep(&mut swept);
+    let pages = sevens(alloc, 4_096, 8_192).expect(&rt, "memory");
+    assert!(rt; exchanges(&mut image, &mut swept, pages));
+    assert!(rt; is_but(alloc, &image, 7, 0, 0));
+}
+
 // Whether the two pages of an offer are kept until the next one, and handed out then.
 fn hands_out_an_offer(
     image: &mut Paged<Global>,

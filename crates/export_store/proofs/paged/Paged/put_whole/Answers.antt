@@ -1,77 +1,51 @@
-use Rattle.std.proofs.Common.{◌≡◌, ℕ, ◌+◌, ◌-◌, ◌/◌, ◌≤◌, List, ◌∷◌, [], ◌++◌, length, sym, ap, ◌∙◌, arith}
+use Rattle.std.proofs.Common.{ℕ, ◌+◌, ◌≤◌, ◌/◌, ◌≡◌, length, sym, ap, ◌∙◌, arith}
 use Rattle.std.specs.List.{concat}
 use Rattle.payload.specs.Bytes.{overwritten}
-use Rattle.export_store.specs.Pages.{image_of, is_stored}
-use Rattle.export_store.proofs.WholeLemmas.{none_left, front_whole, last_whole, one_more, length_of_all, length_of_front, as_long, left_makes_the_same}
+use Rattle.export_store.specs.Pages.{Pages, image_of, is_stored, is_held}
+use Rattle.export_store.proofs.ImageLemmas.{length_seen, length-image_of}
+use Rattle.export_store.proofs.WholeLemmas.{Puts, puts, so_between, held_put, IsPaged-put, image_put}
 use Rattle.export_store.proofs.paged.Paged.put_whole.Goals as goal
 
-pub overflow_sub-at : goal.overflow_sub-at
-overflow_sub-at g c =
-    let before = c.loop-page.invariant in
-    omega (arith, before.place, length_of_all c.loop-page.pages.items c.pop.new.self.items c.in-Some.page before.whole c.in-Some.ensures.items)
+pub exchange-requires-clause-stored : goal.exchange-requires-clause-stored
+exchange-requires-clause-stored g c = λ k inside.
+    let i = c.self.inside in
+    let first : ℕ = c.args.offset / 4096 in
+    let row = c.as_mut_slice.result.now in
+    let long : length row ≡ length c.args.pages.items = ap length c.as_mut_slice.ensures.value in
+    so_between (is_stored (record { size = i.size; chunks = i.pages; zeros = i.zeros })) first (length row) k
+    (λ j below. ap (λ (p : Pages). is_stored p (first + j)) c.self.view_is ∙ c.requires.stored j (omega (arith, long, below))) inside
 
-pub put_page-requires-clause-paged : goal.put_page-requires-clause-paged
-put_page-requires-clause-paged g c =
-    let before = c.loop-page.invariant in
-    let front : List (List ℕ) = c.pop.new.self.items in
-    omega (
-      arith,
-      before.place,
-      c.requires.paged,
-      length_of_all c.loop-page.pages.items front c.in-Some.page before.whole c.in-Some.ensures.items,
-      length_of_front c.loop-page.pages.items front c.in-Some.page before.whole c.in-Some.ensures.items,
-    )
-
-pub put_page-requires-clause-whole : goal.put_page-requires-clause-whole
-put_page-requires-clause-whole g c = last_whole c.loop-page.pages.items c.pop.new.self.items c.in-Some.page c.loop-page.invariant.whole c.in-Some.ensures.items
-
-pub put_page-requires-clause-within : goal.put_page-requires-clause-within
-put_page-requires-clause-within g c =
-    let before = c.loop-page.invariant in
-    omega (arith, before.place, before.within, length_of_all c.loop-page.pages.items c.pop.new.self.items c.in-Some.page before.whole c.in-Some.ensures.items)
-
-pub put_page-requires-clause-stored : goal.put_page-requires-clause-stored
-put_page-requires-clause-stored g c =
-    let before = c.loop-page.invariant in
-    let pages : List (List ℕ) = c.loop-page.pages.items in
-    let front : List (List ℕ) = c.pop.new.self.items in
-    let number : (c.loop-page.at - 4096) / 4096 ≡ c.args.offset / 4096 + length front = omega (
-      arith,
-      before.place,
-      c.requires.paged,
-      length_of_all pages front c.in-Some.page before.whole c.in-Some.ensures.items,
-      length_of_front pages front c.in-Some.page before.whole c.in-Some.ensures.items,
-    ) in
-    ap (λ (k : ℕ). is_stored c.loop-page.self k) number
-    ∙ before.stored (length front) (omega (arith, one_more pages front c.in-Some.page before.whole c.in-Some.ensures.items))
-
-pub loop-page-preserved : goal.loop-page-preserved
-loop-page-preserved g c =
-    let before = c.loop-page.invariant in
-    let after = c.put_page.ensures in
-    let pages : List (List ℕ) = c.loop-page.pages.items in
-    let front : List (List ℕ) = c.pop.new.self.items in
-    let page : List ℕ = c.in-Some.page in
-    let is : pages ≡ front ++ page ∷ [] = c.in-Some.ensures.items in
-    let all = length_of_all pages front page before.whole is in
-    let image : List ℕ = image_of c.loop-page.self in
-    let image_after : List ℕ = image_of c.put_page.new.self in
-    let place : c.loop-page.at - 4096 ≡ c.args.offset + length (concat front) = omega (arith, before.place, all) in
-    let within : c.args.offset + length (concat pages) ≤ length image = omega (arith, before.place, before.within) in
-    record {
-      whole = front_whole pages front page before.whole is;
-      place = place;
-      within = omega (arith, before.within, as_long pages front page before.whole is image image_after c.args.offset (c.loop-page.at - 4096) place within after.written);
-      written = left_makes_the_same pages front page before.whole is image image_after c.args.offset (c.loop-page.at - 4096) place within after.written ∙ before.written;
-      held = λ k. after.held k ∙ before.held k;
-      stored = λ j below. after.stored (c.args.offset / 4096 + j) (before.stored j (omega (arith, below, one_more pages front page before.whole is)));
-    }
+pub invariant_of-self : goal.invariant_of-self
+invariant_of-self g c =
+    let i = c.self.inside in
+    let old : Pages = record { size = i.size; chunks = i.pages; zeros = i.zeros } in
+    let new : Pages = record { size = i.size; chunks = c.exchange.new.self; zeros = i.zeros } in
+    let change : Puts old new c.args.offset c.args.pages.items =
+    puts i.size i.pages c.exchange.new.self i.zeros c.args.self.now c.args.offset c.args.pages.items c.as_mut_slice.result.now c.self.view_is c.as_mut_slice.ensures.value
+    c.requires.paged c.requires.whole c.requires.stored c.exchange.ensures in
+    IsPaged-put old new c.args.offset c.args.pages.items change c.self.invariant
 
 pub returns-clause-written : goal.returns-clause-written
 returns-clause-written g c =
-    let before = c.loop-page.invariant in
-    let pages : List (List ℕ) = c.loop-page.pages.items in
-    let none : length pages ≡ 0 = sym c.loop-page.pages.ok.0 ∙ c.in_default.ensures.cases.0 in
-    none_left pages (image_of c.loop-page.self) c.args.offset none (omega (arith, before.place, before.within))
-    ∙ before.written
+    let i = c.self.inside in
+    let old : Pages = record { size = i.size; chunks = i.pages; zeros = i.zeros } in
+    let new : Pages = record { size = i.size; chunks = c.exchange.new.self; zeros = i.zeros } in
+    let change : Puts old new c.args.offset c.args.pages.items =
+    puts i.size i.pages c.exchange.new.self i.zeros c.args.self.now c.args.offset c.args.pages.items c.as_mut_slice.result.now c.self.view_is c.as_mut_slice.ensures.value
+    c.requires.paged c.requires.whole c.requires.stored c.exchange.ensures in
+    let within : c.args.offset + length (concat c.args.pages.items) ≤ length (image_of old) =
+    omega (arith, c.requires.within, c.requires.counted, length_seen old _ c.self.view_is c.self.invariant, length-image_of old c.self.invariant) in
+    image_put old new c.args.offset c.args.pages.items change c.self.invariant within
+    ∙ ap (λ (p : Pages). overwritten (image_of p) c.args.offset (length (concat c.args.pages.items)) (concat c.args.pages.items)) c.self.view_is
     ∙ ap (λ (n : ℕ). overwritten (image_of c.args.self.now) c.args.offset n (concat c.args.pages.items)) (sym c.requires.counted)
+
+pub returns-clause-held : goal.returns-clause-held
+returns-clause-held g c = λ k.
+    let i = c.self.inside in
+    let old : Pages = record { size = i.size; chunks = i.pages; zeros = i.zeros } in
+    let new : Pages = record { size = i.size; chunks = c.exchange.new.self; zeros = i.zeros } in
+    let change : Puts old new c.args.offset c.args.pages.items =
+    puts i.size i.pages c.exchange.new.self i.zeros c.args.self.now c.args.offset c.args.pages.items c.as_mut_slice.result.now c.self.view_is c.as_mut_slice.ensures.value
+    c.requires.paged c.requires.whole c.requires.stored c.exchange.ensures in
+    held_put old new c.args.offset c.args.pages.items change k
+    ∙ ap (λ (p : Pages). is_held p k) c.self.view_is

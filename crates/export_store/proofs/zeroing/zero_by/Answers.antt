@@ -1,7 +1,7 @@
 use Rattle.std.proofs.Common.{◌+◌, ◌-◌, ◌*◌, ◌%◌, ◌/◌, ℕ, refl}
 use Rattle.page_table.specs.Table.{in_table}
 use Rattle.export_store.proofs.ZeroLemmas.{all_zeroed}
-use Rattle.export_store.proofs.zeroing.zero_pages.Goals as goal
+use Rattle.export_store.proofs.zeroing.zero_by.Goals as goal
 
 pub returns-then-last-first : goal.returns-then-last-first
 returns-then-last-first g c =
