@@ -1,6 +1,6 @@
 //! What is in an export no longer.
 ghost use Rattle.std.specs.Prelude.{◌≡◌, IfOk};
-ghost use Rattle.page_table.specs.Swept.{nothing};
+ghost use Rattle.payload.specs.Swept.{nothing};
 
 use export_store::Swept;
 use nbd_base::NoMemory;

@@ -1,13 +1,13 @@
 -- Whole pages that are put in the place of others of an image.
-use Rattle.std.proofs.Common.{◌≡◌, ℕ, ◌+◌, ◌-◌, ◌*◌, ◌/◌, ◌%◌, ◌<◌, ◌≤◌, ◌⊎◌, inl, inr, Bool, true, false, ◌||◌, is_some, Option, Some, List, [], length, get_or, if◌then◌else◌, refl, sym, ap, ◌∙◌, arith}
+use Rattle.std.proofs.Common.{◌≡◌, ℕ, ◌+◌, ◌-◌, ◌*◌, ◌/◌, ◌%◌, ◌<◌, ◌≤◌, inl, inr, Bool, true, false, ◌||◌, is_some, Option, Some, List, [], length, get_or, if◌then◌else◌, refl, sym, ap, ◌∙◌, arith}
 use Rattle.std.specs.List.{concat}
-use Rattle.std.proofs.lemmas.Bool.{cases_lt}
+use Rattle.std.proofs.lemmas.Bool.{cases_Bool}
 use Rattle.std.proofs.lemmas.Bool.Decides.{nat_tests}
 use Rattle.payload.specs.Bytes.{range_of, overwritten}
 use Rattle.payload.specs.Rows.{AreWhole}
 use Rattle.payload.proofs.RowLemmas.{length-concat, range_in_page, range_of-page}
 use Rattle.number_sets.specs.Bits.{is_between}
-use Rattle.number_sets.proofs.RangeLemmas.{between_yes, between_before, between_behind}
+use Rattle.number_sets.proofs.RangeLemmas.{between_from, between_to}
 use Rattle.page_table.specs.Table.{Stored, in_table, put_from}
 use Rattle.export_store.specs.Pages.{Pages, IsPaged, stored_page, is_stored, is_held_zeros, is_held, page_of, image_of, part_in, page_after, has_byte_of}
 use Rattle.export_store.proofs.ImageLemmas.{shown}
@@ -24,21 +24,10 @@ place_in_range pages offset count j whole paged is below =
 -- what is so in so many places from one on is so in each between
 pub so_between : (test : ℕ → Bool) (first n k : ℕ) → ((j : ℕ) → j < n → test (first + j) ≡ true) → is_between first (first + n) k ≡ true → test k ≡ true
 so_between test first n k all inside =
-    let above : first ≤ k = grind (arith, nat_tests) in
-    let below : k < first + n = grind (arith, nat_tests) in
+    let above : first ≤ k = between_from first (first + n) k inside in
+    let below : k < first + n = between_to first (first + n) k inside in
     let place : k ≡ first + (k - first) = omega arith in
     ap test place ∙ all (k - first) (omega arith)
-
--- a number is between, or it isn't
-where_it_is : (first end k : ℕ) → ((first ≤ k) × (k < end)) ⊎ ((k < first) ⊎ (end ≤ k))
-where_it_is first end k =
-    elim (cases_lt k first) [
-      | inl lt ↦ inr (inl lt)
-      | inr le ↦ elim (cases_lt k end) [ inl lt ↦ inl (le, lt) | inr ge ↦ inr (inr ge) ]
-    ]
-
-between_no : (first end k : ℕ) → (k < first) ⊎ (end ≤ k) → is_between first end k ≡ false
-between_no first end k out = elim out [ inl lt ↦ between_before first end k lt | inr ge ↦ between_behind first end k ge ]
 
 -- the page of a piece of whole pages that is written, and one beside it
 page_of_piece : (pages : List (List ℕ)) (offset k : ℕ) (page : List ℕ) → AreWhole pages → offset % 4096 ≡ 0 → length page ≡ 4096 → offset / 4096 ≤ k → k < offset / 4096 + length pages
@@ -55,14 +44,11 @@ page_of_piece pages offset k page whole paged is above below =
     ∙ range_of-page (get_or pages number []) (whole number [] there) in
     page_whole offset (concat pages) k page is (ap length part ∙ whole number [] there) ∙ part
 
-page_beside : (pages : List (List ℕ)) (offset k : ℕ) (page : List ℕ) → AreWhole pages → offset % 4096 ≡ 0 → (k < offset / 4096) ⊎ (offset / 4096 + length pages ≤ k)
+page_beside : (pages : List (List ℕ)) (offset k : ℕ) (page : List ℕ) → AreWhole pages → offset % 4096 ≡ 0 → is_between (offset / 4096) (offset / 4096 + length pages) k ≡ false
     → page_after offset (concat pages) k page ≡ page
 page_beside pages offset k page whole paged out =
     let long : length (concat pages) ≡ 4096 * length pages = length-concat pages whole in
-    let apart : has_byte_of offset (length (concat pages)) k ≡ false = elim out [
-      | inl lt ↦ let past : 4096 * k + 4096 ≤ offset = omega arith in grind (arith, nat_tests)
-      | inr ge ↦ let past : offset + length (concat pages) ≤ 4096 * k = omega (arith, long, ge, paged) in grind (arith, nat_tests)
-    ] in
+    let apart : has_byte_of offset (length (concat pages)) k ≡ false = grind (arith, nat_tests) in
     untouched offset (concat pages) k page apart
 
 -- the new pages are the old ones, but that these are stored in place of those that were from an offset on
@@ -93,17 +79,16 @@ module _ (old new : Pages) (offset : ℕ) (pages : List (List ℕ)) (puts : Puts
 
   page_put : IsPaged old → (k : ℕ) → page_of new k ≡ page_after offset (concat pages) k (page_of old k)
   page_put is k =
-      elim (where_it_is (offset / 4096) (offset / 4096 + length pages) k) [
-        | inl inside ↦ ap shown (put_or_not k true (between_yes _ _ k inside.0 inside.1)) ∙ sym (page_of_piece pages offset k (page_of old k) puts.whole puts.paged (is.whole k) inside.0 inside.1)
-        | inr out ↦ ap shown (put_or_not k false (between_no _ _ k out)) ∙ sym (page_beside pages offset k (page_of old k) puts.whole puts.paged out)
+      elim (cases_Bool (is_between (offset / 4096) (offset / 4096 + length pages) k)) [
+        | inl inside ↦ ap shown (put_or_not k true inside) ∙ sym (page_of_piece pages offset k (page_of old k) puts.whole puts.paged (is.whole k) (between_from _ _ k inside) (between_to _ _ k inside))
+        | inr out ↦ ap shown (put_or_not k false out) ∙ sym (page_beside pages offset k (page_of old k) puts.whole puts.paged out)
       ]
 
   stored_put : (k : ℕ) → is_stored new k ≡ is_stored old k
   stored_put k =
-      elim (where_it_is (offset / 4096) (offset / 4096 + length pages) k) [
-        | inl inside ↦ let here = between_yes (offset / 4096) (offset / 4096 + length pages) k inside.0 inside.1 in
-            ap is_some (put_or_not k true here) ∙ sym (so_between (is_stored old) (offset / 4096) (length pages) k puts.stored here)
-        | inr out ↦ ap is_some (put_or_not k false (between_no _ _ k out))
+      elim (cases_Bool (is_between (offset / 4096) (offset / 4096 + length pages) k)) [
+        | inl inside ↦ ap is_some (put_or_not k true inside) ∙ sym (so_between (is_stored old) (offset / 4096) (length pages) k puts.stored inside)
+        | inr out ↦ ap is_some (put_or_not k false out)
       ]
 
   pub held_put : (k : ℕ) → is_held new k ≡ is_held old k

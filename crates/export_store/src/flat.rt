@@ -4,8 +4,7 @@ ghost use Rattle.payload.specs.Bytes.{range_of, overwritten};
 
 use crate::image::Image;
 use nbd_base::NoMemory;
-use page_table::Swept;
-use payload::Payload;
+use payload::{Payload, Swept};
 use std::alloc::Allocator;
 use std::marker::Model;
 

@@ -3,8 +3,7 @@ ghost use Rattle.std.specs.Bool.{OnFalse};
 ghost use Rattle.payload.specs.Bytes.{range_of, overwritten};
 
 use nbd_base::NoMemory;
-use page_table::Swept;
-use payload::Payload;
+use payload::{Payload, Swept};
 use std::alloc::Allocator;
 
 /// The bytes of an export, however they are kept. What a contract sees of an image is the list of its bytes.

@@ -13,5 +13,5 @@ mod zeroing;
 
 pub use flat::Flat;
 pub use image::Image;
-pub use page_table::Swept;
 pub use paged::Paged;
+pub use payload::Swept;

@@ -3,8 +3,7 @@ ghost use Rattle.std.specs.Prelude.{◌≡◌, ◌+◌, ◌≤◌, length, IfSom
 ghost use Rattle.payload.specs.Bytes.{range_of, overwritten};
 
 use crate::comparing::is_put_over;
-use page_table::Swept;
-use payload::{Page, Payload};
+use payload::{Page, Payload, Swept};
 use std::alloc::Allocator;
 
 /// The page that another image has under a number.

@@ -1,5 +1,5 @@
-ghost use Rattle.std.specs.Prelude.{◌≡◌, ℕ, ◌+◌, ◌-◌, ◌*◌, ◌/◌, ◌%◌, ◌<◌, ◌≤◌, ◌≢◌, ◌||◌, ◌&&◌, ◌==◌, length, drop, replicate, min, not, if◌then◌else◌, true, false, Some, None, IfOk, IsOk, OnSome, OnOk, OnErr};
-ghost use Rattle.std.specs.Bool.{OnFalse};
+ghost use Rattle.std.specs.Prelude.{◌≡◌, ℕ, ◌+◌, ◌-◌, ◌*◌, ◌/◌, ◌%◌, ◌<◌, ◌≤◌, ◌≢◌, ◌||◌, ◌&&◌, ◌==◌, length, drop, replicate, min, not, if◌then◌else◌, true, false, Some, None, IfOk, IsOk, OnOk, OnErr};
+ghost use Rattle.std.specs.Bool.{OnTrue, OnFalse};
 ghost use Rattle.std.specs.Int.{div_ceil};
 ghost use Rattle.std.specs.List.{concat};
 ghost use Rattle.payload.specs.Bytes.{range_of, overwritten};
@@ -13,8 +13,8 @@ use crate::offers::{Offer, Offers};
 use crate::zeroing::{emptied_pages, whole_pages, zero_pages};
 use nbd_base::NoMemory;
 use number_sets::{BITMAP, HeldZeros};
-use page_table::{CHUNK, Swept, Table};
-use payload::{PAGE, Page, Payload, Spares};
+use page_table::{CHUNK, Table};
+use payload::{PAGE, Page, Payload, Spares, Swept};
 use std::alloc::Allocator;
 use std::marker::Model;
 use std::mem;
@@ -401,24 +401,24 @@ impl<A: Allocator + Copy> Paged<A> {
         self.put_all(offset, piece, pages)
     }
 
-    // Writes a piece from the beginning of a page on that is several whole pages. None where it isn't.
-    fn write_whole(&mut self, offset: usize, piece: &Payload<A>) -> Result<Option<()>, NoMemory>
+    // Writes a piece from the beginning of a page on, where it is several whole pages; false where it isn't.
+    fn write_whole(&mut self, offset: usize, piece: &Payload<A>) -> Result<bool, NoMemory>
         requires paged { offset % 4096 ≡ 0 }
         requires within { offset + length piece.now ≤ length (image_of self.old) }
-        ensures written { IfOk result (λ found. OnSome found (image_of self.new
+        ensures written { IfOk result (λ whole. OnTrue whole (image_of self.new
             ≡ overwritten (image_of self.old) offset (length piece.now) piece.now)) }
-        ensures held { IfOk result (λ found. OnSome found ((k : ℕ) → is_held self.new k
+        ensures held { IfOk result (λ whole. OnTrue whole ((k : ℕ) → is_held self.new k
             ≡ (is_held self.old k || has_byte_of offset (length piece.now) k))) }
-        ensures none { IfOk result (λ found. found ≡ None → self.new ≡ self.old) }
+        ensures other { IfOk result (λ whole. OnFalse whole (self.new ≡ self.old)) }
         ensures no_memory { OnErr result (image_of self.new ≡ image_of self.old) }
     {
         let Some(pages) = piece.whole_pages(self.alloc)? else {
-            return Ok(None);
+            return Ok(false);
         };
         let bytes = piece.len();
         self.store_all(offset, bytes)?;
         self.put_whole(offset, bytes, pages);
-        Ok(Some(()))
+        Ok(true)
     }
 
     // Writes a piece, and makes pages by spare memory.
@@ -441,7 +441,7 @@ impl<A: Allocator + Copy> Paged<A> {
         if in_page(offset, piece.len()) == piece.len() {
             return self.write_one(spares, offset, piece);
         }
-        if offset % PAGE == 0 && self.write_whole(offset, piece)?.is_some() {
+        if offset % PAGE == 0 && self.write_whole(offset, piece)? {
             return Ok(());
         }
         self.write_many(spares, offset, piece)

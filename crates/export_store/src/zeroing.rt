@@ -4,8 +4,8 @@ ghost use Rattle.number_sets.specs.Bits.{is_between};
 ghost use Rattle.page_table.specs.Table.{in_table};
 ghost use Rattle.export_store.specs.Pages.{has_byte_of, lies_whole_in, zeroed};
 
-use page_table::{Swept, Table};
-use payload::{PAGE, Spares};
+use page_table::Table;
+use payload::{PAGE, Spares, Swept};
 use std::alloc::Allocator;
 
 /// The pages from a number on before an end.

@@ -13,6 +13,21 @@ between_before first end k before = grind (arith, nat_tests)
 pub between_behind : (first end k : ℕ) → end ≤ k → is_between first end k ≡ false
 between_behind first end k behind = grind (arith, nat_tests)
 
+-- what a number between two is
+pub between_from : (first end k : ℕ) → is_between first end k ≡ true → first ≤ k
+between_from first end k inside =
+    elim (cases_lt k first) [
+      | inl lt ↦ let bad : false ≡ true = sym (between_before first end k lt) ∙ inside in absurd (cc)
+      | inr le ↦ le
+    ]
+
+pub between_to : (first end k : ℕ) → is_between first end k ≡ true → k < end
+between_to first end k inside =
+    elim (cases_lt k end) [
+      | inl lt ↦ lt
+      | inr ge ↦ let bad : false ≡ true = sym (between_behind first end k ge) ∙ inside in absurd (cc)
+    ]
+
 -- two ranges that have the same numbers
 pub between_end : (first next end k : ℕ) → first ≤ next → next ≤ max first end → end ≤ next → is_between first next k ≡ is_between first end k
 between_end first next end k begun upto done =

@@ -4,6 +4,5 @@ pub mod ShownLemmas
 pub mod HolesLemmas
 pub mod RegionsLemmas
 pub mod ChunkLemmas
-pub mod ExchangeLemmas
 pub mod ChunksLemmas
 pub mod TableLemmas

@@ -2,4 +2,3 @@ pub mod Places
 pub mod Holes
 pub mod Table
 pub mod Chunk
-pub mod Swept

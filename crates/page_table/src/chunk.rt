@@ -3,9 +3,8 @@ ghost use Rattle.number_sets.specs.Bits.{is_between};
 ghost use Rattle.page_table.specs.Table.{in_chunk, put_from, taken};
 
 use crate::places::Places;
-use crate::swept::Swept;
 use nbd_base::NoMemory;
-use payload::Page;
+use payload::{ChunkPages, Page, Swept};
 use std::alloc::Allocator;
 use std::marker::Model;
 use std::mem;
@@ -207,6 +206,16 @@ impl<A: Allocator + Copy> Chunk<A> {
             if let Some(page) = self.take(place) {
                 swept.take_page(page);
             }
+        }
+    }
+
+    /// All its pages are swept out together.
+    pub(crate) fn let_go(self, swept: &mut Swept<A>) {
+        let Chunk { pages } = self;
+        match pages {
+            Pages::Nowhere => {}
+            Pages::One(_, page) => swept.take_chunk(ChunkPages::One(page)),
+            Pages::Many(pages) => swept.take_chunk(ChunkPages::Many(pages.into_items())),
         }
     }
 }

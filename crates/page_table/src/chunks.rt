@@ -4,9 +4,8 @@ ghost use Rattle.page_table.specs.Table.{Chunk as Seen, chunk_of, in_chunk, in_c
 
 use crate::chunk::Chunk;
 use crate::regions::Regions;
-use crate::swept::Swept;
 use nbd_base::NoMemory;
-use payload::Page;
+use payload::{Page, Swept};
 use std::alloc::Allocator;
 use std::marker::Model;
 
@@ -37,7 +36,7 @@ fn remove_chunk<A: Allocator + Copy>(chunks: &mut Regions<A>, number: usize, swe
         → chunk_of chunks.new q ≡ chunk_of chunks.old q }
 {
     if let Some(chunk) = chunks.take(number) {
-        swept.take_chunk(chunk);
+        chunk.let_go(swept);
     }
 }
 

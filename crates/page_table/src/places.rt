@@ -4,10 +4,9 @@ ghost use Rattle.number_sets.specs.Bits.{is_between};
 ghost use Rattle.page_table.specs.Table.{in_chunk, put_from, taken};
 
 use crate::chunk::Chunk;
-use crate::swept::Swept;
 use nbd_base::NoMemory;
 use number_sets::bits;
-use payload::Page;
+use payload::{Page, Swept};
 use std::alloc::Allocator;
 use std::marker::Model;
 use std::mem;
@@ -139,6 +138,12 @@ impl<T: Drop, A: Allocator + Copy> Places<T, A> {
         let taken = self.items.remove(at);
         give_room_back(&mut self.items);
         Some(taken)
+    }
+
+    /// Its items, in the order of their places.
+    pub(crate) fn into_items(self) -> Vec<T, A> {
+        let Places { items, .. } = self;
+        items
     }
 }
 

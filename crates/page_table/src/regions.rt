@@ -4,9 +4,8 @@ ghost use Rattle.page_table.specs.Table.{chunk_of, in_chunk, put_from, taken};
 
 use crate::chunk::Chunk;
 use crate::places::Places;
-use crate::swept::Swept;
 use nbd_base::NoMemory;
-use payload::Page;
+use payload::{Page, Swept};
 use std::alloc::Allocator;
 use std::marker::Model;
 

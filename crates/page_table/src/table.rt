@@ -5,10 +5,9 @@ ghost use Rattle.page_table.specs.Holes.{is_noted};
 
 use crate::chunks::{CHUNK, Chunks};
 use crate::holes::Holes;
-use crate::swept::Swept;
 use nbd_base::NoMemory;
 use number_sets::bits;
-use payload::{PAGE, Page, Spares};
+use payload::{PAGE, Page, Spares, Swept};
 use std::alloc::Allocator;
 use std::marker::Model;
 

@@ -16,10 +16,6 @@ range_of-next image at n end some within = same_lists _ _ (search (rules, places
 pub range_of-in_two : (bytes : List ℕ) (at m n : ℕ) → at + (m + n) ≤ length bytes → range_of bytes at (m + n) ≡ range_of bytes at m ++ range_of bytes (at + m) n
 range_of-in_two bytes at m n within = same_lists _ _ (search (rules, places)) (λ k d h. grind (arith, places))
 
--- nothing is written yet
-pub overwritten-none : (page bytes : List ℕ) (start : ℕ) → start ≤ length page → overwritten page start 0 (take 0 bytes) ≡ page
-overwritten-none page bytes start within = same_lists _ _ (search (rules, places)) (λ k d h. grind (arith, places))
-
 -- a range of zeros that is made zero
 pub zeros_stay : (size at n : ℕ) → at + n ≤ size → overwritten (replicate size 0) at n (replicate n 0) ≡ replicate size 0
 zeros_stay size at n within = same_lists _ _ (search (rules, places)) (λ k d h. grind (arith, places))

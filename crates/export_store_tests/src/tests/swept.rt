@@ -34,11 +34,13 @@ fn outdated_pages_are_handed_out(rt: HostRuntime) {
     assert!(rt; is_but(alloc, &image, 7, 0, 0));
 }
 
-// Whether two whole pages of a payload come in the place of those that were there, which are handed out.
+// Whether two whole pages of a payload, and no copies, come in the place of those that were there, which are handed out.
 fn exchanges(image: &mut Paged<Global>, swept: &mut Swept<Global>, pages: Payload<Global>) -> bool {
     let written = puts(image, 4_096, &pages);
-    let shared = !image.has_alone(1) && !image.has_alone(2);
-    drop(pages);
+    let shared = match pages.into_whole_pages() {
+        Ok(pages) => pages.iter().all(|page| !page.is_alone()),
+        Err(_) => false,
+    };
     image.sweep(swept);
     let out = swept.pages().len() == 2
         && swept
@@ -140,4 +142,31 @@ fn zeros_hand_out_chunks_and_pages(rt: HostRuntime) {
     let piece = sevens(rt.alloc(), 0, 3 << 20).expect(&rt, "memory");
     assert!(rt; hands_nothing_out(&mut image, &mut swept, &piece));
     assert!(rt; hands_each_out(&mut image, &mut swept, &mut Spares::new(rt.alloc())));
+}
+
+// Whether so many pages are handed out where a write puts others in place of more. They are let go.
+fn hands_out(
+    image: &mut Paged<Global>,
+    swept: &mut Swept<Global>,
+    spares: &mut Spares<Global>,
+    piece: &Payload<Global>,
+    count: usize,
+) -> bool {
+    image.sweep(swept);
+    let written = puts(image, 0, piece);
+    image.sweep(swept);
+    let right = swept.pages().len() == count;
+    swept.recycle(spares);
+    written && right
+}
+
+#[test]
+fn room_for_what_is_handed_out_grows(rt: HostRuntime) {
+    let mut image: Paged<Global> = Paged::zeros(rt.alloc(), 520 << 12).expect(&rt, "memory");
+    let mut swept = Swept::with_room(rt.alloc(), 256).expect(&rt, "memory");
+    let mut spares = Spares::new(rt.alloc());
+    let piece = sevens(rt.alloc(), 0, 520 << 12).expect(&rt, "memory");
+    assert!(rt; puts(&mut image, 0, &piece));
+    assert!(rt; hands_out(&mut image, &mut swept, &mut spares, &piece, 256));
+    assert!(rt; hands_out(&mut image, &mut swept, &mut spares, &piece, 512));
 }

@@ -1,6 +1,6 @@
 use Rattle.page_table.specs.declared.chunk.Pages.TheVariants.{Nowhere, One}
 use Rattle.page_table.proofs.ChunkLemmas.{seen}
-use Rattle.page_table.proofs.ExchangeLemmas.{none_put, one_exchanged}
+use Rattle.page_table.proofs.RunLemmas.{none_put, one_exchanged}
 use Rattle.page_table.proofs.chunk.Chunk.exchange_all.Goals as goal
 
 pub returns-in-Nowhere-clause-here : goal.returns-in-Nowhere-clause-here

@@ -3,9 +3,9 @@ use Rattle.std.proofs.lemmas.List.{drop-drop, length-take, take_all}
 use Rattle.std.proofs.lemmas.Slice.{drop-put_mid}
 use borrow.Rule.Slice.PartMut.{put_mid}
 use Rattle.number_sets.specs.Bits.{is_between}
-use Rattle.number_sets.proofs.RangeLemmas.{between_yes}
+use Rattle.number_sets.proofs.RangeLemmas.{between_yes, between_from, between_to}
 use Rattle.page_table.specs.Table.{in_chunks, put_from}
-use Rattle.page_table.proofs.RunLemmas.{between_from, between_to, kept_put, put_nothing, put_next, length-put_mid, front_of, part_of}
+use Rattle.page_table.proofs.RunLemmas.{kept_put, put_nothing, put_next, length-put_mid, front_of, part_of}
 use Rattle.page_table.proofs.chunks.Chunks.exchange_all.Goals as goal
 
 pub loop-done-init : goal.loop-done-init

@@ -3,7 +3,7 @@ use Rattle.std.specs.Prelude.{IsSome}
 use Rattle.number_sets.specs.Bits.{is_set}
 use Rattle.page_table.specs.Table.{Chunk, in_chunk, put_from}
 use Rattle.page_table.proofs.PlacesLemmas.{place_below, item_found, item_changed, items_beside}
-use Rattle.page_table.proofs.ExchangeLemmas.{run_bit}
+use Rattle.page_table.proofs.RunLemmas.{run_bit}
 use Rattle.page_table.proofs.places.Places+Chunk+A+A.exchange_pages.Goals as goal
 
 pub index_mut-requires : goal.index_mut-requires

@@ -3,7 +3,7 @@ use Rattle.std.specs.Prelude.{IsSome}
 use Rattle.number_sets.specs.Bits.{is_between}
 use Rattle.page_table.specs.Table.{Chunk, Regions, chunk_of, in_chunk}
 use Rattle.page_table.proofs.RegionsLemmas.{there_below, before_is, place_is, others_are}
-use Rattle.page_table.proofs.ExchangeLemmas.{run_there}
+use Rattle.page_table.proofs.RunLemmas.{run_there}
 use Rattle.page_table.proofs.regions.Regions.exchange_pages.Goals as goal
 
 pub index_mut-requires : goal.index_mut-requires

@@ -1,9 +1,9 @@
 ghost use Rattle.std.specs.Prelude.{◌≡◌, ◌⊎◌, ◌++◌, ◌∷◌, [], length, take, IfOk};
-ghost use Rattle.page_table.specs.Swept.{nothing};
+ghost use Rattle.payload.specs.Swept.{nothing};
 
-use crate::chunk::Chunk;
+use crate::page::Page;
+use crate::spares::Spares;
 use nbd_base::NoMemory;
-use payload::{Page, Spares};
 use std::alloc::Allocator;
 use std::collections::LinkedList;
 use std::marker::Model;
@@ -18,21 +18,30 @@ const MOST_PAGES: usize = 8_192;
 /// At how many pages' counts of owners it looks before it changes the first.
 const LOOKED_AT: usize = 16;
 
+/// The pages of a chunk: one alone, or those that lie side by side.
+#[derive(Drop)]
+pub enum ChunkPages<A: Allocator + Copy> {
+    /// One alone.
+    One(Page<A>),
+    /// Several.
+    Many(Vec<Page<A>, A>),
+}
+
 /// What an image doesn't need any more: pages, and whole chunks of them.
 #[derive(Drop)]
 pub struct Swept<A: Allocator + Copy> {
     pages: Vec<Page<A>, A>,
     // A list, so that one more moves none of the others.
-    chunks: LinkedList<Chunk<A>, A>,
+    chunks: LinkedList<ChunkPages<A>, A>,
     // What the image is lent for pages that it makes.
     spares: Spares<A>,
 }
 
 impl<A: Allocator + Copy> Model for Swept<A> {
     ghost use Rattle.std.specs.Prelude.{ℕ, List};
-    ghost use Rattle.page_table.specs.Table.{Chunk as Seen};
+    ghost use Rattle.payload.specs.declared.swept.ChunkPages.{ChunkPages as Seen};
 
-    ghost Value = { List (List ℕ) × List Seen };
+    ghost Value = { List (List ℕ) × List (Seen A) };
 
     ghost view = { λ swept. (swept.pages.items, swept.chunks) };
 }
@@ -148,7 +157,10 @@ impl<A: Allocator + Copy> Swept<A> {
     }
 
     /// A chunk that isn't needed any more. Where memory for its place in the list is refused, it is let go.
-    pub(crate) fn take_chunk(&mut self, chunk: Chunk<A>) {
+    pub fn take_chunk(&mut self, chunk: ChunkPages<A>)
+        ensures pages { self.new.0 ≡ self.old.0 }
+        ensures chunks { (self.new.1 ≡ self.old.1 ++ chunk ∷ []) ⊎ (self.new.1 ≡ self.old.1) }
+    {
         match self.chunks.push_back(chunk) {
             Ok(()) => {}
             Err(refused) => drop(refused),

@@ -1,6 +1,6 @@
 use Rattle.std.proofs.Common.{◌∙◌, ◌≤◌, ℕ, List, length, take, inl, inr, refl, ap, arith}
 use Rattle.std.proofs.lemmas.List.{length-take, take-append-le, take_all}
-use Rattle.page_table.proofs.swept.Swept.take_pages.Goals as goal
+use Rattle.payload.proofs.swept.Swept.take_pages.Goals as goal
 
 pub loop-page-init : goal.loop-page-init
 loop-page-init g c = record { pages = take_all (length c.args.self.now.0) c.args.self.now.0 (omega arith); chunks = refl }

@@ -1,5 +1,5 @@
 use Rattle.std.proofs.Common.{◌≡◌, length, take}
-use Rattle.page_table.proofs.swept.Swept.take_pages.Given as goal
+use Rattle.payload.proofs.swept.Swept.take_pages.Given as goal
 
 -- what was there still is
 abbrev pub invariant-loop-page : goal.invariant-loop-page

@@ -1,7 +1,7 @@
 -- What an image doesn't need any more: pages, and whole chunks of them.
 use Rattle.std.specs.Prelude.{ℕ, List, []}
-use Rattle.page_table.specs.Table.{Chunk}
+use Rattle.payload.specs.declared.swept.ChunkPages.{ChunkPages}
 
 -- none of either
-abbrev pub nothing : List (List ℕ) × List Chunk
+abbrev pub nothing : {A : Type 0} → List (List ℕ) × List (ChunkPages A)
 nothing = ([], [])
