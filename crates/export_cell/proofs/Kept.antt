@@ -13,7 +13,8 @@ use Rattle.lone_export.specs.declared.step.Step.{Step}
 use Rattle.lone_export.specs.declared.step.Step.TheVariants.{Attach, Arrive, Pick, Perform, Take, Leave, Gone, Retune}
 use Rattle.lone_export.specs.declared.step.StepAnswer.{StepAnswer}
 use Rattle.lone_export.proofs.Cases.{if_both}
-use Rattle.export_cell.specs.Journal.{KeptStep, kept_step, kept_log, noted}
+use Rattle.step_log.specs.Steps.{KeptStep, kept_step, kept_log}
+use Rattle.export_cell.specs.Journal.{noted}
 use Rattle.export_cell.specs.Past.{Goes}
 
 -- ---- lists of steps
@@ -28,8 +29,8 @@ pub kept_pushed : {A : Type 0} (log longer : List (Step A)) (one : Step A) → l
 kept_pushed {A} log longer one is = ap (λ (l : List (Step A)). kept_log l) is ∙ kept_push log one
 
 -- a step that went to the end of the log stands at the end of the journal
-pub pushed : {A : Type 0} (base : Alone) (log longer : List (Step A)) (one : Step A) → longer ≡ log ++ one ∷ [] → record { base = base; log = kept_log longer } ≡ noted (kept_step one) (record { base = base; log = kept_log log })
-pushed base log longer one is = ap (λ (l : List KeptStep). record { base = base; log = l }) (kept_pushed log longer one is)
+pub pushed : (base : Alone) (log longer : List KeptStep) (one : KeptStep) → longer ≡ log ++ one ∷ [] → record { base = base; log = longer } ≡ noted one (record { base = base; log = log })
+pushed base log longer one is = ap (λ (l : List KeptStep). record { base = base; log = l }) is
 
 -- ---- both leave the same, and both are counted or not
 record Alike {A B : Type 0} (one : Moved A) (other : Moved B) : Type 0 where

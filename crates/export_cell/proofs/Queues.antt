@@ -1,13 +1,14 @@
 -- The queue of a base: a step more at the end, a step less at the front.
-use Rattle.std.proofs.Common.{◌≡◌, ℕ, suc, ◌+◌, ◌-◌, ◌≤◌, ◌<◌, Bool, true, nat_lt, nat_le, ◌&&◌, List, [], ◌∷◌, ◌++◌, length, drop, refl, sym, ap, subst, ◌∙◌, arith, length-append}
+use Rattle.std.proofs.Common.{◌≡◌, ℕ, suc, ◌+◌, ◌-◌, ◌≤◌, Bool, true, nat_lt, nat_le, ◌&&◌, List, [], ◌∷◌, ◌++◌, length, refl, sym, ap, subst, ◌∙◌, arith, length-append}
 use Rattle.std.proofs.lemmas.Bool.Decides.{nat_tests}
 use Rattle.nbd_commands.specs.Terms.{Terms}
 use Rattle.lone_export.specs.Alone.{Alone, own_step, alone}
 use Rattle.lone_export.specs.Calls.{is_counted}
 use Rattle.lone_export.specs.Lone.{Whole}
 use Rattle.lone_export.proofs.Steps.{steps}
-use Rattle.export_cell.specs.Journal.{KeptStep, IsLogged, IsLog, payload_of, payload_in}
-use Rattle.export_cell.specs.Based.{Based, based, whole_of, shorter, has_place, IsShort, IsBased, IsCaughtUp, Follows}
+use Rattle.step_log.specs.Steps.{KeptStep, payload_of, payload_in}
+use Rattle.export_cell.specs.Journal.{IsLogged, IsLog}
+use Rattle.export_cell.specs.Based.{Based, based, whole_of, shorter, has_place, IsBased, IsCaughtUp, Follows}
 use Rattle.export_cell.proofs.Kept.{Makes}
 use Rattle.export_cell.proofs.Fronts.{drop-twice}
 use Rattle.export_cell.proofs.Logs.{alone-snoc, log-snoc, payload-snoc}

@@ -3,7 +3,8 @@ use Rattle.std.specs.Prelude.{◌≡◌, ℕ, ◌+◌, ◌≤◌, Bool, ◌&&◌
 use Rattle.nbd_commands.specs.Terms.{Terms}
 use Rattle.lone_export.specs.Alone.{Alone, own_step, alone, opening}
 use Rattle.lone_export.specs.Lone.{Whole}
-use Rattle.export_cell.specs.Journal.{KeptStep, IsLog, payload_in}
+use Rattle.step_log.specs.Steps.{KeptStep, payload_in}
+use Rattle.export_cell.specs.Journal.{IsLog}
 
 -- its state once all its steps are made, and those that aren't yet, oldest first
 pub record Based : Type 0 where
@@ -51,5 +52,11 @@ pub record IsCaughtUp (most : ℕ) (old new : Based) : Type 0 where
 -- the base makes this step, now or later
 pub record Follows (old new : Based) (step : KeptStep) : Type 0 where
   pub state : new.state ≡ (own_step old.terms old.state step).state
+  pub terms : new.terms ≡ old.terms
+  pub inflight : new.inflight ≡ old.inflight
+
+-- the base makes these steps, one after another
+pub record FollowsAll (old new : Based) (steps : List KeptStep) : Type 0 where
+  pub state : new.state ≡ alone old.terms old.state steps
   pub terms : new.terms ≡ old.terms
   pub inflight : new.inflight ≡ old.inflight

@@ -9,29 +9,13 @@ use Rattle.lone_export.specs.declared.refusal.Arrived.{Arrived}
 use Rattle.lone_export.specs.declared.step.Step.{Step}
 use Rattle.lone_export.specs.declared.step.Step.TheVariants.{Attach, Arrive, Pick, Perform, Take, Leave, Gone, Retune}
 use Rattle.lone_export.specs.declared.step.StepAnswer.{StepAnswer}
+use Rattle.step_log.specs.Steps.{KeptStep, kept_step, payload_of, payload_in}
 use Rattle.export_cell.specs.declared.refusal.ArriveFault.{ArriveFault}
 use Rattle.export_cell.specs.declared.refusal.ArriveFault.TheVariants.{Refused, NoMemory}
 use Rattle.export_cell.specs.declared.refusal.NotArrived.{NotArrived}
 use Rattle.export_cell.specs.declared.place.Place.{Place}
 use Rattle.export_cell.specs.declared.refusal.NotRetuned.{NotRetuned}
 use Rattle.export_cell.specs.declared.refusal.NotRetuned.TheVariants as retuning
-
--- a step as it is kept: the allocator of its payload is nothing to it
-abbrev pub KeptStep : Type 0
-KeptStep = Step (Unit {0})
-
-abbrev pub kept_step : {A : Type 0} → Step A → KeptStep
-kept_step Attach = Attach
-kept_step (Arrive s t q) = Arrive s t q
-kept_step Pick = Pick
-kept_step (Perform n memory) = Perform n memory
-kept_step (Take s) = Take s
-kept_step (Leave s) = Leave s
-kept_step (Gone s) = Gone s
-kept_step (Retune rates) = Retune rates
-
-abbrev pub kept_log : {A : Type 0} → List (Step A) → List KeptStep
-kept_log steps = map kept_step steps
 
 -- the export as it was, and the steps since, oldest first
 pub record Journal : Type 0 where
@@ -69,21 +53,6 @@ pub record IsJournal (live : Whole) (journal : Journal) : Type 0 where
   pub counts : journal.base.count + length journal.log ≡ live.state.count
 
 -- ---- how long a log may be
-
--- the bytes of payload of a step, and of a log
-abbrev pub payload_of : KeptStep → ℕ
-payload_of Attach = 0
-payload_of (Arrive s t q) = length q.payload
-payload_of Pick = 0
-payload_of (Perform n memory) = 0
-payload_of (Take s) = 0
-payload_of (Leave s) = 0
-payload_of (Gone s) = 0
-payload_of (Retune rates) = 0
-
-abbrev pub payload_in : List KeptStep → ℕ
-payload_in [] = 0
-payload_in (step ∷ log) = payload_of step + payload_in log
 
 -- at most 64 MiB of payload
 abbrev pub IsWithinBytes : List KeptStep → Type 0
@@ -180,14 +149,18 @@ pub record IsCell (live base : Whole) (log : List KeptStep) (bytes room : ℕ) :
   pub wide : length log + to_come live.state ≤ room
 
 -- ---- how it is trimmed
-abbrev pub advanced_cell : ℕ → Cell → Cell
-advanced_cell n cell = record cell { journal = advanced cell.live.terms n cell.journal }
 
-abbrev pub trimmed_cell : ℕ → Cell → Cell
-trimmed_cell bytes cell = advanced_cell (surplus bytes cell.journal.log) cell
+-- the n oldest steps went into the base
+pub record HasAdvanced (n : ℕ) (old new : Cell) : Type 0 where
+  pub live : new.live ≡ old.live
+  pub journal : new.journal ≡ advanced old.live.terms n old.journal
 
--- some of the oldest steps went into the base, and those that still have to are the rest
+-- as many did as have to
+abbrev pub IsTrimmed : ℕ → Cell → Cell → Type 0
+IsTrimmed bytes old new = HasAdvanced (surplus bytes old.journal.log) old new
+
+-- some of them did, and those that still have to are the rest
 pub record IsTrimming (bytes : ℕ) (old new : Cell) : Type 0 where
   pub gone : ℕ
   pub left : gone + surplus bytes new.journal.log ≡ surplus bytes old.journal.log
-  pub moved : new ≡ advanced_cell gone old
+  pub moved : HasAdvanced gone old new

@@ -4,7 +4,7 @@ use Rattle.nbd_commands.specs.Verdict.{is_read}
 use Rattle.lone_export.specs.Alone.{own_step, alone}
 use Rattle.lone_export.specs.Lone.{Whole, IsIdleFor, is_reading}
 use Rattle.lone_export.specs.declared.step.Step.{Step}
-use Rattle.lone_export.specs.declared.step.Step.TheVariants.{Arrive, Pick, Perform}
+use Rattle.lone_export.specs.declared.step.Step.TheVariants.{Arrive, Pick, Perform, Take}
 use Rattle.export_cell.specs.declared.deferred.Arrival.{Arrival}
 use Rattle.export_cell.specs.declared.deferred.Deferred.{Deferred}
 use Rattle.export_cell.specs.declared.deferred.Deferred.TheVariants as deferred
@@ -18,6 +18,10 @@ pub record Goes {A : Type 0} (old new : Whole) (step : Step A) : Type 0 where
 module _ {A : Type 0} where
   abbrev pub arrival_of : Arrival A → Step A
   arrival_of a = Arrive a.session a.moment a.request
+
+  -- what follows an arrival: the request of this number is picked, performed with memory, and its reply is taken
+  abbrev pub serving : ℕ → ℕ → List (Step A)
+  serving n s = Pick ∷ Perform n true ∷ Take s ∷ []
 
   -- the steps that are deferred, oldest first, where the next request gets this number
   abbrev pub deferred_steps : ℕ → Deferred A → List (Step A)

@@ -1,14 +1,15 @@
 //! The export as it was before the first step of its log.
-ghost use Rattle.std.specs.Prelude.{◌≡◌, ◌<◌, ◌≤◌, ◌==◌, true, length, is_some, IfOk, IfErr, IfSome, OnOk, OnErr};
+ghost use Rattle.std.specs.Prelude.{◌≡◌, ◌<◌, ◌≤◌, ◌==◌, true, length, is_some, IfOk, IfErr, IfSome, IfNone, OnOk, OnErr, OnSome};
 ghost use Rattle.nbd_commands.specs.Terms.{terms_of};
 ghost use Rattle.nbd_commands.specs.Exports.{IsWithin};
-ghost use Rattle.export_cell.specs.Journal.{kept_step, IsLogged};
-ghost use Rattle.export_cell.specs.Based.{Follows, IsCaughtUp, IsShort, has_place, opening_based, shorter, whole_of};
+ghost use Rattle.step_log.specs.Steps.{kept_step};
+ghost use Rattle.export_cell.specs.Journal.{IsLogged};
+ghost use Rattle.export_cell.specs.Past.{serving};
+ghost use Rattle.export_cell.specs.Based.{Follows, FollowsAll, IsCaughtUp, IsShort, has_place, opening_based, shorter, whole_of};
 
 mod remaking;
 mod replica;
 
-use crate::room::{payload_of, widen};
 use export_store::{Image, Swept};
 use lone_export::Step;
 use nbd_base::NoMemory;
@@ -16,6 +17,7 @@ use nbd_commands::ExportConfig;
 use replica::Replica;
 use std::collections::VecDeque;
 use std::marker::Model;
+use step_log::{payload_of, widen};
 
 /// No more steps are queued.
 const QUEUED: usize = 8192;
@@ -37,7 +39,7 @@ pub struct Base<I: Image> {
 }
 
 impl<I: Image> Model for Base<I> {
-    ghost use Rattle.export_cell.specs.Journal.{kept_log};
+    ghost use Rattle.step_log.specs.Steps.{kept_log};
     ghost use Rattle.export_cell.specs.Based.{Based, based, IsBased};
 
     ghost Value = { Based };
@@ -132,6 +134,28 @@ impl<I: Image> Base<I> {
             return self.make(step, left, live);
         }
         self.put_off(step, live)
+    }
+
+    /// What follows the arrival of a request, which was the step before: it is picked, performed with memory, and its reply is taken.
+    /// All three steps are made at once, where none is queued and there is work left to be done. Tells how much is left then. None
+    /// where they aren't made so: then nothing is done.
+    pub(crate) fn add_serving(
+        &mut self,
+        number: u64,
+        session: u64,
+        left: usize,
+        live: &I,
+    ) -> Option<usize>
+        ensures made { OnSome result (FollowsAll self.old self.new (serving number session)) }
+        ensures stays { IfNone result (self.new ≡ self.old) }
+    {
+        if left == 0 || self.queued() != 0 {
+            return None;
+        }
+        match self.replica.make_at_once(number, session, live) {
+            Some(work) => Some(left.saturating_sub(work)),
+            None => None,
+        }
     }
 
     // Makes a step where none is queued.

@@ -4,7 +4,9 @@ ghost use Rattle.nbd_commands.specs.Terms.{terms_of};
 ghost use Rattle.nbd_commands.specs.Exports.{IsWithin};
 ghost use Rattle.lone_export.specs.Lone.{Does, DoesOr, step_answer_of_pick, step_answer_of_leave, step_answer_of_gone, step_answer_of_take, step_answer_of_attach, slots_picked, slots_without, slot_at, step_answer_of_arrive as arrived_said_alone, MayAttach, MayArrive, MayRetune};
 ghost use Rattle.lone_export.specs.declared.step.StepAnswer.TheVariants.{Performed};
-ghost use Rattle.export_cell.specs.Journal.{IsJournal, JournalMove, IsReserved, IsTurnedAway, IsWithinBytes, advanced, surplus, noted, kept_log, opening_cell, step_answer_of_arrive, step_answer_of_retuned};
+ghost use Rattle.step_log.specs.Steps.{payload_in};
+ghost use Rattle.export_cell.specs.Journal.{IsJournal, JournalMove, IsReserved, IsTurnedAway, IsWithinBytes, advanced, surplus, noted, opening_cell, step_answer_of_arrive, step_answer_of_retuned};
+ghost use Rattle.step_log.specs.Log.{steps_of};
 ghost use Rattle.export_cell.specs.declared.refusal.ArriveFault.{ArriveFault};
 
 mod trimming;
@@ -21,8 +23,8 @@ use nbd_base::NoMemory;
 use nbd_commands::{ExportConfig, Rates};
 use nbd_wire::Request;
 use reply_box::{NotOpen, Taken};
-use std::collections::VecDeque;
 use std::marker::Model;
+use step_log::Log;
 use tag_clock::Moment;
 
 /// An export as it is, the same export as it was at the start of its kept history, and the log of the steps between.
@@ -31,24 +33,24 @@ pub struct ExportCell<I: Image> {
     live: Lone<I>,
     base: Base<I>,
     // It always has room for the steps that can still come of what is there.
-    log: VecDeque<Step<I::Alloc>, I::Alloc>,
+    log: Log<I::Alloc>,
     // The bytes of payload in the log.
     payload: usize,
 }
 
 impl<I: Image> Model for ExportCell<I> {
-    ghost use Rattle.std.specs.VecDeque.{deque_capacity};
     ghost use Rattle.lone_export.specs.declared.step.StepAnswer.TheVariants.{Performed};
     ghost use Rattle.export_cell.specs.Based.{whole_of};
-    ghost use Rattle.export_cell.specs.Journal.{Cell, cell_of, kept_log, IsCell};
+    ghost use Rattle.export_cell.specs.Journal.{Cell, cell_of, IsCell};
+    ghost use Rattle.step_log.specs.Log.{steps_of, room_of};
 
     ghost Value = { Cell };
 
     ghost view = { λ c.
-        cell_of c.live (whole_of c.base) (kept_log c.log.items) (deque_capacity c.log) };
+        cell_of c.live (whole_of c.base) (steps_of c.log) (room_of c.log) };
 
     ghost invariant = { λ c.
-        IsCell c.live (whole_of c.base) (kept_log c.log.items) c.payload (deque_capacity c.log) };
+        IsCell c.live (whole_of c.base) (steps_of c.log) c.payload (room_of c.log) };
 }
 
 impl<I: Image> ExportCell<I> {
@@ -63,7 +65,7 @@ impl<I: Image> ExportCell<I> {
     {
         let live = Lone::new(alloc, config, inflight)?;
         let base = Base::new(alloc, config, inflight)?;
-        let log = VecDeque::with_capacity(alloc, 0)?;
+        let log = Log::new(alloc)?;
         Ok(ExportCell {
             live,
             base,
@@ -95,10 +97,24 @@ impl<I: Image> ExportCell<I> {
     }
 
     /// The steps from the base to the export as it is, oldest first.
-    pub fn entries(&self) -> &VecDeque<Step<I::Alloc>, I::Alloc>
-        ensures { kept_log result.now.items ≡ self.now.journal.log }
+    pub fn entries(&self) -> &Log<I::Alloc>
+        ensures { steps_of result.now ≡ self.now.journal.log }
     {
         &self.log
+    }
+
+    /// How many there are: fewer than 4,096 before an attach, an arrival or a retune goes on, and those that come of it.
+    pub fn kept(&self) -> u64
+        ensures { result ≡ length self.now.journal.log }
+    {
+        self.steps() - self.base.steps()
+    }
+
+    /// The bytes of payload in them: 64 MiB at most.
+    pub fn payload_bytes(&self) -> u64
+        ensures { result ≡ payload_in self.now.journal.log }
+    {
+        self.payload as u64
     }
 
     /// Does nothing: its contract says what is true of every cell.
@@ -145,7 +161,7 @@ impl<I: Image> ExportCell<I> {
         }
         match self.live.attach() {
             Ok(number) => {
-                self.log.push_back_reserved(Step::Attach);
+                self.log.push(Step::Attach);
                 Ok(number)
             }
             Err(refused) => Err(refused),
@@ -170,7 +186,7 @@ impl<I: Image> ExportCell<I> {
         let Ok(()) = self.live.retune(rates) else {
             unreachable!();
         };
-        self.log.push_back_reserved(Step::Retune { rates });
+        self.log.push(Step::Retune { rates });
         Ok(())
     }
 
@@ -242,7 +258,7 @@ impl<I: Image> ExportCell<I> {
         let Place { admission, kept } = place;
         let bytes = request.payload().len();
         let arrived = self.live.admit(session, moment, request, admission);
-        self.log.push_back_reserved(Step::Arrive {
+        self.log.push(Step::Arrive {
             session,
             moment,
             request: kept,
@@ -263,7 +279,7 @@ impl<I: Image> ExportCell<I> {
         let Some(picked) = self.live.pick() else {
             return None;
         };
-        self.log.push_back_reserved(Step::Pick);
+        self.log.push(Step::Pick);
         Some(picked)
     }
 
@@ -285,8 +301,7 @@ impl<I: Image> ExportCell<I> {
         let Some(memory) = self.live.perform(slot, number) else {
             return None;
         };
-        self.log
-            .push_back_reserved(Step::Perform { number, memory });
+        self.log.push(Step::Perform { number, memory });
         Some(memory)
     }
 
@@ -300,7 +315,7 @@ impl<I: Image> ExportCell<I> {
     {
         match self.live.take(session) {
             Ok(Taken::Reply(reply)) => {
-                self.log.push_back_reserved(Step::Take { session });
+                self.log.push(Step::Take { session });
                 Ok(Taken::Reply(reply))
             }
             Ok(Taken::Empty) => Ok(Taken::Empty),
@@ -320,7 +335,7 @@ impl<I: Image> ExportCell<I> {
         if let Err(refused) = self.live.leave(session) {
             return Err(refused);
         }
-        self.log.push_back_reserved(Step::Leave { session });
+        self.log.push(Step::Leave { session });
         Ok(())
     }
 
@@ -335,7 +350,7 @@ impl<I: Image> ExportCell<I> {
         if let Err(refused) = self.live.gone(session) {
             return Err(refused);
         }
-        self.log.push_back_reserved(Step::Gone { session });
+        self.log.push(Step::Gone { session });
         Ok(())
     }
 }

@@ -7,7 +7,6 @@ mod deferred;
 mod outdated;
 mod place;
 mod refusal;
-mod room;
 mod work;
 
 pub use base::Base;

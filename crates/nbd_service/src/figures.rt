@@ -3,14 +3,12 @@
 use crate::service::{Disks, Service};
 use export_cell::ExportCell;
 use export_store::Paged;
-use lone_export::Step;
 use nbd_base::NoMemory;
 use nbd_commands::Config;
 use nbd_measures::{HoldCount, WaitQuantiles};
 use payload::PAGE;
 use server_lock::{ExportCounts, ExportTally, Tally};
 use std::alloc::Global;
-use std::collections::VecDeque;
 use std::sync::Wait;
 use std::sync::ledger::Ledger;
 use turn_order::Rates;
@@ -108,21 +106,10 @@ fn held_of(cell: &ExportCell<Paged<Global>>) -> HeldBytes {
             Some(image) => Some(bytes_of(image)),
             None => None,
         },
-        log: log_bytes(cell.entries()),
+        log: cell.payload_bytes(),
     }
 }
 
 fn bytes_of(image: &Paged<Global>) -> u64 {
     (image.held() as u64).saturating_mul(PAGE as u64)
-}
-
-/// The bytes of data in the steps of a log.
-fn log_bytes(log: &VecDeque<Step<Global>>) -> u64 {
-    let mut bytes = 0u64;
-    for step in log.iter() {
-        if let Step::Arrive { request, .. } = step {
-            bytes = bytes.saturating_add(request.payload().len() as u64);
-        }
-    }
-    bytes
 }

@@ -1,7 +1,6 @@
-//! What the next requests of a session change is touched before they are handed in. It mostly is in no cache, and a processor
+//! What the next requests of a session read or change is touched before they are handed in. It mostly is in no cache, and a processor
 //! waits for several such places at once, but for one after another where each is met in a request's own work.
 
-use crate::policy::STEPS_OF_A_REQUEST;
 use crate::service::Disks;
 use export_cell::ExportCell;
 use export_store::Paged;
@@ -46,12 +45,8 @@ fn touch_base(cell: &ExportCell<Paged<Global>>, most: usize) -> u64 {
         return 0;
     };
     let mut touched = 0u64;
-    for step in cell
-        .entries()
-        .iter()
-        .take(STEPS_OF_A_REQUEST.saturating_mul(most))
-    {
-        if let Step::Arrive { request, .. } = step {
+    for group in cell.entries().groups().iter().take(most) {
+        if let Step::Arrive { request, .. } = &group.step {
             touched = touched.wrapping_add(touch(base, request));
         }
     }

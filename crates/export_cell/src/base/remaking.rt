@@ -3,7 +3,7 @@ ghost use Rattle.std.specs.Prelude.{◌≡◌, ◌<◌, [], ◌∷◌, length, t
 ghost use Rattle.lone_export.specs.Lone.{IsIdleFor, DoesAll, MayReplay, is_reading};
 ghost use Rattle.lone_export.specs.declared.step.Step.TheVariants as step;
 ghost use Rattle.std.specs.Bool.{OnTrue, OnFalse};
-ghost use Rattle.export_cell.specs.Past.{arrival_of, past_of, IsPast, IsPicked, Goes, Comes, Stays};
+ghost use Rattle.export_cell.specs.Past.{arrival_of, past_of, serving, IsPast, IsPicked, Goes, Comes, Stays};
 
 use crate::deferred::{Arrival, Deferred};
 use export_store::Image;
@@ -108,6 +108,71 @@ fn take_alone<I: Image>(lone: &mut Lone<I>, deferred: &Deferred<I::Alloc>, sessi
             true
         }
         _ => false,
+    }
+}
+
+/// Makes what follows the arrival of a request that is deferred: it is picked, performed with memory, and its reply is taken. False
+/// where no such request is deferred, or memory is refused: then nothing is done.
+pub(super) fn made_at_once<I: Image>(
+    lone: &mut Lone<I>,
+    deferred: &mut Deferred<I::Alloc>,
+    number: u64,
+    session: u64,
+) -> bool
+    requires { IsPast lone.old deferred.old }
+    ensures made { OnTrue result (DoesAll {A = I.Alloc} (past_of lone.old deferred.old)
+        (past_of lone.new deferred.new) (serving number session)) }
+    ensures past { IsPast lone.new deferred.new }
+    ensures stays { OnFalse result ((lone.new ≡ lone.old) × (deferred.new ≡ deferred.old)) }
+{
+    if number != lone.next_number() {
+        return false;
+    }
+    match mem::replace(deferred, Deferred::Nothing) {
+        Deferred::Arrived(arrival) if arrival.session == session => {
+            match served(lone, arrival) {
+                Ok(()) => true,
+                Err(arrival) => {
+                    *deferred = Deferred::Arrived(arrival);
+                    false
+                }
+            }
+        }
+        other => {
+            *deferred = other;
+            false
+        }
+    }
+}
+
+/// Makes all four steps of a request. No data of a READ are read, since its reply is dropped. Where memory is refused the request
+/// comes back.
+fn served<I: Image>(lone: &mut Lone<I>, arrival: Arrival<I::Alloc>) -> Result<(), Arrival<I::Alloc>>
+    requires { IsIdleFor lone.old.terms lone.old.state arrival.session arrival.request }
+    ensures ok { OnOk result (DoesAll {A = I.Alloc} lone.old lone.new
+        (arrival_of arrival ∷ serving lone.old.state.next arrival.session)) }
+    ensures err { IfErr result (λ back. (back ≡ arrival) × (lone.new ≡ lone.old)) }
+{
+    let head = arrival.request.head();
+    if head.kind == READ {
+        lone.serve_dropped_read(arrival.session, arrival.moment, &arrival.request);
+        return Ok(());
+    }
+    let Arrival {
+        session,
+        moment,
+        request,
+    } = arrival;
+    match lone.serve(session, moment, request) {
+        Ok(()) => {
+            let _ = lone.take(session);
+            Ok(())
+        }
+        Err(request) => Err(Arrival {
+            session,
+            moment,
+            request,
+        }),
     }
 }
 

@@ -1,11 +1,11 @@
 //! An export on which steps are made that another one made before.
-ghost use Rattle.std.specs.Prelude.{◌≡◌, ◌≤◌, ◌+◌, ◌^◌, IfOk, IfErr, OnOk};
+ghost use Rattle.std.specs.Prelude.{◌≡◌, ◌≤◌, ◌+◌, ◌^◌, IfOk, IfErr, IfNone, OnOk, OnSome};
 ghost use Rattle.nbd_commands.specs.Terms.{terms_of};
 ghost use Rattle.nbd_commands.specs.Exports.{IsWithin};
-ghost use Rattle.lone_export.specs.Lone.{opening_of, MayReplay};
-ghost use Rattle.export_cell.specs.Past.{Goes};
+ghost use Rattle.lone_export.specs.Lone.{opening_of, DoesAll, MayReplay};
+ghost use Rattle.export_cell.specs.Past.{serving, Goes};
 
-use super::remaking::{made_in_place, remade};
+use super::remaking::{made_at_once, made_in_place, remade};
 use crate::deferred::Deferred;
 use crate::work::work_of;
 use export_store::{Image, Swept};
@@ -15,6 +15,9 @@ use nbd_commands::ExportConfig;
 use nbd_wire::RequestHead;
 use std::marker::Model;
 use std::mem;
+
+/// How many steps follow the arrival of a request.
+const STEPS_SERVING: usize = 3;
 
 /// An export on which steps are made again.
 ///
@@ -132,6 +135,32 @@ impl<I: Image> Replica<I> {
     {
         self.offer(&step, other);
         self.make(step)
+    }
+
+    /// Makes what follows the arrival of a request that is deferred: it is picked, performed with memory, and its reply is taken. It
+    /// may take pages of another image that are the same. Tells how much work that was. None where no such request is deferred, or
+    /// memory is refused: then nothing is done.
+    pub(super) fn make_at_once(&mut self, number: u64, session: u64, other: &I) -> Option<usize>
+        ensures made { OnSome result (DoesAll {A = I.Alloc} self.old self.new
+            (serving number session)) }
+        ensures stays { IfNone result (self.new ≡ self.old) }
+    {
+        let Some(head) = self.arrived() else {
+            return None;
+        };
+        self.lone.offer(head, other);
+        if !made_at_once(&mut self.lone, &mut self.deferred, number, session) {
+            return None;
+        }
+        Some(work_of(head).saturating_add(STEPS_SERVING))
+    }
+
+    // The head of the request whose arrival is deferred.
+    fn arrived(&self) -> Option<RequestHead> {
+        match &self.deferred {
+            Deferred::Arrived(arrival) => Some(arrival.request.head()),
+            _ => None,
+        }
     }
 
     // Makes a step, likewise.

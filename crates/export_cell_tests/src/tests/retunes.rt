@@ -107,13 +107,34 @@ fn the_log_has_a_retune(rt: HostRuntime) {
 }
 
 // Whether the steps of a log are made again, each of them.
-fn replays<'a>(lone: &mut LoneExport<'a>, log: &VecDeque<Step<Heap<'a>>, Heap<'a>>) -> bool {
-    for step in log.iter() {
-        if !lone.may_replay(step) || lone.replay(step).is_err() {
+fn replays<'a>(lone: &mut LoneExport<'a>, log: &Log<Heap<'a>>) -> bool {
+    if !rest_replays(lone, log.rest()) {
+        return false;
+    }
+    for group in log.groups().iter() {
+        if !step_replays(lone, &group.step) || !rest_replays(lone, group.rest) {
             return false;
         }
     }
     true
+}
+
+fn rest_replays<'a>(lone: &mut LoneExport<'a>, rest: Rest) -> bool {
+    let mut left = rest;
+    for _ in 0..3 {
+        let Some((step, behind)) = left.split() else {
+            return true;
+        };
+        if !step_replays(lone, &step) {
+            return false;
+        }
+        left = behind;
+    }
+    true
+}
+
+fn step_replays<'a>(lone: &mut LoneExport<'a>, step: &Step<Heap<'a>>) -> bool {
+    lone.may_replay(step) && lone.replay(step).is_ok()
 }
 
 fn tag_alone(lone: &mut LoneExport<'_>) -> Option<i128> {

@@ -1,5 +1,5 @@
 use Rattle.std.proofs.Common.{length, ap, subst, ◌∙◌}
-use Rattle.export_cell.specs.Journal.{kept_step, kept_log}
+use Rattle.step_log.specs.Steps.{kept_step, kept_log}
 use Rattle.export_cell.specs.Based.{Based, based, Follows}
 use Rattle.export_cell.proofs.Kept.{goes_makes}
 use Rattle.export_cell.proofs.Queues.{value-made}

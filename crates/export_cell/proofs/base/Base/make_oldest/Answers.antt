@@ -1,6 +1,6 @@
 use Rattle.std.proofs.Common.{◌≡◌, List, ◌∷◌, ◌-◌, ap, sym, subst, ◌∙◌}
 use Rattle.lone_export.specs.declared.step.Step.{Step}
-use Rattle.export_cell.specs.Journal.{kept_step, kept_log}
+use Rattle.step_log.specs.Steps.{kept_step, kept_log}
 use Rattle.export_cell.specs.Based.{Based, IsBased, shorter}
 use Rattle.export_cell.proofs.Kept.{goes_makes}
 use Rattle.export_cell.proofs.Queues.{based-make, value-make}

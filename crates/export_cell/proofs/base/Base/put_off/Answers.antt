@@ -1,6 +1,7 @@
 use Rattle.std.proofs.Common.{◌≡◌, ◌+◌, true, List, [], ◌∷◌, ◌++◌, ap, sym, subst, ◌∙◌}
 use Rattle.lone_export.specs.declared.step.Step.{Step}
-use Rattle.export_cell.specs.Journal.{kept_step, kept_log, payload_of, IsLogged}
+use Rattle.step_log.specs.Steps.{kept_step, kept_log}
+use Rattle.export_cell.specs.Journal.{IsLogged}
 use Rattle.export_cell.specs.Based.{Based, based, has_place, IsBased, Follows}
 use Rattle.export_cell.proofs.Kept.{kept_pushed}
 use Rattle.export_cell.proofs.Queues.{based-push, value-push, follows-same, logged-same}

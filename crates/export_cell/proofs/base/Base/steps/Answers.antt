@@ -1,6 +1,6 @@
 use Rattle.std.proofs.Common.{◌≡◌, ◌+◌, ap, ◌∙◌, arith}
 use Rattle.lone_export.specs.Alone.{alone}
-use Rattle.export_cell.specs.Journal.{kept_log}
+use Rattle.step_log.specs.Steps.{kept_log}
 use Rattle.export_cell.specs.Based.{Based}
 use Rattle.export_cell.proofs.Kept.{kept_length}
 use Rattle.export_cell.proofs.Queues.{queue-counts}

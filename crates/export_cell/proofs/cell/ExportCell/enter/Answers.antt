@@ -1,10 +1,11 @@
-use Rattle.std.proofs.Common.{◌≡◌, ◌<◌, true, ap, sym, ◌∙◌, subst, length, deque_capacity, arith}
+use Rattle.std.proofs.Common.{◌≡◌, true, ap, sym, ◌∙◌, subst, length, arith}
 use Rattle.nbd_wire.specs.Grammar.{RequestMessage}
 use Rattle.lone_export.specs.declared.step.Step.TheVariants.{Arrive}
 use Rattle.export_cell.specs.Based.{whole_of}
-use Rattle.export_cell.specs.Journal.{Cell, kept_log, HasRoom, IsReserved, cell_of, noted}
-use Rattle.export_cell.proofs.Kept.{Makes, kept_length, kept_pushed, pushed, makes}
-use Rattle.export_cell.proofs.Logs.{cell-heavy, room_for_one}
+use Rattle.export_cell.specs.Journal.{Cell, HasRoom, IsReserved, cell_of, noted}
+use Rattle.step_log.specs.Log.{steps_of, room_of}
+use Rattle.export_cell.proofs.Kept.{Makes, pushed, makes}
+use Rattle.export_cell.proofs.Logs.{cell-heavy, room_for_one, spare_for}
 use Rattle.export_cell.proofs.Moves.{arrived_counted}
 use Rattle.export_cell.proofs.cell.ExportCell.enter.Goals as goal
 
@@ -13,12 +14,12 @@ admit-arrived-requires g c =
     let has = subst (λ (v : Cell). IsReserved {A = g.row.I-Alloc.Denot} v c.args.session c.args.request c.args.place) (sym c.self.view_is) c.requires in
     has.admitted
 
-pub push_back_reserved-requires : goal.push_back_reserved-requires
-push_back_reserved-requires g c =
+pub push-requires : goal.push-requires
+push-requires g c =
     let i = c.self.inside in
     let q = c.args.request in
     let has = subst (λ (v : Cell). IsReserved {A = g.row.I-Alloc.Denot} v c.args.session q c.args.place) (sym c.self.view_is) c.requires in
-    subst (λ n. n < deque_capacity i.log) (kept_length i.log.items ∙ sym i.log.ok.0) (room_for_one i.live (whole_of i.base) (kept_log i.log.items) (length q.payload) (deque_capacity i.log) has.room)
+    spare_for i.log (room_for_one i.live (whole_of i.base) (steps_of i.log) (length q.payload) (room_of i.log) has.room)
 
 pub invariant_of-self : goal.invariant_of-self
 invariant_of-self g c =
@@ -28,21 +29,21 @@ invariant_of-self g c =
     let q = c.args.request in
     let kept = c.args.place.kept in
     let live = c.admit-arrived.new.self in
-    let longer = c.push_back_reserved.new.self in
+    let longer = c.push.new.self in
     let has = subst (λ (v : Cell). IsReserved {A = A} v s q c.args.place) (sym c.self.view_is) c.requires in
     let bytes : c.len-bytes.result ≡ length q.payload = c.len-bytes.ensures ∙ ap length c.payload.ensures.value in
     let does = makes A i.live live (Arrive s c.args.moment q) _ true c.admit-arrived.ensures.step (arrived_counted A c.admit-arrived.result) in
     let does_kept : Makes i.live live (Arrive s c.args.moment kept) true = subst (λ (k : RequestMessage). Makes i.live live (Arrive s c.args.moment k) true) (sym has.same) does in
-    cell-heavy i.live live (whole_of i.base) (kept_log i.log.items) (kept_log longer.items) (Arrive s c.args.moment kept) c.len-bytes.result i.payload (deque_capacity i.log) (deque_capacity longer) c.self.invariant
-    (subst (λ n. HasRoom n (cell_of i.live (whole_of i.base) (kept_log i.log.items) (deque_capacity i.log))) (sym bytes) has.room)
+    cell-heavy i.live live (whole_of i.base) (steps_of i.log) (steps_of longer) (Arrive s c.args.moment kept) c.len-bytes.result i.payload (room_of i.log) (room_of longer) c.self.invariant
+    (subst (λ n. HasRoom n (cell_of i.live (whole_of i.base) (steps_of i.log) (room_of i.log))) (sym bytes) has.room)
     (ap (λ (k : RequestMessage). length k.payload) has.same ∙ sym bytes) (omega arith) does_kept (λ p. absurd (cc))
-    (kept_pushed i.log.items longer.items (Arrive s c.args.moment kept) c.push_back_reserved.ensures.items) c.push_back_reserved.ensures.capacity
+    c.push.ensures.steps c.push.ensures.room
 
 pub returns-clause-journal : goal.returns-clause-journal
 returns-clause-journal g c =
     let i = c.self.inside in
     let s = c.args.session in
     let t = c.args.moment in
-    pushed i.base.state i.log.items c.push_back_reserved.new.self.items (Arrive s t c.args.place.kept) c.push_back_reserved.ensures.items
+    pushed i.base.state (steps_of i.log) (steps_of c.push.new.self) (Arrive s t c.args.place.kept) c.push.ensures.steps
     ∙ ap (λ (v : Cell). noted (Arrive s t c.args.place.kept) v.journal) c.self.view_is
     ∙ ap (λ (k : RequestMessage). noted (Arrive s t k) c.args.self.now.journal) c.requires.same

@@ -6,4 +6,4 @@ pub returns-clause-ok : goal.returns-clause-ok
 returns-clause-ok g c = trimming-over c.args.bytes c.args.self.now c.loop-self.self c.loop-self.invariant (sym c.is_fit.ensures ∙ c.loop-self-test.false)
 
 pub loop-self-preserved : goal.loop-self-preserved
-loop-self-preserved g c = trimming-more c.args.bytes c.args.self.now c.loop-self.self c.advance.new.self c.requires c.loop-self.invariant (sym c.is_fit.ensures ∙ c.loop-self-test.true) c.in-Ok.ensures.ok
+loop-self-preserved g c = trimming-more c.args.bytes c.args.self.now c.loop-self.self c.advance.new.self c.loop-self.invariant c.in-Ok.ensures.ok

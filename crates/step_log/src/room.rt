@@ -1,7 +1,7 @@
 //! What a list of steps holds, and how it gets its room.
 ghost use Rattle.std.specs.Prelude.{◌≡◌, ◌+◌, ◌*◌, ◌<◌, ◌≤◌, min, length, OnOk};
 ghost use Rattle.std.specs.VecDeque.{deque_capacity};
-ghost use Rattle.export_cell.specs.Journal.{kept_step, payload_of};
+ghost use Rattle.step_log.specs.Steps.{kept_step, payload_of};
 
 use lone_export::Step;
 use nbd_base::NoMemory;
@@ -13,7 +13,7 @@ use std::collections::VecDeque;
 const FIRST_ROOM: usize = 17;
 
 /// The bytes of payload of a step: 32 MiB at most.
-pub(crate) fn payload_of<A: Allocator>(step: &Step<A>) -> usize
+pub fn payload_of<A: Allocator>(step: &Step<A>) -> usize
     ensures bytes { result ≡ payload_of (kept_step step.now) }
     ensures few { result ≤ 33554432 }
 {
@@ -24,7 +24,7 @@ pub(crate) fn payload_of<A: Allocator>(step: &Step<A>) -> usize
 }
 
 /// Room for so many elements more. Where it has to grow it at least doubles, so that the elements are seldom moved.
-pub(crate) fn widen<T, A: Allocator>(list: &mut VecDeque<T, A>, more: usize) -> Result<(), NoMemory>
+pub fn widen<T, A: Allocator>(list: &mut VecDeque<T, A>, more: usize) -> Result<(), NoMemory>
     ensures items { list.new.items ≡ list.old.items }
     ensures room { OnOk result (length list.new.items + more ≤ deque_capacity list.new) }
     ensures capacity { deque_capacity list.old ≤ deque_capacity list.new }
