@@ -113,7 +113,7 @@ impl<R: Wait + time::Clock> Read for Feed<'_, '_, R> {
         }
         let mut peer = self.link.peer;
         if !self.link.is_bulk() {
-            self.poll.poll(peer);
+            self.poll.poll(peer, self.link.interactive);
         }
         if self.is_between {
             self.link

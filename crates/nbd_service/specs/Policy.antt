@@ -71,6 +71,10 @@ next_skip_by skipped = if nat_lt skipped 4 then 8 else (if nat_lt 32 skipped the
 abbrev pub yields_behind_look_by : ℕ → ℕ → Bool
 yields_behind_look_by look in_a_row = nat_lt 0 in_a_row && ((look % in_a_row) == (in_a_row - 1))
 
+-- never alone
+abbrev pub looks_in_a_row_by : ℕ → ℕ
+looks_in_a_row_by looking = if nat_lt 1 looking then 4 else 0
+
 abbrev pub yields_by : ℕ → ℕ → Bool
 yields_by bytes many = nat_le many bytes
 

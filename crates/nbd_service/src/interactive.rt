@@ -15,6 +15,8 @@ pub struct InteractiveLoad {
     // When one asked last, in nanoseconds, and whether that was lately, more or less: this is what threads look at all the time.
     latest: AtomicU64,
     expected: AtomicBool,
+    // How many threads look at their sockets before they sleep.
+    looking: AtomicUsize,
 }
 
 impl InteractiveLoad {
@@ -24,6 +26,7 @@ impl InteractiveLoad {
             asking: AtomicUsize::new(0),
             latest: AtomicU64::new(0),
             expected: AtomicBool::new(false),
+            looking: AtomicUsize::new(0),
         }
     }
 
@@ -40,6 +43,21 @@ impl InteractiveLoad {
     /// Whether one asks for the lock.
     pub fn is_asking(&self) -> bool {
         self.asking.load(Ordering::SeqCst) > 0
+    }
+
+    /// A thread looks at its socket, until `end_look`.
+    pub fn begin_look(&self) {
+        self.looking.fetch_add(1, Ordering::SeqCst);
+    }
+
+    /// It looks no longer.
+    pub fn end_look(&self) {
+        self.looking.fetch_sub(1, Ordering::SeqCst);
+    }
+
+    /// How many threads look at their sockets.
+    pub fn looking(&self) -> usize {
+        self.looking.load(Ordering::SeqCst)
     }
 
     /// Notes how much a session asks for.

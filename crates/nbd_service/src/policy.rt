@@ -1,7 +1,7 @@
 //! The numbers of the serving code, and the rules over values that its threads follow. `specs/Policy.antt` says each rule.
 ghost use Rattle.std.specs.Prelude.{◌≡◌, ◌+◌, ◌-◌, ◌*◌, ◌<◌, ◌≤◌, ◌^◌, min, option_map};
 ghost use Rattle.std.specs.Duration.{as_nanos};
-ghost use Rattle.nbd_service.specs.Policy.{accept_may_pass_by, asks_for_turn_by, backlog_by, batch_by, bell_by, cost_by, data_by, ends_hold_by, handshake_wait_by, has_more_by, holds_back_by, is_alone_by, is_due_by, is_forgotten_by, is_network_fault_by, is_shortage_by, is_stalled_by, is_uneven_by, is_zero_by, keeps_by, keeps_up_by, load_by, makes_room_by, next_skip_by, patience_by, performs_by, reads_ahead_by, short_pieces_by, size_by, spares_by, still_defers_by, still_retunes_by, still_waits_for_line_by, suits_reader_by, waiting_by, wakes_worker_by, carried_by, yields_by, yields_behind_look_by};
+ghost use Rattle.nbd_service.specs.Policy.{accept_may_pass_by, asks_for_turn_by, backlog_by, batch_by, bell_by, cost_by, data_by, ends_hold_by, handshake_wait_by, has_more_by, holds_back_by, is_alone_by, is_due_by, is_forgotten_by, is_network_fault_by, is_shortage_by, is_stalled_by, is_uneven_by, is_zero_by, keeps_by, keeps_up_by, load_by, looks_in_a_row_by, makes_room_by, next_skip_by, patience_by, performs_by, reads_ahead_by, short_pieces_by, size_by, spares_by, still_defers_by, still_retunes_by, still_waits_for_line_by, suits_reader_by, waiting_by, wakes_worker_by, carried_by, yields_by, yields_behind_look_by};
 
 use crate::request_size::{Load, RequestSize};
 use crate::waiting::Waiting;
@@ -112,9 +112,6 @@ pub const LONG_WAIT_NS: u128 = 1_000_000;
 /// How many requests a reader performs at most behind one that it handed in, under the same hold, for that one to be served.
 pub const PERFORMED_FOR_ONE: usize = 2;
 
-/// How many steps a request has in its export's log.
-pub const STEPS_OF_A_REQUEST: usize = 4;
-
 /// How many spare pages a session has places for: for those that it is to have at most, and what one hold takes out.
 pub const SPARES_OF_A_SESSION: usize = 1_024;
 
@@ -155,6 +152,10 @@ pub const LOCK_LOOKS_IN_A_ROW: usize = 32;
 /// How often a socket is looked at before its reader sleeps: that took some 20 microseconds, and a short request with its reply 17 to
 /// 19. With other threads in between a paced client waited 1.4 to 1.7 times as long beside long requests (docs/notes/tries.md).
 pub const SOCKET_LOOKS: usize = 50;
+
+/// Behind how many looks in a row at a socket other threads run, where several threads look at theirs: 4 KiB requests one at a time from four
+/// connections then came to more, since their clients want the processors (docs/notes/tries.md).
+pub const SOCKET_LOOKS_IN_A_ROW: usize = 4;
 
 /// In how many reads a socket isn't looked at, at least, once nothing came at a look.
 pub const LEAST_SKIPPED_READS: u32 = 8;
@@ -529,6 +530,18 @@ pub fn yields_behind_look(look: usize, in_a_row: usize) -> bool
     ensures { result ≡ yields_behind_look_by look in_a_row }
 {
     in_a_row > 0 && look % in_a_row == in_a_row - 1
+}
+
+/// Behind how many looks in a row at its socket a thread lets others run, where so many threads look at theirs, itself among them.
+/// Alone it never does.
+pub fn looks_in_a_row(looking: usize) -> usize
+    ensures { result ≡ looks_in_a_row_by looking }
+{
+    if looking > 1 {
+        SOCKET_LOOKS_IN_A_ROW
+    } else {
+        0
+    }
 }
 
 /// Whether a read or a write of so many bytes is long enough to let others run behind it, where so many are many.

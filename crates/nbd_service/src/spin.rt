@@ -1,6 +1,8 @@
 //! The spin ladder: how a thread looks for what it waits for before it sleeps, and where it lets others run.
 
-use crate::policy::{LOCK_LOOKS, LOCK_LOOKS_IN_A_ROW, SOCKET_LOOKS, yields_behind_look};
+use crate::policy::{
+    LOCK_LOOKS, LOCK_LOOKS_IN_A_ROW, SOCKET_LOOKS, looks_in_a_row, yields_behind_look,
+};
 use std::hint::spin_loop;
 use std::thread::yield_now;
 
@@ -20,11 +22,13 @@ impl SpinLadder {
         in_a_row: LOCK_LOOKS_IN_A_ROW,
     };
 
-    /// The looks at a socket.
-    pub const SOCKET: SpinLadder = SpinLadder {
-        looks: SOCKET_LOOKS,
-        in_a_row: 0,
-    };
+    /// The looks at a socket, where so many threads look at theirs.
+    pub fn at_socket(looking: usize) -> SpinLadder {
+        SpinLadder {
+            looks: SOCKET_LOOKS,
+            in_a_row: looks_in_a_row(looking),
+        }
+    }
 
     /// What comes behind the look of this number, which found nothing. Tells whether others ran.
     pub fn rest_behind(self, look: usize) -> bool {

@@ -1,6 +1,7 @@
 //! A socket that is looked at for a while before its reader sleeps.
 
-use crate::policy::next_skip;
+use crate::interactive::InteractiveLoad;
+use crate::policy::{SOCKET_LOOKS, next_skip};
 use crate::spin::SpinLadder;
 use libc::net::{POLLIN, poll};
 use libc::types::pollfd;
@@ -25,13 +26,16 @@ impl SpinPoll {
         }
     }
 
-    /// Looks at the socket until something has come, for a while at most. True where a read won't wait.
-    pub fn poll(&mut self, peer: &TcpStream) -> bool {
+    /// Looks at the socket until something has come, for a while at most. Where other threads look at theirs, it lets others run
+    /// in between. True where a read won't wait.
+    pub fn poll(&mut self, peer: &TcpStream, load: &InteractiveLoad) -> bool {
         if self.left > 0 {
             self.left -= 1;
             return false;
         }
-        let came = has_come(peer);
+        load.begin_look();
+        let came = has_come(peer, load);
+        load.end_look();
         self.skipped = if came { 0 } else { next_skip(self.skipped) };
         self.left = self.skipped;
         came
@@ -49,18 +53,17 @@ pub fn has_input(peer: &TcpStream) -> bool {
 }
 
 /// Whether something has come, or the connection is over, at one of some looks.
-fn has_come(peer: &TcpStream) -> bool {
+fn has_come(peer: &TcpStream, load: &InteractiveLoad) -> bool {
     let mut socket = [pollfd {
         fd: peer.as_raw_fd(),
         events: POLLIN,
         revents: 0,
     }];
-    let ladder = SpinLadder::SOCKET;
-    for look in 0..ladder.looks {
+    for look in 0..SOCKET_LOOKS {
         if poll(&mut socket, 0) > 0 {
             return true;
         }
-        let _ = ladder.rest_behind(look);
+        let _ = SpinLadder::at_socket(load.looking()).rest_behind(look);
     }
     false
 }

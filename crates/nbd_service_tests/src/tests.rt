@@ -4,10 +4,10 @@ mod spare_pages;
 use nbd_service::policy::{
     accept_may_pass, asks_for_turn, backlog_after, batch_after, bell_of, brought_by,
     connections_for, cost_of, data_of, ends_hold, handshake_wait_ms, has_more, holds_back,
-    is_alone, is_due, is_stalled, keeps_up, load_of, makes_room, may_keep, may_read_ahead,
-    moment_after, next_skip, passes_for, patience, performs_itself, short_pieces, size_of,
-    still_defers, still_retunes, still_waits_for_line, suits_reader, waiting_until, wakes_worker,
-    yields_behind, yields_behind_look,
+    is_alone, is_due, is_stalled, keeps_up, load_of, looks_in_a_row, makes_room, may_keep,
+    may_read_ahead, moment_after, next_skip, passes_for, patience, performs_itself, short_pieces,
+    size_of, still_defers, still_retunes, still_waits_for_line, suits_reader, waiting_until,
+    wakes_worker, yields_behind, yields_behind_look,
 };
 use nbd_service::{
     InteractiveLoad, Load, RequestSize, RunningClock, SpinPoll, Turns, Waiting, WritePace,
@@ -95,6 +95,7 @@ fn who_lets_others_run(rt: HostRuntime) {
     assert!(rt; next_skip(0) == 8 && next_skip(8) == 16 && next_skip(64) == 64);
     assert!(rt; yields_behind_look(31, 32) && !yields_behind_look(32, 32));
     assert!(rt; !yields_behind_look(49, 0));
+    assert!(rt; looks_in_a_row(1) == 0 && looks_in_a_row(2) == 4 && looks_in_a_row(16) == 4);
     assert!(rt; yields_behind(196_608, 196_608) && !yields_behind(196_607, 196_608));
 }
 
@@ -191,12 +192,13 @@ fn what_a_listener_passes_over(rt: HostRuntime) {
 fn watched(rt: &HostRuntime) -> io::Result<(bool, usize)> {
     let (here, mut there) = UnixStream::pair(rt)?;
     let peer = &TcpStream::from(OwnedFd::from(here));
+    let load = InteractiveLoad::new();
     let mut socket = SpinPoll::new();
-    let before = socket.poll(peer);
+    let before = socket.poll(peer, &load);
     there.write_all(b"x")?;
     let mut after = 0usize;
     for _ in 0..12 {
-        if socket.poll(peer) {
+        if socket.poll(peer, &load) {
             after = after.saturating_add(1);
         }
     }
