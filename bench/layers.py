@@ -19,7 +19,7 @@ LAYERS = [
     ("turns under one lock", ["session_turns", "server_lock", "nbd_workers"]),
     ("one conversation", ["nbd_session", "nbd_options"]),
     ("many exports", ["server_core", "core_laws", "server_table", "turn_order"]),
-    ("one export", ["export_cell", "lone_export"]),
+    ("one export", ["export_cell", "step_log", "lone_export"]),
     ("its parts", ["nbd_commands", "export_queue", "export_store", "page_table", "number_sets", "reply_box", "eligibility"]),
     ("bytes, tags, words", ["nbd_wire", "payload", "tag_clock", "index_heap", "nbd_measures", "nbd_text", "nbd_base"]),
 ]
