@@ -95,7 +95,7 @@ impl<A: Allocator> Log<A> {
         true
     }
 
-    // The step is an group more.
+    // The step is a group more.
     fn append(&mut self, step: Step<A>)
         requires { 0 < self.old.spare }
         ensures { self.new ≡ record {
@@ -143,7 +143,7 @@ impl<A: Allocator> Log<A> {
         Some(step)
     }
 
-    /// A step comes before the others, with those that follow it.
+    /// A step comes before the others, as a group with those that came first.
     pub fn put_back(&mut self, step: Step<A>)
         requires { 0 < self.old.spare }
         ensures { self.new ≡ record {

@@ -8,8 +8,8 @@ use nbd_base::NoMemory;
 use std::alloc::Allocator;
 use std::collections::VecDeque;
 
-/// The room that a list of steps gets first. Doubled eight times it is that of 4,352 steps, in which a full log and what is to come mostly fits. In
-/// twice as much its steps would go round in twice as much memory, and more of it would have left the processor's cache.
+/// The room that a list gets first. Doubled six times it is that of 1,088 groups, in which a full log and what is to come mostly fits. In twice as much
+/// its steps would go round in twice as much memory, and more of it would have left the processor's cache.
 const FIRST_ROOM: usize = 17;
 
 /// The bytes of payload of a step: 32 MiB at most.
