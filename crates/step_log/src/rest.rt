@@ -1,6 +1,5 @@
 //! Steps that follow another directly.
-ghost use Rattle.std.specs.Prelude.{◌≡◌, [], ◌∷◌, ◌++◌, IfSome, IfNone};
-ghost use Rattle.std.specs.Prelude.{true};
+ghost use Rattle.std.specs.Prelude.{◌≡◌, [], ◌∷◌, ◌++◌, IfSome, IfNone, true};
 ghost use Rattle.lone_export.specs.declared.step.Step.TheVariants as step;
 ghost use Rattle.step_log.specs.Steps.{kept_step, payload_of};
 ghost use Rattle.step_log.specs.Log.{rest_steps};
