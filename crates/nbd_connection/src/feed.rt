@@ -3,8 +3,12 @@ ghost use Rattle.std.specs.Prelude.{◌≤◌, length};
 
 use crate::read_ahead::Piece;
 use crate::session_link::SessionLink;
+use nbd_base::NoMemory;
 use nbd_service::SpinPoll;
 use nbd_service::policy::MUCH_READ_BYTES;
+use nbd_session::{Buffered, append_front};
+use payload::{Growing, Spares};
+use std::alloc::Allocator;
 use std::io::Read;
 use std::sync::Wait;
 use std::{io, time};
@@ -12,6 +16,10 @@ use std::{io, time};
 /// The most bytes of a long WRITE's payload that are read at once. Where there is room for more, the next bytes begin a request,
 /// or go on with a short one.
 const LONGEST_STRETCH: usize = 65_536;
+
+/// The most bytes that a read gives of what was read ahead: a head and a page. What follows of a long WRITE goes into its pages
+/// straight.
+const FRONT: usize = 4_124;
 
 /// Where the requests of a connection come from: what was read ahead, and else the socket.
 #[derive(Drop)]
@@ -103,11 +111,33 @@ impl<'a, 'b, R: Wait + time::Clock> Feed<'a, 'b, R> {
     }
 }
 
+impl<R: Wait + time::Clock> Buffered for Feed<'_, '_, R> {
+    /// The bytes of pieces that were read ahead, for which it waits where the socket isn't the reader's.
+    fn append_buffered<A: Allocator + Copy>(
+        &mut self,
+        payload: &mut Growing<A>,
+        spares: &mut Spares<A>,
+        whole: usize,
+    ) -> Result<bool, NoMemory> {
+        self.is_between = false;
+        self.make_ready();
+        let Some(piece) = &self.piece else {
+            return Ok(false);
+        };
+        let bytes = piece.bytes.as_slice();
+        let rest = bytes.get(self.used..piece.count).unwrap_or_default();
+        let count = append_front(payload, spares, rest, whole)?;
+        self.used = self.used.saturating_add(count);
+        Ok(count > 0)
+    }
+}
+
 impl<R: Wait + time::Clock> Read for Feed<'_, '_, R> {
     fn read(&mut self, buf: &mut [u8]) -> io::Result<usize> {
         self.is_between = buf.len() > LONGEST_STRETCH;
         self.make_ready();
-        let count = self.copy(buf);
+        let most = buf.len().min(FRONT);
+        let count = self.copy(&mut buf[..most]);
         if count > 0 {
             return Ok(count);
         }

@@ -1,6 +1,8 @@
 use nbd_connection::{BytesUnderWay, Feed, SessionLink, TurnSeat};
 use nbd_service::{InteractiveLoad, RetuneGate, Traffic, Turns};
+use nbd_session::Buffered;
 use nbd_workers::Bell;
+use payload::{Growing, Spares};
 use server_core::SessionId;
 use std::alloc::Global;
 use std::io::{Read, Write};
@@ -110,7 +112,7 @@ fn read_ahead<R: Wait + Threads + Sync + time::Clock>(
                 .is_ok();
         link.ahead.start();
         let told = match started {
-            true => all_of(rt, link),
+            true => all_of(rt, alloc, link),
             false => Ok((0, false)),
         };
         link.ahead.end();
@@ -118,11 +120,45 @@ fn read_ahead<R: Wait + Threads + Sync + time::Clock>(
     })
 }
 
-fn all_of<R: Wait + time::Clock>(rt: &R, link: &SessionLink<'_>) -> io::Result<(usize, bool)> {
+/// Whether bytes that were read ahead come into a payload, so many and no more, and each is the one that was sent.
+fn begins<R: Wait + time::Clock>(alloc: Global, feed: &mut Feed<'_, '_, R>, whole: usize) -> bool {
+    let mut spares = Spares::new(alloc);
+    let Ok(mut payload) = Growing::new(&mut spares, 0) else {
+        return false;
+    };
+    for _ in 0..whole {
+        if payload.len() == whole {
+            break;
+        }
+        if feed.append_buffered(&mut payload, &mut spares, whole) != Ok(true) {
+            return false;
+        }
+    }
+    let mut text = Vec::new(alloc);
+    match payload.finish() {
+        Ok(payload) => payload.append(&mut text).is_ok() && are_sent(&text, whole),
+        Err(_) => false,
+    }
+}
+
+fn are_sent(text: &[u8], count: usize) -> bool {
+    for (at, byte) in text.iter().enumerate() {
+        if *byte != byte_at(at) {
+            return false;
+        }
+    }
+    text.len() == count
+}
+
+fn all_of<R: Wait + time::Clock>(
+    rt: &R,
+    alloc: Global,
+    link: &SessionLink<'_>,
+) -> io::Result<(usize, bool)> {
     let mut feed = Feed::new(rt, link);
     let mut buffer = [0u8; 5_000];
-    let mut at = 0usize;
-    let mut well = true;
+    let mut at = 300_000usize;
+    let mut well = begins(alloc, &mut feed, at);
     for _ in rt.forever() {
         let count = feed.read(&mut buffer)?;
         if count == 0 {

@@ -1,8 +1,13 @@
-ghost use Rattle.std.specs.Prelude.{◌≡◌, ◌++◌, ◌+◌, ◌^◌, ◌<◌, ◌≤◌, length, IfOk, OnOk, OnErr};
+ghost use Rattle.std.specs.Prelude.{◌≡◌, ◌++◌, ◌+◌, ◌^◌, ◌<◌, ◌≤◌, length, IfOk, OnOk, OnErr, IsTrue, IsFalse};
 ghost use Rattle.std.specs.Io.{ReadsAtMost, WritesAtMost};
 ghost use Rattle.std.specs.Io.KnownBytes.{ReadConsumes, WriteAppends, Keeps};
+ghost use Rattle.nbd_session.specs.Intake.{Lengthens};
 ghost use Rattle.nbd_session.specs.Streams.{Rises};
 
+use crate::buffered::Buffered;
+use nbd_base::NoMemory;
+use payload::{Growing, Spares};
+use std::alloc::Allocator;
 use std::io;
 use std::io::{Read, Write};
 
@@ -60,6 +65,25 @@ impl<R: Read> Read for Counted<R> {
             self.failures = one_more(self.failures);
         }
         outcome
+    }
+}
+
+impl<R: Buffered> Buffered for Counted<R> {
+    fn append_buffered<A: Allocator + Copy>(
+        &mut self,
+        payload: &mut Growing<A>,
+        spares: &mut Spares<A>,
+        whole: usize,
+    ) -> Result<bool, NoMemory>
+        ensures some { IfOk result (λ any. IsTrue any → Lengthens (R.remaining self.old.inner)
+            (R.remaining self.new.inner) payload.old payload.new whole) }
+        ensures none { IfOk result (λ any. IsFalse any → payload.new ≡ payload.old) }
+        ensures left { IfOk result (λ any. IsFalse any
+            → R.remaining self.new.inner ≡ R.remaining self.old.inner) }
+        ensures err { OnErr result (R.remaining self.new.inner ≡ R.remaining self.old.inner) }
+        ensures failures { self.new.failures ≡ self.old.failures }
+    {
+        self.inner.append_buffered(payload, spares, whole)
     }
 }
 

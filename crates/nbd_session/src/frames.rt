@@ -1,5 +1,6 @@
 //! Requests out of a reader, whose bytes may come in pieces of any size.
 
+use crate::buffered::Buffered;
 use crate::counted::Counted;
 use crate::ending::{Ending, Frame};
 use crate::intake::Intake;
@@ -7,7 +8,6 @@ use crate::pieces::advance;
 use nbd_wire::{FeedFault, Request};
 use payload::Spares;
 use std::alloc::Allocator;
-use std::io::Read;
 use std::marker::Model;
 
 /// The requests of one client, out of the reader that each call is handed: it is to be the same one.
@@ -64,7 +64,7 @@ impl<A: Allocator + Copy> Frames<A> {
     ///
     /// A request that is ready is given without a read, whatever memory there is. So want of memory is told only where none
     /// is ready: for the next piece, or for a request in what was read.
-    pub fn next<R: Read>(&mut self, reader: &mut Counted<R>) -> Frame<A>
+    pub fn next<R: Buffered>(&mut self, reader: &mut Counted<R>) -> Frame<A>
         ensures next { self.old.ended ≡ None
             → Nexts self.old self.new (R.remaining reader.old.inner) (R.remaining reader.new.inner)
             reader.old.failures reader.new.failures result }
@@ -117,12 +117,12 @@ impl<A: Allocator + Copy> Frames<A> {
 
 /// The requests of one client, with the reader that they come out of.
 #[derive(Drop)]
-pub struct FrameReader<R: Read, A: Allocator + Copy> {
+pub struct FrameReader<R: Buffered, A: Allocator + Copy> {
     reader: Counted<R>,
     frames: Frames<A>,
 }
 
-impl<R: Read, A: Allocator + Copy> Model for FrameReader<R, A> {
+impl<R: Buffered, A: Allocator + Copy> Model for FrameReader<R, A> {
     ghost use Rattle.nbd_session.specs.Frames.{Stream};
 
     ghost Value = { Stream };
@@ -135,7 +135,7 @@ impl<R: Read, A: Allocator + Copy> Model for FrameReader<R, A> {
         } };
 }
 
-impl<R: Read, A: Allocator + Copy> FrameReader<R, A> {
+impl<R: Buffered, A: Allocator + Copy> FrameReader<R, A> {
     ghost use Rattle.std.specs.Prelude.{◌≡◌, ◌<◌, [], length, Some, None};
     ghost use Rattle.nbd_session.specs.declared.ending.Ending.{Ending};
     ghost use Rattle.std.specs.Prelude.{◌↔◌, IsTrue};

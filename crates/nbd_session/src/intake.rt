@@ -4,6 +4,7 @@ ghost use Rattle.nbd_session.specs.Frames.{IsBehindReady, TakesIn, Fetches};
 ghost use Rattle.nbd_session.specs.Intake.{taken_in, IsTakenIn};
 ghost use Rattle.nbd_session.specs.declared.ending.Ending.{Ending};
 
+use crate::buffered::Buffered;
 use crate::counted::Counted;
 use crate::ending::Ending;
 use crate::long_write::read_on;
@@ -60,7 +61,7 @@ impl<A: Allocator + Copy> Intake<A> {
     }
 
     /// Reads once into the buffer: a piece, or the next bytes of a long WRITE.
-    pub fn fetch<R: Read>(
+    pub fn fetch<R: Buffered>(
         &mut self,
         reader: &mut Counted<R>,
         buffer: &mut [u8],
@@ -97,7 +98,7 @@ impl<A: Allocator + Copy> Intake<A> {
 }
 
 /// Reads once where no long WRITE was taken out of the decoder so far.
-fn read_afresh<A: Allocator + Copy, R: Read>(
+fn read_afresh<A: Allocator + Copy, R: Buffered>(
     reader: &mut Counted<R>,
     buffer: &mut [u8],
     decoder: &mut Decoder<A>,
@@ -124,7 +125,7 @@ fn read_afresh<A: Allocator + Copy, R: Read>(
 }
 
 /// Reads one piece.
-fn read_piece<A: Allocator + Copy, R: Read>(
+fn read_piece<A: Allocator + Copy, R: Buffered>(
     reader: &mut Counted<R>,
     buffer: &mut [u8],
     decoder: &mut Decoder<A>,

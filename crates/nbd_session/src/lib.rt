@@ -2,6 +2,7 @@
 //! client, and how the conversation ends.
 #![tactic(auto)]
 
+mod buffered;
 mod counted;
 mod ending;
 mod exact_io;
@@ -18,6 +19,7 @@ mod serving;
 mod single_client;
 mod transmission;
 
+pub use buffered::{Buffered, append_front};
 pub use counted::Counted;
 pub use ending::{Ending, Frame};
 pub use exact_io::{WriteFailed, put};

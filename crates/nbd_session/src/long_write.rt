@@ -1,9 +1,11 @@
 //! Long WRITEs, whose payload goes into its pages as it comes.
 ghost use Rattle.std.specs.Prelude.{◌≡◌, ◌<◌, ◌≤◌, ◌+◌, ◌++◌, [], length, take, None, IfOk, IfErr, OnOk};
 ghost use Rattle.nbd_wire.specs.Grammar.{head_text, request_text, IsRequest};
+ghost use Rattle.nbd_wire.specs.Pieces.{IsBegun};
 ghost use Rattle.nbd_session.specs.Frames.{TakesIn, Fetches};
 ghost use Rattle.nbd_session.specs.Intake.{taken_in, nothing_held, IsPartly, Lengthens, EndsWithin};
 
+use crate::buffered::Buffered;
 use crate::counted::Counted;
 use crate::ending::Ending;
 use nbd_wire::{BegunWrite, FeedFault, Request, RequestHead};
@@ -14,8 +16,9 @@ use std::io::Read;
 /// The most bytes of a payload that are read at once: whole pages of it, where they came whole so far.
 const STRETCH: usize = 65_536;
 
-/// Reads the next bytes of a long WRITE by way of the buffer, and none behind its end. It is ready once it is whole.
-pub fn read_on<A: Allocator + Copy, R: Read>(
+/// Takes the next bytes of a long WRITE: what the reader has read already, or else by way of the buffer, and none behind its end. It
+/// is ready once it is whole.
+pub fn read_on<A: Allocator + Copy, R: Buffered>(
     reader: &mut Counted<R>,
     buffer: &mut [u8],
     write: BegunWrite<A>,
@@ -32,7 +35,34 @@ pub fn read_on<A: Allocator + Copy, R: Read>(
     ensures more { IfOk result (λ fault. fault ≡ None → ready.new.items ≡ []
         → length (request_text write) < length (taken_in begun.new nothing_held).held) }
 {
-    let (head, payload) = write.into_parts();
+    let (head, mut payload) = write.into_parts();
+    match reader.append_buffered(&mut payload, spares, head.length as usize) {
+        Ok(true) => Ok(keep(head, payload, begun, ready)),
+        Ok(false) => read_by_buffer(reader, buffer, head, payload, begun, spares, ready),
+        Err(_) => Ok(Some(FeedFault::NoMemory)),
+    }
+}
+
+/// Reads the next bytes of a long WRITE by way of the buffer.
+fn read_by_buffer<A: Allocator + Copy, R: Buffered>(
+    reader: &mut Counted<R>,
+    buffer: &mut [u8],
+    head: RequestHead,
+    payload: Growing<A>,
+    begun: &mut Option<BegunWrite<A>>,
+    spares: &mut Spares<A>,
+    ready: &mut Vec<Request<A>, A>,
+) -> Result<Option<FeedFault>, Ending>
+    requires unfinished { IsBegun (record { head = head; payload = payload }) }
+    requires room { 0 < length buffer.old }
+    requires none { ready.old.items ≡ [] }
+    requires not_begun { begun.old ≡ None }
+    ensures fetched { Fetches (R.remaining reader.old.inner)
+        (R.remaining reader.new.inner) reader.old.failures reader.new.failures
+        (head_text head ++ payload) ready.new.items (taken_in begun.new nothing_held) result }
+    ensures more { IfOk result (λ fault. fault ≡ None → ready.new.items ≡ []
+        → length (head_text head ++ payload) < length (taken_in begun.new nothing_held).held) }
+{
     let whole = head.length as usize;
     let stretch = (whole - payload.len()).min(buffer.len()).min(STRETCH);
     let room = &mut buffer[..stretch];
@@ -43,7 +73,7 @@ pub fn read_on<A: Allocator + Copy, R: Read>(
 }
 
 /// Reads the next bytes of a payload that is to have so many, and tells how many came.
-fn read_behind<A: Allocator + Copy, R: Read>(
+fn read_behind<A: Allocator + Copy, R: Buffered>(
     reader: &mut Counted<R>,
     room: &mut [u8],
     payload: &Growing<A>,

@@ -3,19 +3,19 @@ ghost use Rattle.std.specs.Prelude.{◌≡◌, ◌≢◌, ◌<◌, [], vec_len, 
 ghost use Rattle.nbd_session.specs.Frames.{IsBehindReady, IsFraming, Fetches, Advances, ending_of};
 ghost use Rattle.nbd_session.specs.declared.ending.Ending.{Ending};
 
+use crate::buffered::Buffered;
 use crate::counted::Counted;
 use crate::ending::Ending;
 use crate::intake::Intake;
 use nbd_wire::{FeedFault, Request};
 use std::alloc::{AllocError, Allocator};
-use std::io::Read;
 
 /// The most bytes that are read at once: a request's head and 65,536 bytes behind it.
 const PIECE: usize = 65_564;
 
 /// The next request: the first that is ready, or else the first of those that the bytes read next make whole. Requests
 /// are given before the fault that was met behind them.
-pub fn advance<A: Allocator + Copy, R: Read>(
+pub fn advance<A: Allocator + Copy, R: Buffered>(
     alloc: A,
     reader: &mut Counted<R>,
     buffer: &mut Vec<u8, A>,
@@ -62,7 +62,7 @@ fn ending_of(fault: FeedFault) -> Ending
 }
 
 /// Reads pieces until a request is ready, or a fault is met.
-fn more<A: Allocator + Copy, R: Read>(
+fn more<A: Allocator + Copy, R: Buffered>(
     alloc: A,
     reader: &mut Counted<R>,
     buffer: &mut Vec<u8, A>,

@@ -4,6 +4,7 @@ ghost use Rattle.nbd_session.specs.Streams.{Rises};
 ghost use Rattle.nbd_session.specs.Outcomes.{Converses, IsTold};
 ghost use Rattle.nbd_session.specs.Conversation.{Talked, facts_of};
 
+use crate::buffered::Buffered;
 use crate::counted::Counted;
 use crate::haggling::haggle;
 use crate::outcomes::{End, Entry, TalkFault};
@@ -12,11 +13,11 @@ use nbd_base::NoMemory;
 use nbd_commands::{Config, ExportConfig};
 use nbd_options::{Always, ExportTable};
 use std::alloc::Allocator;
-use std::io::{Read, Write};
+use std::io::Write;
 
 /// Holds one conversation with one client, by one thread: the handshake, in which a session is always given, and then each
 /// request in turn. The export's bytes are zeros at its start.
-pub fn talk<A: Allocator + Copy, R: Read, W: Write>(
+pub fn talk<A: Allocator + Copy, R: Buffered, W: Write>(
     alloc: A,
     config: &Config<A>,
     reader: &mut Counted<R>,

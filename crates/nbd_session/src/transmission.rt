@@ -8,6 +8,7 @@ ghost use Rattle.nbd_session.specs.Plainly.{IsIdle};
 ghost use Rattle.nbd_session.specs.Outcomes.{Converses, IsTold};
 ghost use Rattle.nbd_session.specs.Frames.{end_by};
 
+use crate::buffered::Buffered;
 use crate::counted::Counted;
 use crate::ending::{Ending, Frame};
 use crate::exact_io::put;
@@ -20,10 +21,10 @@ use nbd_commands::ExportConfig;
 use nbd_wire::protocol::DISC;
 use nbd_wire::{Reply, RequestHead, write_reply};
 use std::alloc::Allocator;
-use std::io::{Read, Write};
+use std::io::Write;
 
 /// From the choice of an export to the end.
-pub fn transmit<A: Allocator + Copy, R: Read, W: Write>(
+pub fn transmit<A: Allocator + Copy, R: Buffered, W: Write>(
     alloc: A,
     export: &ExportConfig<A>,
     reader: &mut Counted<R>,
@@ -48,7 +49,7 @@ pub fn transmit<A: Allocator + Copy, R: Read, W: Write>(
 }
 
 /// Answers requests, from the first to the end.
-fn requests<I: Image, R: Read, W: Write>(
+fn requests<I: Image, R: Buffered, W: Write>(
     alloc: I::Alloc,
     lone: &mut Lone<I>,
     reader: &mut Counted<R>,

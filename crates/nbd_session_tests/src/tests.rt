@@ -1,10 +1,11 @@
 //! Conversations over memory, by one thread.
 
+use nbd_base::NoMemory;
 use nbd_commands::{Config, ExportList, ExportSettings};
 use nbd_options::Always;
 use nbd_session::*;
 use nbd_wire::{Reply, RequestHead, write_head};
-use payload::Payload;
+use payload::{Growing, Payload, Spares};
 use refusing::Refusing;
 use std::alloc::{Allocator, Global};
 use std::io;

@@ -7,11 +7,10 @@ ghost use Rattle.session_turns.specs.Offering.{MakesLeave, Offers, HandsIn, Hand
 use crate::turns::{Arrival, Turn};
 use eligibility::Eligibility;
 use export_store::Image;
-use nbd_session::{Frame, FrameReader, is_disc};
+use nbd_session::{Buffered, Frame, FrameReader, is_disc};
 use nbd_wire::Request;
 use server_core::{ArriveRefusal, SessionId};
 use server_lock::{Booked, Pass, turn_arrive, turn_leave};
-use std::io::Read;
 use std::sync::ledger::Ledger;
 use tag_clock::Clock;
 
@@ -61,7 +60,7 @@ pub fn offer_held<L: Ledger, I: Image, E: Eligibility<Alloc = I::Alloc>, C: Cloc
 }
 
 /// Hands in the next request that was read already. Where none was it changes nothing.
-pub fn read_ready<L: Ledger, I: Image, E: Eligibility<Alloc = I::Alloc>, R: Read, C: Clock>(
+pub fn read_ready<L: Ledger, I: Image, E: Eligibility<Alloc = I::Alloc>, R: Buffered, C: Clock>(
     booked: &mut Booked<L, I, E>,
     pass: &mut Pass<L>,
     session: SessionId,

@@ -10,12 +10,12 @@ use crate::taking::Stop;
 use eligibility::Eligibility;
 use export_store::Image;
 use lone_export::Arrived;
-use nbd_session::FrameReader;
+use nbd_session::{Buffered, FrameReader};
 use nbd_wire::{Request, RequestHead};
 use server_core::SessionId;
 use server_lock::{Pass, Shared};
 use std::alloc::Allocator;
-use std::io::{Read, Write};
+use std::io::Write;
 use std::sync::Wait;
 use std::sync::ledger::Ledger;
 use tag_clock::Clock;
@@ -67,7 +67,14 @@ pub enum WriteTurn {
 
 /// Reads the client's next request, and offers it. Where the client sent DISC, its input ended or was refused, or memory
 /// was, the session leaves. It holds the server only once the request was read.
-pub fn read_turn<L: Ledger, I: Image, E: Eligibility<Alloc = I::Alloc>, R: Read, C: Clock, W: Wait>(
+pub fn read_turn<
+    L: Ledger,
+    I: Image,
+    E: Eligibility<Alloc = I::Alloc>,
+    R: Buffered,
+    C: Clock,
+    W: Wait,
+>(
     rt: &W,
     shared: &Shared<L, I, E>,
     pass: &mut Pass<L>,

@@ -5,7 +5,7 @@ use eligibility::Listed;
 use export_store::Flat;
 use lone_export::Arrived;
 use nbd_commands::{Config, ExportList, ExportSettings};
-use nbd_session::{Counted, Entry, FrameReader, haggle, put_reply, table_of};
+use nbd_session::{Buffered, Counted, Entry, FrameReader, haggle, put_reply, table_of};
 use nbd_wire::{Request, RequestHead};
 use refusing::Refusing;
 use server_core::{Server, SessionId};
@@ -105,6 +105,8 @@ impl Read for Source {
         Ok(count)
     }
 }
+
+impl Buffered for Source {}
 
 /// Takes so many bytes, and then fails.
 #[derive(Drop)]

@@ -8,6 +8,32 @@ struct Drip<'a> {
     bytes: &'a [u8],
     most: usize,
     fails: bool,
+    /// Whether it says that it has read what it gives next.
+    ahead: bool,
+}
+
+impl Drip<'_> {
+    fn pass(&mut self, count: usize) {
+        self.bytes = self.bytes.get(count..).unwrap_or_default();
+        self.most = self.most % 70_001 * 7 % 70_001 + 1;
+    }
+}
+
+impl Buffered for Drip<'_> {
+    fn append_buffered<A: Allocator + Copy>(
+        &mut self,
+        payload: &mut Growing<A>,
+        spares: &mut Spares<A>,
+        whole: usize,
+    ) -> Result<bool, NoMemory> {
+        if !self.ahead {
+            return Ok(false);
+        }
+        let next = self.bytes.get(..self.most).unwrap_or(self.bytes);
+        let count = append_front(payload, spares, next, whole)?;
+        self.pass(count);
+        Ok(count > 0)
+    }
 }
 
 impl Read for Drip<'_> {
@@ -17,8 +43,7 @@ impl Read for Drip<'_> {
         }
         let count = buf.len().min(self.bytes.len()).min(self.most);
         buf[..count].copy_from_slice(&self.bytes[..count]);
-        self.bytes = &self.bytes[count..];
-        self.most = self.most % 70_001 * 7 % 70_001 + 1;
+        self.pass(count);
         Ok(count)
     }
 }
@@ -77,11 +102,12 @@ fn is_end<A: Allocator>(frame: Frame<A>, ending: Ending) -> bool {
 }
 
 /// Whether the WRITE comes whole, and the READ behind it, where so many bytes come at first.
-fn comes_in_pieces(alloc: Global, sent: &[u8], most: usize) -> bool {
+fn comes_in_pieces(alloc: Global, sent: &[u8], most: usize, ahead: bool) -> bool {
     let drip = Drip {
         bytes: sent,
         most,
         fails: false,
+        ahead,
     };
     let mut reader = FrameReader::new(alloc, Counted::new(drip));
     is_request(alloc, reader.next(), 1, payload_in(sent))
@@ -95,10 +121,12 @@ fn a_payload_in_pieces(rt: HostRuntime) {
     for length in [4095, 4096, 65_508, 100_000, 300_000] {
         let sent = long_write(rt.alloc(), length).expect(&rt, "memory");
         for most in [1, 27, 28, 29, 4097, 65_536, 1_000_000] {
-            assert!(rt;
-                comes_in_pieces(rt.alloc(), &sent, most),
-                "{length} from {most}"
-            );
+            for ahead in [false, true] {
+                assert!(rt;
+                    comes_in_pieces(rt.alloc(), &sent, most, ahead),
+                    "{length} from {most}, {ahead}"
+                );
+            }
         }
     }
 }
@@ -106,7 +134,13 @@ fn a_payload_in_pieces(rt: HostRuntime) {
 /// Whether the reading ends so, and stays so, where no more bytes come than these.
 fn ends_early(alloc: Global, bytes: &[u8], fails: bool, ending: Ending) -> bool {
     let most = 30_000;
-    let drip = Drip { bytes, most, fails };
+    let ahead = false;
+    let drip = Drip {
+        bytes,
+        most,
+        fails,
+        ahead,
+    };
     let mut reader = FrameReader::new(alloc, Counted::new(drip));
     is_end(reader.next(), ending) && is_end(reader.next(), ending)
 }
@@ -137,6 +171,7 @@ fn each_growth_for_a_payload_is_refused(rt: HostRuntime) {
             bytes: sent.as_slice(),
             most: 70_000,
             fails: false,
+            ahead: false,
         };
         let mut reader = FrameReader::new(&heap, Counted::new(drip));
         let first = reader.next();

@@ -1,5 +1,6 @@
 //! Readers and writers that end or fail at a place.
 
+use nbd_session::Buffered;
 use std::alloc::Global;
 use std::io;
 use std::io::{Read, Write};
@@ -24,6 +25,8 @@ impl Read for Source<'_> {
         Ok(count)
     }
 }
+
+impl Buffered for Source<'_> {}
 
 /// Takes so many bytes, some at once at most, and then fails.
 #[derive(Drop)]
