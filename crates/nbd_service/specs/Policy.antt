@@ -207,7 +207,15 @@ keeps_by unsent = nat_lt unsent 4
 
 -- 128 KiB, and within the 256 KiB of the outlet together with what isn't sent
 abbrev pub suits_reader_by : ℕ → ℕ → Bool
-suits_reader_by bytes unsent = nat_le bytes 131072 && nat_lt unsent (262144 - bytes)
+suits_reader_by bytes unsent = nat_le bytes 196608 && nat_lt unsent (262144 - bytes)
+
+-- at most 128 KiB, beside others that read long data
+abbrev pub answers_read_by : ℕ → Bool → Bool
+answers_read_by bytes alone = not alone && nat_le bytes 131072
+
+-- such data and their head
+abbrev pub has_room_for_read_by : ℕ → Bool
+has_room_for_read_by bytes = nat_le (bytes + 131088) 196608
 
 -- a second, and without end where nothing is under way
 abbrev pub patience_by : ℕ → Option ℕ
