@@ -34,8 +34,6 @@ pub struct RequestSource<'a, 'b, R: Wait + time::Clock> {
     pub room: HeapRoom,
     /// What is kept of it for the next WRITEs, while the frames have none.
     pub spares: Spares<Global>,
-    /// Whether no other session reads long data, as noted last.
-    pub reads_alone: bool,
 }
 
 /// What a reader offers first under a hold.
@@ -119,10 +117,10 @@ impl Admission {
     }
 
     /// Whether it is a READ of long data that a reader answers itself, where the outlet is at hand.
-    fn is_answered(&self, is_alone: bool) -> bool {
+    fn is_answered(&self) -> bool {
         match &self.arrival {
             Some(arrival) => {
-                self.size == RequestSize::LongRead && answers_read(data_of(arrival.head), is_alone)
+                self.size == RequestSize::LongRead && answers_read(data_of(arrival.head))
             }
             None => false,
         }
@@ -166,7 +164,6 @@ impl<'a, 'b, R: Wait + time::Clock> RequestSource<'a, 'b, R> {
             outdated: Outdated::with_room(alloc, OUTDATED_PAGES)?,
             room: HeapRoom::new(),
             spares,
-            reads_alone: true,
         })
     }
 
@@ -230,10 +227,10 @@ impl<'a, 'b, R: Wait + time::Clock> RequestSource<'a, 'b, R> {
         service.spares.take_all(rt, &mut self.spares);
     }
 
-    /// What follows a turn under the same hold: it performs the request, unless that is a READ of long data which is left to the
-    /// writer, and takes its reply, where the outlet is at hand. So the steps of a request stand side by side in its export's log, and those of a READ go into
-    /// the base without its data. It notes who asked only where the request stays: whoever performs it later has to know. False
-    /// where it stays.
+    /// What follows a turn under the same hold: it performs the request and takes its reply, where the outlet is at hand. A READ of
+    /// long data is left to the writer, but for one that the reader answers. So the steps of a request stand side by side in its
+    /// export's log, and those of a READ go into the base without its data. It notes who asked only where the request stays: whoever
+    /// performs it later has to know. False where it stays.
     fn follow<L: Ledger, C: Clock>(
         &mut self,
         disks: &mut Disks<L>,
@@ -252,7 +249,7 @@ impl<'a, 'b, R: Wait + time::Clock> RequestSource<'a, 'b, R> {
             number,
         };
         let performs = performs_itself(admission.size)
-            || (outlet.is_some() && admission.is_answered(self.reads_alone));
+            || (outlet.is_some() && admission.is_answered());
         let served = performs
             && self
                 .wakeups

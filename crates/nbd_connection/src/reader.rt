@@ -8,7 +8,7 @@ use crate::session_link::SessionLink;
 use nbd_service::policy::{
     BATCH, PATIENCE_S, batch_after, load_of, makes_ready, may_read_ahead, size_of,
 };
-use nbd_service::{HoldClock, RequestSize, Service};
+use nbd_service::{HoldClock, Service};
 use nbd_wire::Request;
 use nbd_workers::until;
 use server_lock::Pass;
@@ -177,7 +177,6 @@ fn hold_once<L: Ledger, R: Wait + time::Clock>(
     let clock = service.clock(rt);
     let asked = clock.now();
     note_load(service, link, &offer, source.frames.is_ready(), asked);
-    note_long_read(rt, service, link, source, &offer, asked);
     let mut disks = service.hold(rt, link.is_bulk());
     let held = HoldClock::at(clock.now());
     let most = batch_after(until(asked, held.now()));
@@ -205,22 +204,6 @@ fn note_load<L: Ledger>(
     let load = load_of(size_of(head), more);
     link.note_load(load);
     service.interactive.note(load, now);
-}
-
-/// Notes whether another session reads long data, where this one does.
-fn note_long_read<L: Ledger, R: Wait + time::Clock>(
-    rt: &R,
-    service: &Service<L>,
-    link: &SessionLink<'_>,
-    source: &mut RequestSource<'_, '_, R>,
-    offer: &Offer,
-    now: Moment,
-) {
-    if let Some(head) = offer.head() {
-        if size_of(head) == RequestSize::LongRead {
-            source.reads_alone = service.note_long_read(rt, link.session, now);
-        }
-    }
 }
 
 fn is_going(turn: &Turn<Global>) -> bool {

@@ -209,11 +209,11 @@ keeps_by unsent = nat_lt unsent 4
 abbrev pub suits_reader_by : ℕ → ℕ → Bool
 suits_reader_by bytes unsent = nat_le bytes 196608 && nat_lt unsent (262144 - bytes)
 
--- at most 128 KiB, beside others that read long data
-abbrev pub answers_read_by : ℕ → Bool → Bool
-answers_read_by bytes alone = not alone && nat_le bytes 131072
+-- at most 128 KiB
+abbrev pub answers_read_by : ℕ → Bool
+answers_read_by bytes = nat_le bytes 131072
 
--- such data and their head
+-- so many bytes, such data and their head
 abbrev pub has_room_for_read_by : ℕ → Bool
 has_room_for_read_by bytes = nat_le (bytes + 131088) 196608
 
