@@ -9,7 +9,7 @@ use crate::under_way::Admitted;
 use export_cell::Outdated;
 use nbd_base::NoMemory;
 use nbd_service::policy::{
-    OUTDATED_PAGES, QUEUED_WORK, SPARES_OF_A_SESSION, answers_read, brought_by, data_of, ends_hold,
+    OUTDATED_PAGES, QUEUED_WORK, SPARES_OF_A_SESSION, answers_read, brought_by, ends_hold,
     has_room_for_read, performs_itself, size_of, waiting_until,
 };
 use nbd_service::{Asked, Disks, RequestSize, Service, Waiting, Wakeups, prefetch};
@@ -34,6 +34,8 @@ pub struct RequestSource<'a, 'b, R: Wait + time::Clock> {
     pub room: HeapRoom,
     /// What is kept of it for the next WRITEs, while the frames have none.
     pub spares: Spares<Global>,
+    /// Whether no other session reads long data, as noted last.
+    pub reads_alone: bool,
 }
 
 /// What a reader offers first under a hold.
@@ -117,11 +119,9 @@ impl Admission {
     }
 
     /// Whether it is a READ of long data that a reader answers itself, where the outlet is at hand.
-    fn is_answered(&self) -> bool {
+    fn is_answered(&self, is_alone: bool) -> bool {
         match &self.arrival {
-            Some(arrival) => {
-                self.size == RequestSize::LongRead && answers_read(data_of(arrival.head))
-            }
+            Some(arrival) => answers_read(arrival.head, is_alone),
             None => false,
         }
     }
@@ -164,7 +164,26 @@ impl<'a, 'b, R: Wait + time::Clock> RequestSource<'a, 'b, R> {
             outdated: Outdated::with_room(alloc, OUTDATED_PAGES)?,
             room: HeapRoom::new(),
             spares,
+            reads_alone: true,
         })
+    }
+
+    /// Notes whether another session reads long data, where this one is about to. Tells whether it answers what is offered itself.
+    pub fn answers<L: Ledger>(
+        &mut self,
+        rt: &R,
+        service: &Service<L>,
+        link: &SessionLink<'_>,
+        offer: &Offer,
+    ) -> bool {
+        let Some(head) = offer.head() else {
+            return false;
+        };
+        if size_of(head) == RequestSize::LongRead {
+            let now = service.clock(rt).now();
+            self.reads_alone = service.note_long_read(rt, link.session, now);
+        }
+        answers_read(head, self.reads_alone)
     }
 
     /// Hands in what is offered and the requests that are ready behind it, so many at most. It ends sooner where requests of two sizes
@@ -249,7 +268,7 @@ impl<'a, 'b, R: Wait + time::Clock> RequestSource<'a, 'b, R> {
             number,
         };
         let performs = performs_itself(admission.size)
-            || (outlet.is_some() && admission.is_answered());
+            || (outlet.is_some() && admission.is_answered(self.reads_alone));
         let served = performs
             && self
                 .wakeups

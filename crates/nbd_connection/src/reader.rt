@@ -6,7 +6,8 @@ use crate::preparing::make_ready;
 use crate::rules::{wakes_writer, writer_chooses};
 use crate::session_link::SessionLink;
 use nbd_service::policy::{
-    BATCH, PATIENCE_S, batch_after, load_of, makes_ready, may_read_ahead, size_of,
+    BATCH, PATIENCE_S, WRITER_WAIT_MS, WRITER_WAITS, batch_after, load_of, makes_ready,
+    may_read_ahead, size_of,
 };
 use nbd_service::{HoldClock, Service};
 use nbd_wire::Request;
@@ -40,6 +41,9 @@ pub fn read_requests<'s, E, L: Ledger, R: Wait + Sync + time::Clock>(
             None => Offer::Read(source.frames.next()),
         };
         wait_for_room(rt, link);
+        if source.answers(rt, service, link, &offer) {
+            wait_for_writer(rt, link);
+        }
         let (turn, ahead) = read_on(rt, service, link, &mut source, pass, offer);
         set_reading_ahead(rt, scope, service.alloc, link, ahead);
         match turn {
@@ -72,6 +76,20 @@ fn wait_for_room<R: Wait + time::Clock>(rt: &R, link: &SessionLink<'_>) {
         rest(rt, link);
         link.room
             .wait(rt, heard, Some(Duration::from_secs(PATIENCE_S)));
+    }
+}
+
+/// Waits a little while the writer is busy, where the reader answers itself what it is about to hand in. What is left to the writer
+/// meanwhile would keep it busy, and so all that the client asks for behind it.
+fn wait_for_writer<R: Wait + time::Clock>(rt: &R, link: &SessionLink<'_>) {
+    for _ in 0..WRITER_WAITS {
+        let heard = link.room.heard();
+        if link.bytes.is_unread() || link.outlet.try_lock().is_some() {
+            return;
+        }
+        rest(rt, link);
+        link.room
+            .wait(rt, heard, Some(Duration::from_millis(WRITER_WAIT_MS)));
     }
 }
 

@@ -209,9 +209,9 @@ keeps_by unsent = nat_lt unsent 4
 abbrev pub suits_reader_by : ℕ → ℕ → Bool
 suits_reader_by bytes unsent = nat_le bytes 196608 && nat_lt unsent (262144 - bytes)
 
--- at most 128 KiB
-abbrev pub answers_read_by : ℕ → Bool
-answers_read_by bytes = nat_le bytes 131072
+-- a READ of more than 16 KiB, and of 128 KiB at most, beside others that read so much
+abbrev pub answers_read_by : ℕ → ℕ → Bool → Bool
+answers_read_by kind length alone = (kind == 0) && (nat_lt 16384 length && nat_le length 131072) && not alone
 
 -- so many bytes, such data and their head
 abbrev pub has_room_for_read_by : ℕ → Bool

@@ -47,7 +47,7 @@ pub use request_size::{Load, RequestSize};
 pub use retunes::{RatesInForce, RetuneGate, Retunes};
 pub use retuning::RetuneOutcome;
 pub use running_clock::RunningClock;
-pub use service::{Disks, LongWrite, Service};
+pub use service::{Disks, LongRequest, Service};
 pub use spare_store::SpareStore;
 pub use spin::SpinLadder;
 pub use spin_poll::{SpinPoll, has_input};

@@ -206,8 +206,14 @@ pub const KEPT_REPLIES: usize = 4;
 /// client that doesn't read yet is still read.
 pub const BRIEF_BYTES: usize = 196_608;
 
-/// How many bytes a READ asks for at most that a reader answers itself.
-pub const ANSWERED_BYTES: u64 = 131_072;
+/// How many bytes a READ asks for at most that a reader answers itself where several sessions read long data.
+pub const ANSWERED_BYTES: u32 = 131_072;
+
+/// How many times a reader that answers a READ itself waits for its writer, and for how many milliseconds at most each time. Each
+/// reply rings its bell when it is taken and when it is written.
+pub const WRITER_WAITS: u32 = 64;
+
+pub const WRITER_WAIT_MS: u64 = 1;
 
 /// How many bytes the longest reply has to such a READ, its head included.
 pub const ANSWERED_REPLY_BYTES: usize = 131_088;
@@ -233,7 +239,7 @@ pub const READY_BYTES: usize = 1_048_576;
 /// How many processors there are at least where a client's bytes are read ahead: it keeps two threads busy here, and its own.
 pub const WIDE_PROCESSORS: usize = 4;
 
-/// How many nanoseconds after another session's long WRITE a session doesn't count as alone with its own.
+/// How many nanoseconds after another session's long READ or WRITE a session doesn't count as alone with its own.
 pub const LATELY_NS: u64 = 20_000_000;
 
 /// How many pieces are read ahead at most.
@@ -507,11 +513,13 @@ pub fn performs_itself(size: RequestSize) -> bool
     }
 }
 
-/// Whether a reader answers a READ of so much long data itself, which it writes briefly.
-pub fn answers_read(bytes: u64) -> bool
-    ensures { result ≡ answers_read_by bytes }
+/// Whether a request is a READ of long data that a reader answers itself: its reply is written briefly, and its session isn't alone
+/// with such READs. Where it is, processors are left for a writer beside the reader.
+pub fn answers_read(head: RequestHead, is_alone: bool) -> bool
+    ensures { result ≡ answers_read_by head.kind head.length is_alone }
 {
-    bytes <= ANSWERED_BYTES
+    let is_long = head.length > SHORT_READ_BYTES && head.length <= ANSWERED_BYTES;
+    head.kind == READ && is_long && !is_alone
 }
 
 /// Whether a reader that has taken so many bytes of replies writes one more of the longest READ that it answers.
@@ -585,7 +593,7 @@ pub fn may_read_ahead(processors: usize) -> bool
     processors >= WIDE_PROCESSORS
 }
 
-/// Whether a session that sends a long WRITE now is alone with it, where another sent its latest then.
+/// Whether a session that sends a long READ or WRITE now is alone with it, where another sent its latest then.
 pub fn is_alone(other: &Option<Moment>, now: Moment) -> bool
     ensures { result ≡ is_alone_by other.now now }
 {

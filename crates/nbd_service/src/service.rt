@@ -31,16 +31,16 @@ use tag_clock::{Clock, Moment};
 /// A server of disks in pages, as who has the lock sees it.
 pub type Disks<L> = Booked<L, Paged<Global>, Heaped<Global>>;
 
-/// The latest long WRITE.
+/// The latest long READ, or the latest long WRITE.
 #[derive(Clone, Copy, Debug, PartialEq, Eq, Drop)]
-pub struct LongWrite {
+pub struct LongRequest {
     session: SessionId,
     at: Moment,
     // When another session sent its latest before it.
     other: Option<Moment>,
 }
 
-impl LongWrite {
+impl LongRequest {
     /// When another session sent its latest.
     fn by_another_than(&self, session: SessionId) -> Option<Moment> {
         if self.session == session {
@@ -49,6 +49,27 @@ impl LongWrite {
             Some(self.at)
         }
     }
+}
+
+/// Notes that a session sends a long request of a kind, of which there is the latest. Tells whether no other did so lately.
+fn note_long<R: Wait>(
+    rt: &R,
+    latest: &Mutex<Option<LongRequest>>,
+    session: SessionId,
+    now: Moment,
+) -> bool {
+    let mut latest = latest.lock(rt);
+    let other = match &*latest {
+        Some(last) => last.by_another_than(session),
+        None => None,
+    };
+    let alone = is_alone(&other, now);
+    *latest = Some(LongRequest {
+        session,
+        at: now,
+        other,
+    });
+    alone
 }
 
 /// A server of disks in pages, and all that its threads share besides.
@@ -78,7 +99,8 @@ pub struct Service<L: Ledger> {
     pub retunes: Retunes,
     /// How many bytes of each export's WRITEs wait.
     pub waiting_writes: Vec<AtomicU64>,
-    pub latest_long: Mutex<Option<LongWrite>>,
+    pub latest_read: Mutex<Option<LongRequest>>,
+    pub latest_write: Mutex<Option<LongRequest>>,
     /// Memory of pages that sessions pass on to others.
     pub spares: SpareStore,
     /// The writers that are at work.
@@ -120,7 +142,8 @@ impl<L: Ledger> Service<L> {
             turns: Turns::new(alloc, config)?,
             retunes: Retunes::new(alloc, config)?,
             waiting_writes,
-            latest_long: Mutex::new(None),
+            latest_read: Mutex::new(None),
+            latest_write: Mutex::new(None),
             spares: SpareStore::new(alloc)?,
             writers: BusyWriters::new(),
             processors: available_parallelism(rt).map_or(1, |count| count.get()),
@@ -202,20 +225,14 @@ impl<L: Ledger> Service<L> {
         self.shared.try_hold()
     }
 
+    /// Notes that a session sends a long READ. Tells whether no other did so lately.
+    pub fn note_long_read<R: Wait>(&self, rt: &R, session: SessionId, now: Moment) -> bool {
+        note_long(rt, &self.latest_read, session, now)
+    }
+
     /// Notes that a session sends a long WRITE. Tells whether no other did so lately.
     pub fn note_long_write<R: Wait>(&self, rt: &R, session: SessionId, now: Moment) -> bool {
-        let mut latest = self.latest_long.lock(rt);
-        let other = match &*latest {
-            Some(last) => last.by_another_than(session),
-            None => None,
-        };
-        let alone = is_alone(&other, now);
-        *latest = Some(LongWrite {
-            session,
-            at: now,
-            other,
-        });
-        alone
+        note_long(rt, &self.latest_write, session, now)
     }
 
     /// Drops the session. Where it is gone already, all stays.

@@ -92,7 +92,10 @@ fn who_performs_and_how_many(rt: HostRuntime) {
     assert!(rt; ends_hold(RequestSize::LongZero) && ends_hold(RequestSize::Nothing));
     assert!(rt; !ends_hold(RequestSize::LongWrite) && !ends_hold(RequestSize::Short));
     assert!(rt; !performs_itself(RequestSize::LongRead));
-    assert!(rt; answers_read(131_072) && !answers_read(131_073));
+    let answers = |kind, length| answers_read(head(kind, length), false);
+    assert!(rt; answers(READ, 131_072) && !answers(READ, 131_073));
+    assert!(rt; answers(READ, 16_385) && !answers(READ, 16_384));
+    assert!(rt; !answers(WRITE, 131_072) && !answers_read(head(READ, 131_072), true));
     assert!(rt; has_room_for_read(65_520) && !has_room_for_read(65_521));
     assert!(rt; batch_after(Duration::from_millis(1)) == 8);
     assert!(rt; batch_after(Duration::from_micros(1_001)) == 16);
