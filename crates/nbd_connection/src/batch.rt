@@ -3,7 +3,7 @@
 use crate::feed::Feed;
 use crate::heap_room::HeapRoom;
 use crate::outlet::Outlet;
-use crate::rules::joined_size;
+use crate::rules::{joined_size, leaves_reads};
 use crate::session_link::SessionLink;
 use crate::under_way::Admitted;
 use export_cell::Outdated;
@@ -34,8 +34,9 @@ pub struct RequestSource<'a, 'b, R: Wait + time::Clock> {
     pub room: HeapRoom,
     /// What is kept of it for the next WRITEs, while the frames have none.
     pub spares: Spares<Global>,
-    /// Whether no other session reads long data, as noted last.
-    pub reads_alone: bool,
+    /// Whether it leaves READs of long data to the writer, and whether these are longer than a reader answers, as noted last.
+    pub leaves_reads: bool,
+    pub reads_longer: bool,
 }
 
 /// What a reader offers first under a hold.
@@ -119,9 +120,9 @@ impl Admission {
     }
 
     /// Whether it is a READ of long data that a reader answers itself, where the outlet is at hand.
-    fn is_answered(&self, is_alone: bool) -> bool {
+    fn is_answered(&self, leaves_reads: bool) -> bool {
         match &self.arrival {
-            Some(arrival) => answers_read(arrival.head, is_alone),
+            Some(arrival) => answers_read(arrival.head, leaves_reads),
             None => false,
         }
     }
@@ -164,7 +165,8 @@ impl<'a, 'b, R: Wait + time::Clock> RequestSource<'a, 'b, R> {
             outdated: Outdated::with_room(alloc, OUTDATED_PAGES)?,
             room: HeapRoom::new(),
             spares,
-            reads_alone: true,
+            leaves_reads: true,
+            reads_longer: false,
         })
     }
 
@@ -181,9 +183,11 @@ impl<'a, 'b, R: Wait + time::Clock> RequestSource<'a, 'b, R> {
         };
         if size_of(head) == RequestSize::LongRead {
             let now = service.clock(rt).now();
-            self.reads_alone = service.note_long_read(rt, link.session, now);
+            let is_alone = service.note_long_read(rt, link.session, now);
+            self.leaves_reads = leaves_reads(is_alone, service.writers.count());
+            self.reads_longer = !answers_read(head, false);
         }
-        answers_read(head, self.reads_alone)
+        answers_read(head, self.leaves_reads)
     }
 
     /// Hands in what is offered and the requests that are ready behind it, so many at most. It ends sooner where requests of two sizes
@@ -268,7 +272,7 @@ impl<'a, 'b, R: Wait + time::Clock> RequestSource<'a, 'b, R> {
             number,
         };
         let performs = performs_itself(admission.size)
-            || (outlet.is_some() && admission.is_answered(self.reads_alone));
+            || (outlet.is_some() && admission.is_answered(self.leaves_reads));
         let served = performs
             && self
                 .wakeups

@@ -167,6 +167,9 @@ fn read_on<L: Ledger, R: Wait + time::Clock>(
         }
         None => false,
     };
+    if batch.reads_long && source.reads_longer {
+        link.begin_longer(&service.writers);
+    }
     if wakes_writer(batch.reads_long, written) {
         link.replies.ring();
     }

@@ -67,20 +67,17 @@ fn write_all<L: Ledger, R: Wait + time::Clock>(
     wakeups: &mut Wakeups,
 ) {
     let mut times = WriteTimes::new();
-    service.writers.begin();
     for _ in rt.forever() {
         let heard = link.replies.heard();
         match write_on(rt, service, link, pass, wakeups, &mut times) {
             Round::Going => {}
             Round::Idle => {
-                service.writers.end();
+                link.end_longer(&service.writers);
                 link.replies.wait(rt, heard, link.patience());
-                service.writers.begin();
             }
-            Round::Over => break,
+            Round::Over => return,
         }
     }
-    service.writers.end();
 }
 
 /// Takes the replies that are there, under one hold, and writes them.
