@@ -3,14 +3,14 @@
 use crate::feed::Feed;
 use crate::heap_room::HeapRoom;
 use crate::outlet::Outlet;
-use crate::rules::{joined_size, leaves_reads};
+use crate::rules::joined_size;
 use crate::session_link::SessionLink;
 use crate::under_way::Admitted;
 use export_cell::Outdated;
 use nbd_base::NoMemory;
 use nbd_service::policy::{
-    OUTDATED_PAGES, QUEUED_WORK, SPARES_OF_A_SESSION, answers_read, brought_by, ends_hold,
-    has_room_for_read, performs_itself, size_of, waiting_until,
+    OUTDATED_PAGES, QUEUED_WORK, SPARES_OF_A_SESSION, brought_by, ends_hold, performs_itself,
+    size_of, waiting_until,
 };
 use nbd_service::{Asked, Disks, RequestSize, Service, Waiting, Wakeups, prefetch};
 use nbd_session::{Counted, Frame, FrameReader};
@@ -34,9 +34,6 @@ pub struct RequestSource<'a, 'b, R: Wait + time::Clock> {
     pub room: HeapRoom,
     /// What is kept of it for the next WRITEs, while the frames have none.
     pub spares: Spares<Global>,
-    /// Whether it leaves READs of long data to the writer, and whether these are longer than a reader answers, as noted last.
-    pub leaves_reads: bool,
-    pub reads_longer: bool,
 }
 
 /// What a reader offers first under a hold.
@@ -66,7 +63,7 @@ pub struct BatchOutcome {
     pub size: RequestSize,
     /// Why no more replies were taken after it. None where the writer takes them.
     pub stop: Option<Stop>,
-    /// Whether a READ of long data is left to the writer.
+    /// Whether a READ asks for long data: it is left to the writer.
     pub reads_long: bool,
     /// Whether a WRITE carries long data.
     pub writes_long: bool,
@@ -119,19 +116,6 @@ impl Admission {
         }
     }
 
-    /// Whether it is a READ of long data that a reader answers itself, where the outlet is at hand.
-    fn is_answered(&self, leaves_reads: bool) -> bool {
-        match &self.arrival {
-            Some(arrival) => answers_read(arrival.head, leaves_reads),
-            None => false,
-        }
-    }
-
-    /// Whether it is a READ of long data that is left to the writer, where it was served or not.
-    fn is_left(&self, served: bool) -> bool {
-        self.size == RequestSize::LongRead && !served
-    }
-
     /// The bytes that a hold handed in, with these, which were performed under it or not.
     fn added_to(&self, admitted: Admitted, performed: bool) -> Admitted {
         match (&self.arrival, self.number()) {
@@ -165,29 +149,7 @@ impl<'a, 'b, R: Wait + time::Clock> RequestSource<'a, 'b, R> {
             outdated: Outdated::with_room(alloc, OUTDATED_PAGES)?,
             room: HeapRoom::new(),
             spares,
-            leaves_reads: true,
-            reads_longer: false,
         })
-    }
-
-    /// Notes whether another session reads long data, where this one is about to. Tells whether it answers what is offered itself.
-    pub fn answers<L: Ledger>(
-        &mut self,
-        rt: &R,
-        service: &Service<L>,
-        link: &SessionLink<'_>,
-        offer: &Offer,
-    ) -> bool {
-        let Some(head) = offer.head() else {
-            return false;
-        };
-        if size_of(head) == RequestSize::LongRead {
-            let now = service.clock(rt).now();
-            let is_alone = service.note_long_read(rt, link.session, now);
-            self.leaves_reads = leaves_reads(is_alone, service.writers.count());
-            self.reads_longer = !answers_read(head, false);
-        }
-        answers_read(head, self.leaves_reads)
     }
 
     /// Hands in what is offered and the requests that are ready behind it, so many at most. It ends sooner where requests of two sizes
@@ -212,10 +174,10 @@ impl<'a, 'b, R: Wait + time::Clock> RequestSource<'a, 'b, R> {
         let mut admitted = Admitted::NOTHING;
         let served = self.follow(disks, service, link, pass, outlet, admission, clock);
         admitted = admission.added_to(admitted, served);
-        let mut batch = BatchOutcome::first(turn, admission, served, prefetched);
+        let mut batch = BatchOutcome::first(turn, admission, prefetched);
         for _ in 1..most {
             let full = ends_hold(batch.size) || link.bytes.ends_batch(admitted);
-            if full || batch.fills(outlet) || self.wakeups.served_others() {
+            if full || self.wakeups.served_others() {
                 break;
             }
             let Some(turn) = read_ready(disks, pass, link.session, &mut self.frames, clock) else {
@@ -224,7 +186,7 @@ impl<'a, 'b, R: Wait + time::Clock> RequestSource<'a, 'b, R> {
             let admission = Admission::of(&turn);
             let served = self.follow(disks, service, link, pass, outlet, admission, clock);
             admitted = admission.added_to(admitted, served);
-            batch.add(turn, admission, served);
+            batch.add(turn, admission);
         }
         if let Some(outlet) = outlet {
             batch.stop = Some(outlet.take(disks, pass, link.session));
@@ -250,10 +212,10 @@ impl<'a, 'b, R: Wait + time::Clock> RequestSource<'a, 'b, R> {
         service.spares.take_all(rt, &mut self.spares);
     }
 
-    /// What follows a turn under the same hold: it performs the request and takes its reply, where the outlet is at hand. A READ of
-    /// long data is left to the writer, but for one that the reader answers. So the steps of a request stand side by side in its
-    /// export's log, and those of a READ go into the base without its data. It notes who asked only where the request stays: whoever
-    /// performs it later has to know. False where it stays.
+    /// What follows a turn under the same hold: it performs the request, unless that is a READ of long data, and takes its reply,
+    /// where the outlet is at hand. So the steps of a request stand side by side in its export's log, and those of a READ go into
+    /// the base without its data. It notes who asked only where the request stays: whoever performs it later has to know. False
+    /// where it stays.
     fn follow<L: Ledger, C: Clock>(
         &mut self,
         disks: &mut Disks<L>,
@@ -271,9 +233,7 @@ impl<'a, 'b, R: Wait + time::Clock> RequestSource<'a, 'b, R> {
             session: link.session,
             number,
         };
-        let performs = performs_itself(admission.size)
-            || (outlet.is_some() && admission.is_answered(self.leaves_reads));
-        let served = performs
+        let served = performs_itself(admission.size)
             && self
                 .wakeups
                 .serve_own(disks, &service.bells, pass, own, clock);
@@ -290,17 +250,12 @@ impl<'a, 'b, R: Wait + time::Clock> RequestSource<'a, 'b, R> {
 
 impl BatchOutcome {
     /// After its first turn.
-    fn first(
-        turn: Turn<Global>,
-        admission: Admission,
-        served: bool,
-        prefetched: u64,
-    ) -> BatchOutcome {
+    fn first(turn: Turn<Global>, admission: Admission, prefetched: u64) -> BatchOutcome {
         BatchOutcome {
             turn,
             size: admission.size,
             stop: None,
-            reads_long: admission.is_left(served),
+            reads_long: admission.size == RequestSize::LongRead,
             writes_long: admission.size == RequestSize::LongWrite,
             waiting: Waiting::Nothing,
             brought: admission.brought(),
@@ -309,26 +264,15 @@ impl BatchOutcome {
         }
     }
 
-    /// Whether a reader that answers READs of long data has taken as much as it writes.
-    fn fills(&self, outlet: &Option<MutexGuard<'_, Outlet<'_>>>) -> bool {
-        match outlet {
-            Some(outlet) => {
-                self.size == RequestSize::LongRead
-                    && !has_room_for_read(outlet.taken_bytes() as usize)
-            }
-            None => false,
-        }
-    }
-
     /// One more turn was made.
-    fn add(&mut self, turn: Turn<Global>, admission: Admission, served: bool) {
+    fn add(&mut self, turn: Turn<Global>, admission: Admission) {
         self.turn = turn;
         self.brought = self.brought.saturating_add(admission.brought());
         self.arrived = self
             .arrived
             .saturating_add(admission.arrival.is_some() as u64);
         self.writes_long = self.writes_long || admission.size == RequestSize::LongWrite;
-        self.reads_long = self.reads_long || admission.is_left(served);
+        self.reads_long = self.reads_long || admission.size == RequestSize::LongRead;
         self.size = joined_size(self.size, admission.size);
     }
 }

@@ -140,7 +140,6 @@ fn serve_session<L: Ledger + Send + Sync, R: Wait + Threads + Sync + time::Clock
         let feed = Counted::new(Feed::new(rt, &link));
         if let Ok(source) = RequestSource::new(service.alloc, feed, wakeups) {
             read_and_write(rt, service, &link, source, pass);
-            link.end_longer(&service.writers);
         }
     }
     bytes.settle();

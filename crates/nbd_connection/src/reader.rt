@@ -5,10 +5,7 @@ use crate::outlet::{FlushOutcome, Outlet};
 use crate::preparing::make_ready;
 use crate::rules::{wakes_writer, writer_chooses};
 use crate::session_link::SessionLink;
-use nbd_service::policy::{
-    BATCH, PATIENCE_S, WRITER_WAIT_MS, WRITER_WAITS, batch_after, load_of, makes_ready,
-    may_read_ahead, size_of,
-};
+use nbd_service::policy::{BATCH, PATIENCE_S, batch_after, load_of, size_of};
 use nbd_service::{HoldClock, Service};
 use nbd_wire::Request;
 use nbd_workers::until;
@@ -41,9 +38,6 @@ pub fn read_requests<'s, E, L: Ledger, R: Wait + Sync + time::Clock>(
             None => Offer::Read(source.frames.next()),
         };
         wait_for_room(rt, link);
-        if source.answers(rt, service, link, &offer) {
-            wait_for_writer(rt, link);
-        }
         let (turn, ahead) = read_on(rt, service, link, &mut source, pass, offer);
         set_reading_ahead(rt, scope, service.alloc, link, ahead);
         match turn {
@@ -76,20 +70,6 @@ fn wait_for_room<R: Wait + time::Clock>(rt: &R, link: &SessionLink<'_>) {
         rest(rt, link);
         link.room
             .wait(rt, heard, Some(Duration::from_secs(PATIENCE_S)));
-    }
-}
-
-/// Waits a little while the writer is busy, where the reader answers itself what it is about to hand in. What is left to the writer
-/// meanwhile would keep it busy, and so all that the client asks for behind it.
-fn wait_for_writer<R: Wait + time::Clock>(rt: &R, link: &SessionLink<'_>) {
-    for _ in 0..WRITER_WAITS {
-        let heard = link.room.heard();
-        if link.bytes.is_unread() || link.outlet.try_lock().is_some() {
-            return;
-        }
-        rest(rt, link);
-        link.room
-            .wait(rt, heard, Some(Duration::from_millis(WRITER_WAIT_MS)));
     }
 }
 
@@ -167,19 +147,16 @@ fn read_on<L: Ledger, R: Wait + time::Clock>(
         }
         None => false,
     };
-    if batch.reads_long && source.reads_longer {
-        link.begin_longer(&service.writers);
-    }
     if wakes_writer(batch.reads_long, written) {
         link.replies.ring();
     }
-    if busy && batch.reads_long && makes_ready(service.writers.count(), service.processors) {
+    if busy && batch.reads_long {
         make_ready(rt, service, link, &mut source.wakeups, pass);
     }
     let chooses = writer_chooses(batch.reads_long, link.bytes.is_unread());
     service.bells.ring_for(batch.waiting, chooses);
     let ahead = batch.writes_long
-        && may_read_ahead(service.processors)
+        && service.is_wide
         && service.note_long_write(rt, link.session, service.clock(rt).now());
     link.seat.end_turn(rt);
     (batch.turn, ahead)

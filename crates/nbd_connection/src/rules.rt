@@ -1,5 +1,5 @@
 //! What the threads of a connection decide by values.
-ghost use Rattle.std.specs.Prelude.{◌≡◌, ◌≢◌, ◌==◌, ◌&&◌, ◌||◌, not};
+ghost use Rattle.std.specs.Prelude.{◌≡◌, ◌≢◌, ◌&&◌, ◌||◌, not};
 
 use nbd_service::RequestSize;
 
@@ -20,14 +20,6 @@ pub fn waits_for_retune(is_asked: bool, is_over: bool) -> bool
     ensures { result ≡ (is_asked && not is_over) }
 {
     is_asked && !is_over
-}
-
-/// Whether a reader leaves all READs of long data to its writer: no other session reads such, or so many writers are at work with READs
-/// that are longer than a reader answers. These wait in their queues, and the scheduler chooses by weight among what waits.
-pub fn leaves_reads(is_alone: bool, writers: usize) -> bool
-    ensures { result ≡ (is_alone || not (writers == 0)) }
-{
-    is_alone || writers != 0
 }
 
 /// Whether a reader wakes its writer behind a hold: long data is to be read, or not all replies are taken and written.

@@ -8,7 +8,7 @@ use crate::turn_seat::TurnSeat;
 use crate::under_way::BytesUnderWay;
 use nbd_base::NoMemory;
 use nbd_service::policy::patience;
-use nbd_service::{BusyWriters, InteractiveLoad, Load, RetuneGate};
+use nbd_service::{InteractiveLoad, Load, RetuneGate};
 use nbd_workers::Bell;
 use server_core::SessionId;
 use std::alloc::Global;
@@ -43,8 +43,6 @@ pub struct SessionLink<'a> {
     /// Whether the reader wrote replies and didn't send them.
     kept: AtomicBool,
     prefetched: AtomicU64,
-    /// Whether its writer counts among those that are at work with READs which are longer than a reader answers.
-    reads_longer: AtomicBool,
 }
 
 impl<'a> SessionLink<'a> {
@@ -79,7 +77,6 @@ impl<'a> SessionLink<'a> {
             bulk: AtomicBool::new(false),
             kept: AtomicBool::new(false),
             prefetched: AtomicU64::new(0),
-            reads_longer: AtomicBool::new(false),
         })
     }
 
@@ -128,22 +125,6 @@ impl<'a> SessionLink<'a> {
             if outlet.send_briefly() == FlushOutcome::Part {
                 self.replies.ring();
             }
-        }
-    }
-
-    /// A READ that is longer than a reader answers is left to the writer.
-    pub(crate) fn begin_longer(&self, writers: &BusyWriters) {
-        if !self.reads_longer.load(Ordering::SeqCst)
-            && !self.reads_longer.swap(true, Ordering::SeqCst)
-        {
-            writers.begin();
-        }
-    }
-
-    /// The writer has nothing to do for now.
-    pub(crate) fn end_longer(&self, writers: &BusyWriters) {
-        if self.reads_longer.swap(false, Ordering::SeqCst) {
-            writers.end();
         }
     }
 

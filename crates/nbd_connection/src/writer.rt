@@ -71,10 +71,7 @@ fn write_all<L: Ledger, R: Wait + time::Clock>(
         let heard = link.replies.heard();
         match write_on(rt, service, link, pass, wakeups, &mut times) {
             Round::Going => {}
-            Round::Idle => {
-                link.end_longer(&service.writers);
-                link.replies.wait(rt, heard, link.patience());
-            }
+            Round::Idle => link.replies.wait(rt, heard, link.patience()),
             Round::Over => return,
         }
     }

@@ -198,24 +198,12 @@ short_pieces_by before bytes =
 
 -- ---- replies
 
--- two processors for each writer
-abbrev pub makes_ready_by : ℕ → ℕ → Bool
-makes_ready_by writers processors = nat_le writers (processors / 2)
-
 abbrev pub keeps_by : ℕ → Bool
 keeps_by unsent = nat_lt unsent 4
 
 -- 128 KiB, and within the 256 KiB of the outlet together with what isn't sent
 abbrev pub suits_reader_by : ℕ → ℕ → Bool
-suits_reader_by bytes unsent = nat_le bytes 196608 && nat_lt unsent (262144 - bytes)
-
--- a READ of more than 16 KiB, and of 128 KiB at most, beside others that read so much
-abbrev pub answers_read_by : ℕ → ℕ → Bool → Bool
-answers_read_by kind length alone = (kind == 0) && (nat_lt 16384 length && nat_le length 131072) && not alone
-
--- so many bytes, such data and their head
-abbrev pub has_room_for_read_by : ℕ → Bool
-has_room_for_read_by bytes = nat_le (bytes + 131088) 196608
+suits_reader_by bytes unsent = nat_le bytes 131072 && nat_lt unsent (262144 - bytes)
 
 -- a second, and without end where nothing is under way
 abbrev pub patience_by : ℕ → Option ℕ

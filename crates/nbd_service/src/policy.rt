@@ -1,7 +1,7 @@
 //! The numbers of the serving code, and the rules over values that its threads follow. `specs/Policy.antt` says each rule.
 ghost use Rattle.std.specs.Prelude.{◌≡◌, ◌+◌, ◌-◌, ◌*◌, ◌<◌, ◌≤◌, ◌^◌, min, option_map};
 ghost use Rattle.std.specs.Duration.{as_nanos};
-ghost use Rattle.nbd_service.specs.Policy.{accept_may_pass_by, answers_read_by, asks_for_turn_by, backlog_by, batch_by, bell_by, cost_by, data_by, ends_hold_by, handshake_wait_by, has_more_by, holds_back_by, has_room_for_read_by, is_alone_by, is_due_by, is_forgotten_by, is_network_fault_by, is_shortage_by, is_stalled_by, is_uneven_by, is_zero_by, keeps_by, keeps_up_by, load_by, looks_in_a_row_by, makes_ready_by, makes_room_by, next_skip_by, patience_by, performs_by, reads_ahead_by, short_pieces_by, size_by, spares_by, still_defers_by, still_retunes_by, still_waits_for_line_by, suits_reader_by, waiting_by, wakes_worker_by, carried_by, yields_by, yields_behind_look_by};
+ghost use Rattle.nbd_service.specs.Policy.{accept_may_pass_by, asks_for_turn_by, backlog_by, batch_by, bell_by, cost_by, data_by, ends_hold_by, handshake_wait_by, has_more_by, holds_back_by, is_alone_by, is_due_by, is_forgotten_by, is_network_fault_by, is_shortage_by, is_stalled_by, is_uneven_by, is_zero_by, keeps_by, keeps_up_by, load_by, looks_in_a_row_by, makes_room_by, next_skip_by, patience_by, performs_by, reads_ahead_by, short_pieces_by, size_by, spares_by, still_defers_by, still_retunes_by, still_waits_for_line_by, suits_reader_by, waiting_by, wakes_worker_by, carried_by, yields_by, yields_behind_look_by};
 
 use crate::request_size::{Load, RequestSize};
 use crate::waiting::Waiting;
@@ -204,19 +204,7 @@ pub const KEPT_REPLIES: usize = 4;
 
 /// How many bytes the replies may have together, heads included, that a reader writes: what a socket mostly holds, so that a
 /// client that doesn't read yet is still read.
-pub const BRIEF_BYTES: usize = 196_608;
-
-/// How many bytes a READ asks for at most that a reader answers itself where several sessions read long data.
-pub const ANSWERED_BYTES: u32 = 131_072;
-
-/// How many times a reader that answers a READ itself waits for its writer, and for how many milliseconds at most each time. Each
-/// reply rings its bell when it is taken and when it is written.
-pub const WRITER_WAITS: u32 = 64;
-
-pub const WRITER_WAIT_MS: u64 = 1;
-
-/// How many bytes the longest reply has to such a READ, its head included.
-pub const ANSWERED_REPLY_BYTES: usize = 131_088;
+pub const BRIEF_BYTES: usize = 131_072;
 
 /// How many milliseconds a reader waits for a client that doesn't read its replies, before it leaves them to the writer.
 pub const FLUSH_WAIT_MS: u64 = 100;
@@ -239,7 +227,7 @@ pub const READY_BYTES: usize = 1_048_576;
 /// How many processors there are at least where a client's bytes are read ahead: it keeps two threads busy here, and its own.
 pub const WIDE_PROCESSORS: usize = 4;
 
-/// How many nanoseconds after another session's long READ or WRITE a session doesn't count as alone with its own.
+/// How many nanoseconds after another session's long WRITE a session doesn't count as alone with its own.
 pub const LATELY_NS: u64 = 20_000_000;
 
 /// How many pieces are read ahead at most.
@@ -513,22 +501,6 @@ pub fn performs_itself(size: RequestSize) -> bool
     }
 }
 
-/// Whether a request is a READ of long data that a reader answers itself: its reply is written briefly, and its session isn't alone
-/// with such READs. Where it is, processors are left for a writer beside the reader.
-pub fn answers_read(head: RequestHead, is_alone: bool) -> bool
-    ensures { result ≡ answers_read_by head.kind head.length is_alone }
-{
-    let is_long = head.length > SHORT_READ_BYTES && head.length <= ANSWERED_BYTES;
-    head.kind == READ && is_long && !is_alone
-}
-
-/// Whether a reader that has taken so many bytes of replies writes one more of the longest READ that it answers.
-pub fn has_room_for_read(bytes: usize) -> bool
-    ensures { result ≡ has_room_for_read_by bytes }
-{
-    bytes <= BRIEF_BYTES - ANSWERED_REPLY_BYTES
-}
-
 /// How many requests a reader hands in under a hold, where it waited so long for the lock.
 pub fn batch_after(wait: Duration) -> usize
     ensures { result ≡ batch_by (as_nanos wait) }
@@ -593,7 +565,7 @@ pub fn may_read_ahead(processors: usize) -> bool
     processors >= WIDE_PROCESSORS
 }
 
-/// Whether a session that sends a long READ or WRITE now is alone with it, where another sent its latest then.
+/// Whether a session that sends a long WRITE now is alone with it, where another sent its latest then.
 pub fn is_alone(other: &Option<Moment>, now: Moment) -> bool
     ensures { result ≡ is_alone_by other.now now }
 {
@@ -629,14 +601,6 @@ pub fn suits_reader(bytes: usize, unsent_bytes: usize) -> bool
     ensures { result ≡ suits_reader_by bytes unsent_bytes }
 {
     bytes <= BRIEF_BYTES && unsent_bytes < OUTLET_BYTES - bytes
-}
-
-/// Whether a reader makes a long reply ready while its writer is busy, where so many writers are at work, with so many processors. A
-/// writer keeps two of them busy, its own and its client's. Where none is left, a reply costs more that two threads have a hand in.
-pub fn makes_ready(writers: usize, processors: usize) -> bool
-    ensures { result ≡ makes_ready_by writers processors }
-{
-    writers <= processors / 2
 }
 
 /// How long a writer sleeps without a ring, where so many requests are under way: without end where there is none.

@@ -1,12 +1,11 @@
 //! What the threads of a server share.
 
 use crate::bells::Bells;
-use crate::busy_writers::BusyWriters;
 use crate::connections::Connections;
 use crate::figures::tally_of;
 use crate::interactive::InteractiveLoad;
 use crate::passes::PassPool;
-use crate::policy::{KEPT_BLOCK_BYTES, is_alone, still_defers};
+use crate::policy::{KEPT_BLOCK_BYTES, is_alone, may_read_ahead, still_defers};
 use crate::retunes::Retunes;
 use crate::running_clock::RunningClock;
 use crate::spare_store::SpareStore;
@@ -31,16 +30,16 @@ use tag_clock::{Clock, Moment};
 /// A server of disks in pages, as who has the lock sees it.
 pub type Disks<L> = Booked<L, Paged<Global>, Heaped<Global>>;
 
-/// The latest long READ, or the latest long WRITE.
+/// The latest long WRITE.
 #[derive(Clone, Copy, Debug, PartialEq, Eq, Drop)]
-pub struct LongRequest {
+pub struct LongWrite {
     session: SessionId,
     at: Moment,
     // When another session sent its latest before it.
     other: Option<Moment>,
 }
 
-impl LongRequest {
+impl LongWrite {
     /// When another session sent its latest.
     fn by_another_than(&self, session: SessionId) -> Option<Moment> {
         if self.session == session {
@@ -49,27 +48,6 @@ impl LongRequest {
             Some(self.at)
         }
     }
-}
-
-/// Notes that a session sends a long request of a kind, of which there is the latest. Tells whether no other did so lately.
-fn note_long<R: Wait>(
-    rt: &R,
-    latest: &Mutex<Option<LongRequest>>,
-    session: SessionId,
-    now: Moment,
-) -> bool {
-    let mut latest = latest.lock(rt);
-    let other = match &*latest {
-        Some(last) => last.by_another_than(session),
-        None => None,
-    };
-    let alone = is_alone(&other, now);
-    *latest = Some(LongRequest {
-        session,
-        at: now,
-        other,
-    });
-    alone
 }
 
 /// A server of disks in pages, and all that its threads share besides.
@@ -99,14 +77,11 @@ pub struct Service<L: Ledger> {
     pub retunes: Retunes,
     /// How many bytes of each export's WRITEs wait.
     pub waiting_writes: Vec<AtomicU64>,
-    pub latest_read: Mutex<Option<LongRequest>>,
-    pub latest_write: Mutex<Option<LongRequest>>,
+    pub latest_long: Mutex<Option<LongWrite>>,
     /// Memory of pages that sessions pass on to others.
     pub spares: SpareStore,
-    /// The writers that are at work.
-    pub writers: BusyWriters,
-    /// How many processors there are, or one where that can't be told.
-    pub processors: usize,
+    /// Whether there are processors enough to read a client's bytes ahead.
+    pub is_wide: bool,
 }
 
 impl<L: Ledger> Service<L> {
@@ -142,11 +117,9 @@ impl<L: Ledger> Service<L> {
             turns: Turns::new(alloc, config)?,
             retunes: Retunes::new(alloc, config)?,
             waiting_writes,
-            latest_read: Mutex::new(None),
-            latest_write: Mutex::new(None),
+            latest_long: Mutex::new(None),
             spares: SpareStore::new(alloc)?,
-            writers: BusyWriters::new(),
-            processors: available_parallelism(rt).map_or(1, |count| count.get()),
+            is_wide: available_parallelism(rt).map_or(false, |count| may_read_ahead(count.get())),
         })
     }
 
@@ -225,14 +198,20 @@ impl<L: Ledger> Service<L> {
         self.shared.try_hold()
     }
 
-    /// Notes that a session sends a long READ. Tells whether no other did so lately.
-    pub fn note_long_read<R: Wait>(&self, rt: &R, session: SessionId, now: Moment) -> bool {
-        note_long(rt, &self.latest_read, session, now)
-    }
-
     /// Notes that a session sends a long WRITE. Tells whether no other did so lately.
     pub fn note_long_write<R: Wait>(&self, rt: &R, session: SessionId, now: Moment) -> bool {
-        note_long(rt, &self.latest_write, session, now)
+        let mut latest = self.latest_long.lock(rt);
+        let other = match &*latest {
+            Some(last) => last.by_another_than(session),
+            None => None,
+        };
+        let alone = is_alone(&other, now);
+        *latest = Some(LongWrite {
+            session,
+            at: now,
+            other,
+        });
+        alone
     }
 
     /// Drops the session. Where it is gone already, all stays.
