@@ -1,5 +1,5 @@
 //! One connection of a server: its handshake, a thread that reads requests and hands them in, one that writes replies, and one
-//! that reads its bytes ahead. `rules` has what they decide by values, with contracts, as `WriteTimes` and `Feed` have;
+//! that reads its bytes ahead. `rules` has what they decide by values, with contracts, as `WriteTimes` and parts of `Feed` have;
 //! numbers and the other rules are those of nbd_service. The rest has no contract and is tested instead, since it reads and
 //! writes sockets, takes locks and wakes threads: `enter`, `serve`, and the parts of a connection that tests look at
 //! (`SessionLink`, `Feed`, `ReadAhead`, `TurnSeat`, `BytesUnderWay`).

@@ -10,6 +10,7 @@ use Rattle.nbd_wire.specs.declared.fault.FeedFault.TheVariants as faults
 use Rattle.nbd_wire.specs.Grammar.{head_text, request_text, RequestMessage, IsRequest, IsPartOfWrite}
 use Rattle.nbd_wire.specs.Pieces.{Decoding, IsBegun}
 use Rattle.nbd_wire.proofs.HeadLemmas.{length-head_text}
+use Rattle.nbd_session.proofs.BufferLemmas.{Consumes-none}
 use Rattle.nbd_session.specs.declared.ending.Ending.{Ending}
 use Rattle.nbd_session.specs.Conversation.{AreBytes}
 use Rattle.nbd_session.specs.Frames.{kept_of, IsBehindReady, TakesIn, Fetches, IsEnded}
@@ -95,6 +96,15 @@ module _ (left later : Option (List ℕ)) (before now : ℕ) (m : RequestMessage
           let held : head_text m.head ++ new ≡ d.held = e ∙ ap (λ (x : List RequestMessage). kept_of x d.held) empty in
           omega (arith, ap length (all ∙ held), length-append (request_text m) l.bytes, l.some)
       by (inr (_, lost)) = let e : None ≡ Some faults.NoMemory = sym none ∙ lost in absurd (cc)
+
+-- memory was refused before anything was read
+pub took_none : (left later : Option (List ℕ)) (before now : ℕ) (held : List ℕ) (ready : List RequestMessage) (d : Decoding) → later ≡ left → now ≡ before → ready ≡ [] → Fetches left later before now held ready d (Ok (Some faults.NoMemory))
+took_none left later before now held ready d same kept none = record {
+  bytes = [];
+  took = subst (λ (x : Option (List ℕ)). Consumes left x []) (sym same) (Consumes-none left);
+  are_bytes = λ i. omega arith;
+  fetched = (takes_none held [] ready d none, kept);
+}
 
 -- the reading ended within a long WRITE, and it is dropped
 pub ended_within : (left later : Option (List ℕ)) (before now : ℕ) (m : RequestMessage) (ready : List RequestMessage) (e : Ending) → IsBegun m → ready ≡ [] → EndsWithin left later before now e → Fetches left later before now (request_text m) ready nothing_held (Err e)

@@ -1,5 +1,21 @@
 //! Readers that may have read more than they gave.
-ghost use Rattle.std.specs.Prelude.{◌≡◌, ◌<◌, ◌≤◌, ℕ, List, Option, length, take, IfOk, OnErr, IsTrue, IsFalse};
+ghost use Rattle.std.specs.Prelude.{
+  ◌≡◌,
+  ◌<◌,
+  ◌-◌,
+  ◌++◌,
+  ℕ,
+  List,
+  [],
+  Option,
+  length,
+  min,
+  take,
+  IfOk,
+  OnErr,
+  IsTrue,
+  IsFalse,
+};
 ghost use Rattle.std.specs.Io.KnownBytes.{Consumes};
 ghost use Rattle.nbd_session.specs.Intake.{Lengthens};
 
@@ -31,18 +47,23 @@ pub trait Buffered: Read {
 
 impl Buffered for &[u8] {}
 
-/// Appends the first of these bytes to a payload, which gets no more than `whole`, and tells how many.
+/// Appends the first of these bytes to a payload, which gets no more than `whole`, and tells how many. After want of memory the
+/// payload has none.
 pub fn append_front<A: Allocator + Copy>(
     payload: &mut Growing<A>,
     spares: &mut Spares<A>,
     bytes: &[u8],
     whole: usize,
 ) -> Result<usize, NoMemory>
-    ensures within { IfOk result (λ count. count ≤ length bytes.now) }
+    ensures count { IfOk result (λ count. count ≡ min (length bytes.now)
+        (whole - length payload.old)) }
+    ensures appended { IfOk result (λ count. payload.new
+        ≡ payload.old ++ take count bytes.now) }
     ensures some { IfOk result (λ count. 0 < count → (left later : Option (List ℕ))
         → Consumes left later (take count bytes.now)
         → Lengthens left later payload.old payload.new whole) }
     ensures none { IfOk result (λ count. count ≡ 0 → payload.new ≡ payload.old) }
+    ensures err { OnErr result (payload.new ≡ []) }
 {
     let count = bytes.len().min(whole.saturating_sub(payload.len()));
     if count > 0 {

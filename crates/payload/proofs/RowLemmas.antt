@@ -94,3 +94,10 @@ behind_start bytes front start end is long within =
     sym (drop-take start (end - start) bytes)
     ∙ ap (λ (count : ℕ). drop start (take count bytes)) whole
     ∙ ap (λ (list : List ℕ). drop start list) is
+
+-- the front of bytes that end with none, and of some that more lie behind
+pub take-none_behind : (front last : List ℕ) → length last ≡ 0 → take (length (front ++ last)) front ≡ front ++ last
+take-none_behind front last none = same_lists _ _ (search (rules, places)) (λ k d h. grind (arith, places))
+
+pub take-more_behind : (front last more : List ℕ) → take (length (front ++ last)) (front ++ (last ++ more)) ≡ front ++ last
+take-more_behind front last more = same_lists _ _ (search (rules, places)) (λ k d h. grind (arith, places))

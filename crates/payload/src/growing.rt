@@ -2,9 +2,10 @@ ghost use Rattle.std.specs.Prelude.{◌≡◌, ◌+◌, ◌<◌, ◌≤◌, ◌%
 ghost use Rattle.std.specs.List.{concat};
 ghost use Rattle.payload.specs.Rows.{AreWhole, HasRoom};
 
-use crate::page::{PAGE, Page, zeros};
+use crate::page::{PAGE, zeros};
 use crate::payload::Payload;
 use crate::spares::Spares;
+use crate::unshared::{UnsharedPage, share_all};
 use bytes::BytesMut;
 use nbd_base::NoMemory;
 use std::alloc::Allocator;
@@ -15,7 +16,8 @@ use std::mem;
 #[derive(Drop)]
 pub struct Growing<A: Allocator + Copy> {
     alloc: A,
-    pages: Vec<Page<A>, A>,
+    // They get their counts of owners at the end.
+    pages: Vec<UnsharedPage<A>, A>,
     // The beginning of the page that follows.
     last: BytesMut<A>,
     // How many bytes of the first page lie before the payload, and how many there are with these.
@@ -60,7 +62,7 @@ fn begin<A: Allocator + Copy>(
 
 // One more page, of these bytes.
 fn close<A: Allocator + Copy>(
-    pages: &mut Vec<Page<A>, A>,
+    pages: &mut Vec<UnsharedPage<A>, A>,
     bytes: BytesMut<A>,
 ) -> Result<(), NoMemory>
     requires full { length bytes.items ≡ 4096 }
@@ -68,16 +70,15 @@ fn close<A: Allocator + Copy>(
     ensures whole { OnOk result (AreWhole pages.new.items) }
     ensures bytes { OnOk result (concat pages.new.items ≡ concat pages.old.items ++ bytes.items) }
 {
-    let bytes = bytes.freeze()?;
-    pages.push(Page::of(bytes))?;
+    pages.push(UnsharedPage::of(bytes))?;
     Ok(())
 }
 
 // The pages, and one that begins with the bytes of the last where there are any.
 fn closed<A: Allocator + Copy>(
-    mut pages: Vec<Page<A>, A>,
+    mut pages: Vec<UnsharedPage<A>, A>,
     mut last: BytesMut<A>,
-) -> Result<Vec<Page<A>, A>, NoMemory>
+) -> Result<Vec<UnsharedPage<A>, A>, NoMemory>
     requires begun { length last.items < 4096 }
     requires room { HasRoom last }
     requires whole { AreWhole pages.items }
@@ -184,7 +185,7 @@ impl<A: Allocator + Copy> Growing<A> {
             start,
             end,
         } = self;
-        let pages = closed(pages, last)?;
+        let pages = share_all(alloc, closed(pages, last)?)?;
         Payload::among(alloc, pages, start, end)
     }
 }

@@ -351,6 +351,8 @@ fn sees_refusals<R: Abort + AllocGlobal>(rt: &R, whole: bool, bytes: &[u8], leas
 fn each_growth_is_refused_in_turn(rt: HostRuntime) {
     let bytes = numbers(&rt, 20_000);
     let few = bytes.as_slice().get(..9_000).expect(&rt, "bytes");
-    sees_refusals(&rt, false, few, 6);
-    sees_refusals(&rt, true, &bytes, 9);
+    // Four pages, each with its memory and a count of owners, and a row for them.
+    sees_refusals(&rt, false, few, 9);
+    // The memory of five pages, and a row for them: they get their counts at the end.
+    sees_refusals(&rt, true, &bytes, 6);
 }

@@ -161,27 +161,34 @@ fn a_payload_that_ends_early(rt: HostRuntime) {
     }
 }
 
-#[test]
-fn each_growth_for_a_payload_is_refused(rt: HostRuntime) {
-    let sent = long_write(rt.alloc(), 100_000).expect(&rt, "memory");
-    let mut refused = 0u64;
+/// How many growths a long WRITE asks for, where each of them is refused in turn and ends the reading: none if one doesn't.
+fn growths(alloc: Global, sent: &[u8], ahead: bool) -> u64 {
     for nth in 1..100u64 {
-        let heap = Refusing::new(rt.alloc(), nth);
+        let heap = Refusing::new(alloc, nth);
         let drip = Drip {
-            bytes: sent.as_slice(),
+            bytes: sent,
             most: 70_000,
             fails: false,
-            ahead: false,
+            ahead,
         };
         let mut reader = FrameReader::new(&heap, Counted::new(drip));
         let first = reader.next();
         if heap.is_armed() {
-            assert!(rt; is_request(rt.alloc(), first, 1, payload_in(&sent)));
-            break;
+            let comes = is_request(alloc, first, 1, payload_in(sent));
+            return if comes { nth - 1 } else { 0 };
         }
-        assert!(rt; is_end(first, Ending::NoMemory), "at {nth}");
-        assert!(rt; is_end(reader.next(), Ending::NoMemory), "again at {nth}");
-        refused = nth;
+        if !is_end(first, Ending::NoMemory) || !is_end(reader.next(), Ending::NoMemory) {
+            return 0;
+        }
     }
-    assert!(rt; refused >= 4);
+    0
+}
+
+#[test]
+fn each_growth_for_a_payload_is_refused(rt: HostRuntime) {
+    let sent = long_write(rt.alloc(), 100_000).expect(&rt, "memory");
+    for ahead in [false, true] {
+        let refused = growths(rt.alloc(), &sent, ahead);
+        assert!(rt; refused >= 4, "{ahead}: {refused}");
+    }
 }

@@ -4,6 +4,12 @@ use Rattle.nbd_wire.specs.Pieces.{IsLong}
 use Rattle.nbd_wire.proofs.BegunLemmas.{long_copied}
 use Rattle.nbd_wire.proofs.begun.begin_write.Goals as goal
 
+pub new-requires-2 : goal.new-requires-2
+new-requires-2 g c =
+    let bytes = c.args.bytes.now in
+    let copied : c.append.new.self ≡ take (length bytes - 28) (drop 28 bytes) = search rules in
+    (long_copied c.args.least bytes c.append.new.self c.in-Some.head copied c.in-Some.ensures.long.1).1
+
 pub returns : goal.returns
 returns g c =
     let bytes = c.args.bytes.now in
