@@ -5,7 +5,9 @@ use crate::outlet::{FlushOutcome, Outlet};
 use crate::preparing::make_ready;
 use crate::rules::{wakes_writer, writer_chooses};
 use crate::session_link::SessionLink;
-use nbd_service::policy::{BATCH, PATIENCE_S, batch_after, load_of, size_of};
+use nbd_service::policy::{
+    BATCH, PATIENCE_S, batch_after, load_of, makes_ready, may_read_ahead, size_of,
+};
 use nbd_service::{HoldClock, Service};
 use nbd_wire::Request;
 use nbd_workers::until;
@@ -150,13 +152,13 @@ fn read_on<L: Ledger, R: Wait + time::Clock>(
     if wakes_writer(batch.reads_long, written) {
         link.replies.ring();
     }
-    if busy && batch.reads_long {
+    if busy && batch.reads_long && makes_ready(service.writers.count(), service.processors) {
         make_ready(rt, service, link, &mut source.wakeups, pass);
     }
     let chooses = writer_chooses(batch.reads_long, link.bytes.is_unread());
     service.bells.ring_for(batch.waiting, chooses);
     let ahead = batch.writes_long
-        && service.is_wide
+        && may_read_ahead(service.processors)
         && service.note_long_write(rt, link.session, service.clock(rt).now());
     link.seat.end_turn(rt);
     (batch.turn, ahead)

@@ -67,14 +67,20 @@ fn write_all<L: Ledger, R: Wait + time::Clock>(
     wakeups: &mut Wakeups,
 ) {
     let mut times = WriteTimes::new();
+    service.writers.begin();
     for _ in rt.forever() {
         let heard = link.replies.heard();
         match write_on(rt, service, link, pass, wakeups, &mut times) {
             Round::Going => {}
-            Round::Idle => link.replies.wait(rt, heard, link.patience()),
-            Round::Over => return,
+            Round::Idle => {
+                service.writers.end();
+                link.replies.wait(rt, heard, link.patience());
+                service.writers.begin();
+            }
+            Round::Over => break,
         }
     }
+    service.writers.end();
 }
 
 /// Takes the replies that are there, under one hold, and writes them.

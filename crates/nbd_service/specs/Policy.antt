@@ -198,6 +198,10 @@ short_pieces_by before bytes =
 
 -- ---- replies
 
+-- two processors for each writer
+abbrev pub makes_ready_by : ℕ → ℕ → Bool
+makes_ready_by writers processors = nat_le writers (processors / 2)
+
 abbrev pub keeps_by : ℕ → Bool
 keeps_by unsent = nat_lt unsent 4
 

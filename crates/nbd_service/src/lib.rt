@@ -1,12 +1,13 @@
 //! What the threads of a server share, and what they decide by values: `policy` has the numbers of this crate and of a
 //! connection's threads, and the rules over values. The rules, the pace of writes, the faults, the rates in force and the outcome
 //! of a retune have contracts. The rest has none and is tested instead, since it takes locks, wakes threads, polls sockets and
-//! reads flags that others write: `Service` (the lock of the server and who goes first), the bells, the passes, the wake-ups, the
+//! reads flags that others write: `Service` (the lock of the server and who goes first), the bells, the busy writers, the passes, the wake-ups, the
 //! open connections with their figures, the retunes, and the spin ladder with the poll of a socket by it; and prefetching, which
 //! changes nothing.
 #![tactic(auto)]
 
 mod bells;
+mod busy_writers;
 mod connections;
 mod descriptors;
 mod fault;
@@ -32,6 +33,7 @@ mod worker_gate;
 mod write_pace;
 
 pub use bells::Bells;
+pub use busy_writers::BusyWriters;
 pub use connections::{Connection, Connections, SessionFigures, Traffic};
 pub use descriptors::room_for_connections;
 pub use fault::ServeFault;

@@ -1,7 +1,7 @@
 //! The numbers of the serving code, and the rules over values that its threads follow. `specs/Policy.antt` says each rule.
 ghost use Rattle.std.specs.Prelude.{◌≡◌, ◌+◌, ◌-◌, ◌*◌, ◌<◌, ◌≤◌, ◌^◌, min, option_map};
 ghost use Rattle.std.specs.Duration.{as_nanos};
-ghost use Rattle.nbd_service.specs.Policy.{accept_may_pass_by, asks_for_turn_by, backlog_by, batch_by, bell_by, cost_by, data_by, ends_hold_by, handshake_wait_by, has_more_by, holds_back_by, is_alone_by, is_due_by, is_forgotten_by, is_network_fault_by, is_shortage_by, is_stalled_by, is_uneven_by, is_zero_by, keeps_by, keeps_up_by, load_by, looks_in_a_row_by, makes_room_by, next_skip_by, patience_by, performs_by, reads_ahead_by, short_pieces_by, size_by, spares_by, still_defers_by, still_retunes_by, still_waits_for_line_by, suits_reader_by, waiting_by, wakes_worker_by, carried_by, yields_by, yields_behind_look_by};
+ghost use Rattle.nbd_service.specs.Policy.{accept_may_pass_by, asks_for_turn_by, backlog_by, batch_by, bell_by, cost_by, data_by, ends_hold_by, handshake_wait_by, has_more_by, holds_back_by, is_alone_by, is_due_by, is_forgotten_by, is_network_fault_by, is_shortage_by, is_stalled_by, is_uneven_by, is_zero_by, keeps_by, keeps_up_by, load_by, looks_in_a_row_by, makes_ready_by, makes_room_by, next_skip_by, patience_by, performs_by, reads_ahead_by, short_pieces_by, size_by, spares_by, still_defers_by, still_retunes_by, still_waits_for_line_by, suits_reader_by, waiting_by, wakes_worker_by, carried_by, yields_by, yields_behind_look_by};
 
 use crate::request_size::{Load, RequestSize};
 use crate::waiting::Waiting;
@@ -601,6 +601,14 @@ pub fn suits_reader(bytes: usize, unsent_bytes: usize) -> bool
     ensures { result ≡ suits_reader_by bytes unsent_bytes }
 {
     bytes <= BRIEF_BYTES && unsent_bytes < OUTLET_BYTES - bytes
+}
+
+/// Whether a reader makes a long reply ready while its writer is busy, where so many writers are at work, with so many processors. A
+/// writer keeps two of them busy, its own and its client's. Where none is left, a reply costs more that two threads have a hand in.
+pub fn makes_ready(writers: usize, processors: usize) -> bool
+    ensures { result ≡ makes_ready_by writers processors }
+{
+    writers <= processors / 2
 }
 
 /// How long a writer sleeps without a ring, where so many requests are under way: without end where there is none.

@@ -1,11 +1,12 @@
 //! What the threads of a server share.
 
 use crate::bells::Bells;
+use crate::busy_writers::BusyWriters;
 use crate::connections::Connections;
 use crate::figures::tally_of;
 use crate::interactive::InteractiveLoad;
 use crate::passes::PassPool;
-use crate::policy::{KEPT_BLOCK_BYTES, is_alone, may_read_ahead, still_defers};
+use crate::policy::{KEPT_BLOCK_BYTES, is_alone, still_defers};
 use crate::retunes::Retunes;
 use crate::running_clock::RunningClock;
 use crate::spare_store::SpareStore;
@@ -80,8 +81,10 @@ pub struct Service<L: Ledger> {
     pub latest_long: Mutex<Option<LongWrite>>,
     /// Memory of pages that sessions pass on to others.
     pub spares: SpareStore,
-    /// Whether there are processors enough to read a client's bytes ahead.
-    pub is_wide: bool,
+    /// The writers that are at work.
+    pub writers: BusyWriters,
+    /// How many processors there are, or one where that can't be told.
+    pub processors: usize,
 }
 
 impl<L: Ledger> Service<L> {
@@ -119,7 +122,8 @@ impl<L: Ledger> Service<L> {
             waiting_writes,
             latest_long: Mutex::new(None),
             spares: SpareStore::new(alloc)?,
-            is_wide: available_parallelism(rt).map_or(false, |count| may_read_ahead(count.get())),
+            writers: BusyWriters::new(),
+            processors: available_parallelism(rt).map_or(1, |count| count.get()),
         })
     }
 

@@ -4,13 +4,14 @@ mod spare_pages;
 use nbd_service::policy::{
     accept_may_pass, asks_for_turn, backlog_after, batch_after, bell_of, brought_by,
     connections_for, cost_of, data_of, ends_hold, handshake_wait_ms, has_more, holds_back,
-    is_alone, is_due, is_stalled, keeps_up, load_of, looks_in_a_row, makes_room, may_keep,
-    may_read_ahead, moment_after, next_skip, passes_for, patience, performs_itself, short_pieces,
-    size_of, still_defers, still_retunes, still_waits_for_line, suits_reader, waiting_until,
-    wakes_worker, yields_behind, yields_behind_look,
+    is_alone, is_due, is_stalled, keeps_up, load_of, looks_in_a_row, makes_ready, makes_room,
+    may_keep, may_read_ahead, moment_after, next_skip, passes_for, patience, performs_itself,
+    short_pieces, size_of, still_defers, still_retunes, still_waits_for_line, suits_reader,
+    waiting_until, wakes_worker, yields_behind, yields_behind_look,
 };
 use nbd_service::{
-    InteractiveLoad, Load, RequestSize, RunningClock, SpinPoll, Turns, Waiting, WritePace,
+    BusyWriters, InteractiveLoad, Load, RequestSize, RunningClock, SpinPoll, Turns, Waiting,
+    WritePace,
 };
 use nbd_wire::RequestHead;
 use nbd_wire::protocol::{CACHE, FLUSH, READ, TRIM, WRITE, WRITE_ZEROES};
@@ -45,6 +46,16 @@ fn a_session_that_asked_for_little(rt: HostRuntime) {
     assert!(rt; interactive.is_asking());
     interactive.end();
     assert!(rt; !interactive.is_asking());
+}
+
+#[test]
+fn writers_that_are_at_work(rt: HostRuntime) {
+    let writers = BusyWriters::new();
+    writers.begin();
+    writers.begin();
+    assert!(rt; writers.count() == 2);
+    writers.end();
+    assert!(rt; writers.count() == 1);
 }
 
 /// How much data a request has that asks for so many bytes, or brings them.
@@ -109,6 +120,7 @@ fn what_is_read_ahead_and_kept(rt: HostRuntime) -> Result<(), Fail> {
     assert!(rt; short_pieces(1, 16_383) == 2 && short_pieces(1, 16_384) == 0);
     assert!(rt; may_keep(3) && !may_keep(4));
     assert!(rt; suits_reader(131_072, 131_071) && !suits_reader(131_072, 131_072));
+    assert!(rt; makes_ready(2, 4) && !makes_ready(3, 4) && !makes_ready(1, 1));
     assert!(rt; patience(0) == None);
     assert!(rt; patience(1) == Some(Duration::from_secs(1)));
     Ok(())
