@@ -96,6 +96,40 @@ def unread_replies():
         yield most <= 256, "a client that reads no reply made the server hold %d MiB at most (256)" % most
 
 
+def long_reads_at_once():
+    """Each of several clients with long READs under way at once gets the bytes of its disk, also one that reads them late."""
+    with two_disks() as server:
+        blocks, wrong = [os.urandom(MIB) for _ in server.exports], []
+        for i, block in enumerate(blocks):
+            client = Client(server.places[i], server.exports[i])
+            for offset in range(0, 64 * MIB, MIB):
+                client.ask(WRITE, offset, MIB, block)
+            client.close()
+
+        def reads(i, length, depth, pause):
+            client, places, sent = Client(server.places[i], server.exports[i]), {}, 0
+            for _ in range(400):
+                while len(places) < depth and sent < 400:
+                    offset = sent * 135168 % (32 * MIB)
+                    places[client.send(READ, offset, length)] = offset
+                    sent += 1
+                time.sleep(pause)
+                error, cookie, data = client.reply(length)
+                start = places.pop(cookie) % MIB
+                if error or data != (blocks[i] + blocks[i])[start : start + length]:
+                    wrong.append(cookie)
+                pause = 0
+            client.close()
+
+        kinds = [(0, 131072, 16, 0), (1, 131072, 16, 0), (0, 20480, 16, 0), (1, MIB, 4, 0), (1, 131072, 64, 0.5)]
+        threads = [threading.Thread(target=reads, args=it) for it in kinds]
+        for it in threads:
+            it.start()
+        for it in threads:
+            it.join()
+        yield not wrong, "%d of 2,000 long READs of five clients at once had other bytes than their disk's" % len(wrong)
+
+
 def writes_behind_a_limit():
     """WRITEs of 8 MiB that wait for their limit of one a second."""
     with Server(NBDQ, mib=8, config=exports_of(["limit = 1"], mib=8)) as server:
@@ -492,6 +526,7 @@ TESTS = [
     long_zeros,
     trim_of_a_filled_disk,
     unread_replies,
+    long_reads_at_once,
     writes_behind_a_limit,
     many_connects,
     innocent_session,
