@@ -1,12 +1,12 @@
 -- Items in places after one of them has changed.
-use Rattle.std.proofs.Common.{◌≡◌, ◌≢◌, ℕ, zero, suc, ◌+◌, ◌<◌, ◌≤◌, Bool, true, false, cond, is_some, Option, Some, None, List, [], ◌∷◌, length, get_or, set, replicate, inl, inr, refl, sym, ap, subst, ◌∙◌, arith}
+use Rattle.std.proofs.Common.{◌≡◌, ◌≢◌, ℕ, zero, suc, ◌+◌, ◌-◌, ◌<◌, ◌≤◌, Bool, true, false, cond, is_some, Option, Some, None, List, [], ◌∷◌, length, get_or, set, replicate, inl, inr, refl, sym, ap, subst, ◌∙◌, arith}
 use Rattle.std.specs.Prelude.{IsSome, IfSome}
 use Rattle.std.specs.List.{filter, insert, remove}
 use Rattle.std.proofs.lemmas.Bool.{cases_Bool}
 use Rattle.std.proofs.lemmas.List.{set-get_or, get_or-set_same, get_or-set_other}
 use Rattle.number_sets.specs.Bits.{is_set}
 use Rattle.page_table.specs.Places.{spread, in_places}
-use Rattle.number_sets.proofs.CountLemmas.{count_of, count-zero, count-cons}
+use Rattle.number_sets.proofs.CountLemmas.{count_of, count-zero, count-cons, count-append, count_le}
 
 -- what a test says of the next places
 next_is : (p : ℕ → Bool) (from i : ℕ) (b : Bool) → p (from + suc i) ≡ b → p ((from + 1) + i) ≡ b
@@ -317,3 +317,18 @@ pub marks_removed : (marks new : List ℕ) (i n m : ℕ) → i < 256 → is_set 
     → m + 1 ≡ n → m ≡ count_of (is_set new) 0 256
 marks_removed marks new i n m below was is others all less =
     omega (arith, all, less, count_added (is_set new) (is_set marks) 0 256 i below (from_zero (is_set new) i false is) (from_zero (is_set marks) i true was) (λ k apart. sym (others k (λ same. apart (omega arith)))))
+
+-- where all pass, each does, and as many as there are before it
+pub all_pass : (p : ℕ → Bool) (n i : ℕ) → i < n → count_of p 0 n ≡ n → p i ≡ true
+all_pass p n i below all =
+    elim (cases_Bool (p i)) [
+      | inl is ↦ is
+      | inr is ↦
+          let rest : n - i ≡ suc (n - suc i) = omega arith in
+          let none : count_of p i (n - i) ≡ count_of p (i + 1) (n - suc i) = ap (λ (m : ℕ). count_of p i m) rest ∙ count_false p i (n - suc i) is in
+          absurd (omega (arith, all, none, count-append p 0 i (n - i) n i (omega arith) (omega arith), count_le p 0 i, count_le p (i + 1) (n - suc i)))
+    ]
+
+pub all_before : (p : ℕ → Bool) (n i : ℕ) → i < n → count_of p 0 n ≡ n → i ≡ count_of p 0 i
+all_before p n i below all =
+    omega (arith, all, count-append p 0 i (n - i) n i (omega arith) (omega arith), count_le p 0 i, count_le p i (n - i))

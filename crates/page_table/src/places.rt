@@ -1,6 +1,6 @@
-ghost use Rattle.std.specs.Prelude.{◌≡◌, ◌≢◌, ◌++◌, ℕ, ◌+◌, ◌<◌, ◌≤◌, ◌==◌, None, Some, IsSome, IfSome, IfOk, IfErr, OnOk, OnErr, is_some, true, take, drop, length, get_or, set, replicate, if◌then◌else◌};
+ghost use Rattle.std.specs.Prelude.{◌≡◌, ◌≢◌, ◌++◌, ℕ, ◌+◌, ◌<◌, ◌≤◌, ◌==◌, None, Some, IsSome, IfSome, IfOk, IfErr, OnOk, OnErr, is_some, true, false, take, drop, length, get_or, set, replicate, if◌then◌else◌};
 ghost use Rattle.std.specs.List.{filter};
-ghost use Rattle.number_sets.specs.Bits.{is_between};
+ghost use Rattle.number_sets.specs.Bits.{is_between, is_set, count_of};
 ghost use Rattle.page_table.specs.Table.{in_chunk, put_from, taken};
 
 use crate::chunk::Chunk;
@@ -31,6 +31,24 @@ impl<T: Drop, A: Allocator + Copy> Model for Places<T, A> {
 
     ghost invariant = { λ places.
         length places.items.items ≡ count_of (is_set places.marks) 0 256 };
+}
+
+// Where the item of a place lies among so many in the order of their places, where there is one. With one in each place no mark is
+// looked at.
+fn index_of(marks: &[u64; 4], count: usize, place: usize) -> Option<usize>
+    requires place { place < 256 }
+    requires counted { count ≡ count_of (is_set marks.now) 0 256 }
+    ensures there { IfSome result (λ at. is_set marks.now place ≡ true) }
+    ensures before { IfSome result (λ at. at ≡ count_of (is_set marks.now) 0 place) }
+    ensures none { result ≡ None → is_set marks.now place ≡ false }
+{
+    if count == 256 {
+        return Some(place);
+    }
+    if !bits::has(marks, place) {
+        return None;
+    }
+    Some(bits::count_below(marks, place))
 }
 
 // The memory of items goes where there is none.
@@ -69,10 +87,10 @@ impl<T: Drop, A: Allocator + Copy> Places<T, A> {
         ensures none { result ≡ None → get_or self.now place None ≡ None }
         ensures long { length self.now ≡ 256 }
     {
-        if !bits::has(&self.marks, place) {
-            return None;
+        match index_of(&self.marks, self.items.len(), place) {
+            Some(at) => Some(&self.items[at]),
+            None => None,
         }
-        Some(&self.items[bits::count_below(&self.marks, place)])
     }
 
     /// The last place in which there is an item, from one on before an end.
@@ -99,11 +117,10 @@ impl<T: Drop, A: Allocator + Copy> Places<T, A> {
         ensures same { OnErr result (self.new ≡ self.old) }
         ensures long { length self.old ≡ 256 }
     {
-        if !bits::has(&self.marks, place) {
-            return Err(item);
+        match index_of(&self.marks, self.items.len(), place) {
+            Some(at) => Ok(mem::replace(&mut self.items[at], item)),
+            None => Err(item),
         }
-        let at = bits::count_below(&self.marks, place);
-        Ok(mem::replace(&mut self.items[at], item))
     }
 
     /// Puts an item where there is none. Where memory for it is refused, it is handed back.

@@ -74,6 +74,31 @@ fn close<A: Allocator + Copy>(
     Ok(())
 }
 
+// One more page: what was begun of it, and the rest. Where nothing was, its bytes are copied where they stay, and it isn't moved while
+// they are on their way to memory.
+fn fill<A: Allocator + Copy>(
+    spares: &mut Spares<A>,
+    pages: &mut Vec<UnsharedPage<A>, A>,
+    last: &mut BytesMut<A>,
+    rest: &[u8],
+) -> Result<(), NoMemory>
+    requires full { length last.old.items + length rest.now ≡ 4096 }
+    requires room { HasRoom last.old }
+    requires whole { AreWhole pages.old.items }
+    ensures whole { OnOk result (AreWhole pages.new.items) }
+    ensures bytes { OnOk result (concat pages.new.items
+        ≡ concat pages.old.items ++ (last.old.items ++ rest.now)) }
+    ensures none { OnOk result (last.new.items ≡ []) }
+{
+    if last.is_empty() {
+        let page = spares.take_holding(rest)?;
+        return close(pages, page);
+    }
+    begin(spares, last, rest)?;
+    let alloc = spares.alloc();
+    close(pages, mem::replace(last, BytesMut::new(alloc)))
+}
+
 // The pages, and one that begins with the bytes of the last where there are any.
 fn closed<A: Allocator + Copy>(
     mut pages: Vec<UnsharedPage<A>, A>,
@@ -150,8 +175,7 @@ impl<A: Allocator + Copy> Growing<A> {
         let mut left = bytes;
         while PAGE - last.len() <= left.len() {
             let (rest, behind) = left.split_at(PAGE - last.len());
-            begin(spares, &mut last, rest)?;
-            close(&mut pages, mem::replace(&mut last, BytesMut::new(alloc)))?;
+            fill(spares, &mut pages, &mut last, rest)?;
             left = behind;
         }
         begin(spares, &mut last, left)?;

@@ -1,5 +1,5 @@
 //! Memory of pages that nobody shows any more.
-ghost use Rattle.std.specs.Prelude.{◌≡◌, ◌≤◌, [], IfOk};
+ghost use Rattle.std.specs.Prelude.{◌≡◌, ◌≤◌, [], length, IfOk};
 
 use crate::page::{PAGE, Page};
 use bytes::BytesMut;
@@ -70,6 +70,16 @@ impl<A: Allocator + Copy> Spares<A> {
             return Ok(block);
         }
         let block = BytesMut::with_capacity(self.alloc, PAGE)?;
+        Ok(block)
+    }
+
+    /// Bytes of a page, in memory of a spare one, or in new where there is none.
+    pub(crate) fn take_holding(&mut self, bytes: &[u8]) -> Result<BytesMut<A>, NoMemory>
+        requires { length bytes.now ≡ 4096 }
+        ensures { IfOk result (λ block. block.items ≡ bytes.now) }
+    {
+        let mut block = self.take()?;
+        block.extend_reserved(bytes);
         Ok(block)
     }
 

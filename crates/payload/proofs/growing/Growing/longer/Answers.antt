@@ -12,8 +12,8 @@ invariant_of-result g c =
     let before = c.self.inside in
     let old = concat before.pages.items ++ before.last.items in
     let loop = c.loop-left in
-    let begun = c.in_ok-begin-2.ensures in
-    let all = same_bytes (concat loop.pages.items) loop.last.items loop.left.now c.begin-2.new.last.items _ begun.bytes loop.invariant.bytes in
+    let begun = c.in_ok-begin.ensures in
+    let all = same_bytes (concat loop.pages.items) loop.last.items loop.left.now c.begin.new.last.items _ begun.bytes loop.invariant.bytes in
     record {
       whole = loop.invariant.whole;
       begun = omega (arith, ap length begun.bytes, length-append loop.last.items loop.left.now, c.loop-left-test.false, c.len.ensures.value);
@@ -27,7 +27,7 @@ returns g c =
     let before = c.self.inside in
     let old = concat before.pages.items ++ before.last.items in
     let loop = c.loop-left in
-    let all = same_bytes (concat loop.pages.items) loop.last.items loop.left.now c.begin-2.new.last.items _ c.in_ok-begin-2.ensures.bytes loop.invariant.bytes in
+    let all = same_bytes (concat loop.pages.items) loop.last.items loop.left.now c.begin.new.last.items _ c.in_ok-begin.ensures.bytes loop.invariant.bytes in
     ap (λ (list : List ℕ). drop before.start list) all
     ∙ drop-append-le before.start old c.args.bytes.now (omega (arith, c.self.invariant.long, c.self.invariant.within))
     ∙ ap (λ (list : List ℕ). list ++ c.args.bytes.now) c.self.view_is
