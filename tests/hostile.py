@@ -97,7 +97,7 @@ def unread_replies():
 
 
 def long_reads_at_once():
-    """Each of several clients with long READs under way at once gets the bytes of its disk, also one that reads them late."""
+    """Each of several clients with long READs under way at once gets the bytes of its disk, also those that read them late."""
     with two_disks() as server:
         blocks, wrong = [os.urandom(MIB) for _ in server.exports], []
         for i, block in enumerate(blocks):
@@ -121,13 +121,13 @@ def long_reads_at_once():
                 pause = 0
             client.close()
 
-        kinds = [(0, 131072, 16, 0), (1, 131072, 16, 0), (0, 20480, 16, 0), (1, MIB, 4, 0), (1, 131072, 64, 0.5)]
+        kinds = [(0, 131072, 16, 0), (1, 131072, 16, 0), (0, 20480, 16, 0), (1, MIB, 4, 0), (1, 131072, 64, 0.5), (0, MIB, 16, 0.5)]
         threads = [threading.Thread(target=reads, args=it) for it in kinds]
         for it in threads:
             it.start()
         for it in threads:
             it.join()
-        yield not wrong, "%d of 2,000 long READs of five clients at once had other bytes than their disk's" % len(wrong)
+        yield not wrong, "%d of 2,400 long READs of six clients at once had other bytes than their disk's" % len(wrong)
 
 
 def writes_behind_a_limit():

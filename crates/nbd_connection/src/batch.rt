@@ -34,6 +34,8 @@ pub struct RequestSource<'a, 'b, R: Wait + time::Clock> {
     pub room: HeapRoom,
     /// What is kept of it for the next WRITEs, while the frames have none.
     pub spares: Spares<Global>,
+    /// Whether the reader answers itself what it hands in next: one READ of long data.
+    pub answers: bool,
 }
 
 /// What a reader offers first under a hold.
@@ -63,7 +65,7 @@ pub struct BatchOutcome {
     pub size: RequestSize,
     /// Why no more replies were taken after it. None where the writer takes them.
     pub stop: Option<Stop>,
-    /// Whether a READ asks for long data: it is left to the writer.
+    /// Whether a READ of long data is left to the writer.
     pub reads_long: bool,
     /// Whether a WRITE carries long data.
     pub writes_long: bool,
@@ -116,6 +118,11 @@ impl Admission {
         }
     }
 
+    /// Whether it is a READ of long data that is left to the writer, where it was served or not.
+    fn is_left(&self, served: bool) -> bool {
+        self.size == RequestSize::LongRead && !served
+    }
+
     /// The bytes that a hold handed in, with these, which were performed under it or not.
     fn added_to(&self, admitted: Admitted, performed: bool) -> Admitted {
         match (&self.arrival, self.number()) {
@@ -149,6 +156,7 @@ impl<'a, 'b, R: Wait + time::Clock> RequestSource<'a, 'b, R> {
             outdated: Outdated::with_room(alloc, OUTDATED_PAGES)?,
             room: HeapRoom::new(),
             spares,
+            answers: false,
         })
     }
 
@@ -174,7 +182,7 @@ impl<'a, 'b, R: Wait + time::Clock> RequestSource<'a, 'b, R> {
         let mut admitted = Admitted::NOTHING;
         let served = self.follow(disks, service, link, pass, outlet, admission, clock);
         admitted = admission.added_to(admitted, served);
-        let mut batch = BatchOutcome::first(turn, admission, prefetched);
+        let mut batch = BatchOutcome::first(turn, admission, served, prefetched);
         for _ in 1..most {
             let full = ends_hold(batch.size) || link.bytes.ends_batch(admitted);
             if full || self.wakeups.served_others() {
@@ -186,7 +194,7 @@ impl<'a, 'b, R: Wait + time::Clock> RequestSource<'a, 'b, R> {
             let admission = Admission::of(&turn);
             let served = self.follow(disks, service, link, pass, outlet, admission, clock);
             admitted = admission.added_to(admitted, served);
-            batch.add(turn, admission);
+            batch.add(turn, admission, served);
         }
         if let Some(outlet) = outlet {
             batch.stop = Some(outlet.take(disks, pass, link.session));
@@ -212,10 +220,10 @@ impl<'a, 'b, R: Wait + time::Clock> RequestSource<'a, 'b, R> {
         service.spares.take_all(rt, &mut self.spares);
     }
 
-    /// What follows a turn under the same hold: it performs the request, unless that is a READ of long data, and takes its reply,
-    /// where the outlet is at hand. So the steps of a request stand side by side in its export's log, and those of a READ go into
-    /// the base without its data. It notes who asked only where the request stays: whoever performs it later has to know. False
-    /// where it stays.
+    /// What follows a turn under the same hold: it performs the request and takes its reply, where the outlet is at hand. A READ of
+    /// long data is left to the writer, but for one that the reader answers. So the steps of a request stand side by side in its
+    /// export's log, and those of a READ go into the base without its data. It notes who asked only where the request stays: whoever
+    /// performs it later has to know. False where it stays.
     fn follow<L: Ledger, C: Clock>(
         &mut self,
         disks: &mut Disks<L>,
@@ -233,7 +241,11 @@ impl<'a, 'b, R: Wait + time::Clock> RequestSource<'a, 'b, R> {
             session: link.session,
             number,
         };
-        let served = performs_itself(admission.size)
+        let answers = match outlet {
+            Some(outlet) => self.answers && outlet.is_wide(),
+            None => false,
+        };
+        let served = (answers || performs_itself(admission.size))
             && self
                 .wakeups
                 .serve_own(disks, &service.bells, pass, own, clock);
@@ -250,12 +262,17 @@ impl<'a, 'b, R: Wait + time::Clock> RequestSource<'a, 'b, R> {
 
 impl BatchOutcome {
     /// After its first turn.
-    fn first(turn: Turn<Global>, admission: Admission, prefetched: u64) -> BatchOutcome {
+    fn first(
+        turn: Turn<Global>,
+        admission: Admission,
+        served: bool,
+        prefetched: u64,
+    ) -> BatchOutcome {
         BatchOutcome {
             turn,
             size: admission.size,
             stop: None,
-            reads_long: admission.size == RequestSize::LongRead,
+            reads_long: admission.is_left(served),
             writes_long: admission.size == RequestSize::LongWrite,
             waiting: Waiting::Nothing,
             brought: admission.brought(),
@@ -265,14 +282,14 @@ impl BatchOutcome {
     }
 
     /// One more turn was made.
-    fn add(&mut self, turn: Turn<Global>, admission: Admission) {
+    fn add(&mut self, turn: Turn<Global>, admission: Admission, served: bool) {
         self.turn = turn;
         self.brought = self.brought.saturating_add(admission.brought());
         self.arrived = self
             .arrived
             .saturating_add(admission.arrival.is_some() as u64);
         self.writes_long = self.writes_long || admission.size == RequestSize::LongWrite;
-        self.reads_long = self.reads_long || admission.size == RequestSize::LongRead;
+        self.reads_long = self.reads_long || admission.is_left(served);
         self.size = joined_size(self.size, admission.size);
     }
 }

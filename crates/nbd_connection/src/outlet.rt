@@ -3,7 +3,7 @@
 use crate::port::{Port, is_timeout};
 use crate::under_way::BytesUnderWay;
 use nbd_base::NoMemory;
-use nbd_service::policy::{OUTLET_BYTES, TAKEN_REPLIES, may_keep, suits_reader};
+use nbd_service::policy::{OUTLET_BYTES, TAKEN_REPLIES, WIDE_OUTLET_BYTES, may_keep, suits_reader};
 use nbd_service::{Disks, InteractiveLoad};
 use nbd_workers::Bell;
 use server_core::SessionId;
@@ -11,15 +11,24 @@ use server_lock::Pass;
 use session_turns::{ReadyReply, ReplyWriter, Stop};
 use std::alloc::Global;
 use std::io::BufWriter;
+use std::mem;
 use std::net::TcpStream;
 use std::sync::atomic::{AtomicBool, Ordering};
 use std::sync::ledger::Ledger;
+
+/// Replies and the buffer that they are written to.
+type Replies<'a> = ReplyWriter<BufWriter<Port<'a>>, Global>;
 
 /// Where a session's replies go out.
 #[derive(Drop)]
 pub struct Outlet<'a> {
     // Those that were taken, and the buffer that they are written to.
-    replies: ReplyWriter<BufWriter<Port<'a>>, Global>,
+    replies: Replies<'a>,
+    // With a wide buffer where that isn't, or the other way round: nothing is taken or unsent there.
+    other: Option<Replies<'a>>,
+    is_wide: bool,
+    alloc: Global,
+    port: Port<'a>,
     patient: &'a AtomicBool,
     under_way: &'a BytesUnderWay<'a>,
     // How many were written since the writer sent last, and how many bytes they have at most.
@@ -39,6 +48,22 @@ pub enum FlushOutcome {
     Failed,
 }
 
+/// How many bytes a buffer has.
+fn room_of(wide: bool) -> usize {
+    if wide {
+        WIDE_OUTLET_BYTES
+    } else {
+        OUTLET_BYTES
+    }
+}
+
+fn replies_of<'a>(alloc: Global, port: Port<'a>, room: usize) -> Result<Replies<'a>, NoMemory> {
+    match BufWriter::with_capacity(alloc, room, port) {
+        Ok(writer) => ReplyWriter::new(alloc, writer, TAKEN_REPLIES),
+        Err(_) => Err(NoMemory),
+    }
+}
+
 impl<'a> Outlet<'a> {
     /// The writes of a reader are those that aren't `patient`.
     pub fn new(
@@ -50,17 +75,55 @@ impl<'a> Outlet<'a> {
         work: &'a Bell,
     ) -> Result<Outlet<'a>, NoMemory> {
         let port = Port::new(peer, patient, interactive, under_way, work);
-        let Ok(writer) = BufWriter::with_capacity(alloc, OUTLET_BYTES, port) else {
-            return Err(NoMemory);
-        };
         Ok(Outlet {
-            replies: ReplyWriter::new(alloc, writer, TAKEN_REPLIES)?,
+            replies: replies_of(alloc, port, OUTLET_BYTES)?,
+            other: None,
+            is_wide: false,
+            alloc,
+            port,
             patient,
             under_way,
             unsent: 0,
             bytes: 0,
             stuck: false,
         })
+    }
+
+    /// Makes room for what a reader is about to hand in: for the reply to a READ of long data that it answers, before which it sends
+    /// what isn't sent, or for short replies. Where something stays taken or unsent, the room stays too.
+    pub fn make_room(&mut self, answers: bool) {
+        if answers && self.bytes > 0 && !self.stuck {
+            let _ = self.send_briefly();
+        }
+        self.set_wide(answers);
+    }
+
+    /// The client waits for nothing: gives back the memory of the wide buffer.
+    pub fn rest(&mut self) {
+        self.set_wide(false);
+        if !self.is_wide {
+            self.other = None;
+        }
+    }
+
+    /// Whether there is room for the reply to a READ of long data that the reader answers.
+    pub fn is_wide(&self) -> bool {
+        self.is_wide
+    }
+
+    fn set_wide(&mut self, wide: bool) {
+        if self.is_wide == wide || self.bytes > 0 || self.unwritten() > 0 {
+            return;
+        }
+        let other = match self.other.take() {
+            Some(other) => other,
+            None => match replies_of(self.alloc, self.port, room_of(wide)) {
+                Ok(other) => other,
+                Err(_) => return,
+            },
+        };
+        self.other = Some(mem::replace(&mut self.replies, other));
+        self.is_wide = wide;
     }
 
     /// How many replies were taken and aren't written.
@@ -101,7 +164,7 @@ impl<'a> Outlet<'a> {
     /// Whether the replies that were taken are short enough for a reader to write them: there is room for them beside those that
     /// weren't sent, so that nothing is sent before.
     pub fn is_brief(&self) -> bool {
-        !self.stuck && suits_reader(self.replies.bytes(), self.bytes)
+        !self.stuck && suits_reader(self.replies.bytes(), self.bytes, room_of(self.is_wide))
     }
 
     /// Writes the replies that were taken. Where a write failed the connection is over.

@@ -10,7 +10,7 @@ use std::net::TcpStream;
 use std::sync::atomic::{AtomicBool, Ordering};
 
 /// A client's socket, whose write timeout says how long a write waits for a client that doesn't read.
-#[derive(Drop)]
+#[derive(Clone, Copy, Drop)]
 pub struct Port<'a> {
     peer: &'a TcpStream,
     // Whether a write that waited so long goes on.

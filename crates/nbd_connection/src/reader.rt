@@ -6,9 +6,10 @@ use crate::preparing::make_ready;
 use crate::rules::{wakes_writer, writer_chooses};
 use crate::session_link::SessionLink;
 use nbd_service::policy::{
-    BATCH, PATIENCE_S, batch_after, load_of, makes_ready, may_read_ahead, size_of,
+    BATCH, PATIENCE_S, WRITER_WAIT_MS, WRITER_WAITS, answers_read, batch_after, handed_in, load_of,
+    makes_ready, may_read_ahead, size_of, span_of,
 };
-use nbd_service::{HoldClock, Service};
+use nbd_service::{HoldClock, RequestSize, Service};
 use nbd_wire::Request;
 use nbd_workers::until;
 use server_lock::Pass;
@@ -22,8 +23,8 @@ use std::time::Duration;
 use tag_clock::{Clock, Moment};
 
 /// Reads requests until the client sends no more. One hold hands in a request and those that are ready behind it; behind each it
-/// performs what the scheduler chooses, two at most, until that one is done, but for long READs, which are the writer's. The
-/// reader writes short replies itself, and leaves others to the writer.
+/// performs what the scheduler chooses, two at most, until that one is done, but for long READs that it leaves to the writer. The
+/// reader writes the replies of what it performed itself, and leaves others to the writer.
 pub fn read_requests<'s, E, L: Ledger, R: Wait + Sync + time::Clock>(
     rt: &'s R,
     scope: &Scope<'s, E>,
@@ -33,6 +34,7 @@ pub fn read_requests<'s, E, L: Ledger, R: Wait + Sync + time::Clock>(
     pass: &mut Pass<L>,
 ) {
     let mut held: Option<Request<Global>> = None;
+    let mut read_in = None;
     for _ in rt.forever() {
         let heard = link.room.heard();
         let offer = match held.take() {
@@ -40,6 +42,10 @@ pub fn read_requests<'s, E, L: Ledger, R: Wait + Sync + time::Clock>(
             None => Offer::Read(source.frames.next()),
         };
         wait_for_room(rt, link);
+        source.answers = answers(rt, service, &offer, &mut read_in);
+        if source.answers {
+            wait_for_writer(rt, link);
+        }
         let (turn, ahead) = read_on(rt, service, link, &mut source, pass, offer);
         set_reading_ahead(rt, scope, service.alloc, link, ahead);
         match turn {
@@ -72,6 +78,38 @@ fn wait_for_room<R: Wait + time::Clock>(rt: &R, link: &SessionLink<'_>) {
         rest(rt, link);
         link.room
             .wait(rt, heard, Some(Duration::from_secs(PATIENCE_S)));
+    }
+}
+
+/// Whether the reader answers itself what is offered. Notes a READ of long data, and in which span that was.
+fn answers<L: Ledger, R: time::Clock + Wait>(
+    rt: &R,
+    service: &Service<L>,
+    offer: &Offer,
+    read_in: &mut Option<u64>,
+) -> bool {
+    match offer.head() {
+        Some(head) if size_of(head) == RequestSize::LongRead => {
+            let span = span_of(service.clock(rt).now());
+            let readers = service.note_long_read(rt, span, *read_in == Some(span));
+            *read_in = Some(span);
+            answers_read(head, readers, service.processors)
+        }
+        _ => false,
+    }
+}
+
+/// Waits a little while the writer is busy, where the reader answers itself what it is about to hand in. What is left to the writer
+/// meanwhile would keep it busy, and so all that the client asks for behind it.
+fn wait_for_writer<R: Wait + time::Clock>(rt: &R, link: &SessionLink<'_>) {
+    for _ in 0..WRITER_WAITS {
+        let heard = link.room.heard();
+        if link.bytes.is_unread() || link.outlet.try_lock().is_some() {
+            return;
+        }
+        rest(rt, link);
+        link.room
+            .wait(rt, heard, Some(Duration::from_millis(WRITER_WAIT_MS)));
     }
 }
 
@@ -127,28 +165,15 @@ fn read_on<L: Ledger, R: Wait + time::Clock>(
     offer: Offer,
 ) -> (Turn<Global>, bool) {
     if let Some(head) = offer.head() {
+        let most = handed_in(source.answers, BATCH);
         link.seat
-            .wait_for_turn(rt, head, source.frames.ready(), BATCH, link.under_way());
+            .wait_for_turn(rt, head, source.frames.ready(), most, link.under_way());
     }
     let mut outlet = link.outlet.try_lock();
-    let before = match &outlet {
-        Some(outlet) => {
-            link.settle_bytes(rt, &**outlet);
-            outlet.unwritten()
-        }
-        None => 0,
-    };
+    let before = make_room(rt, link, &mut outlet, source.answers);
     let batch = hold_once(rt, service, link, source, pass, &mut outlet, offer);
     let busy = outlet.is_none();
-    let written = match outlet {
-        Some(mut outlet) => {
-            link.note_taken(outlet.unwritten().saturating_sub(before));
-            let last = !is_going(&batch.turn) || !link.keeps_replies(rt, &*outlet);
-            is_written(rt, service, link, &mut *outlet, pass, last)
-                && batch.stop == Some(Stop::Empty)
-        }
-        None => false,
-    };
+    let written = write_taken(rt, service, link, outlet, pass, &batch, before);
     if wakes_writer(batch.reads_long, written) {
         link.replies.ring();
     }
@@ -162,6 +187,43 @@ fn read_on<L: Ledger, R: Wait + time::Clock>(
         && service.note_long_write(rt, link.session, service.clock(rt).now());
     link.seat.end_turn(rt);
     (batch.turn, ahead)
+}
+
+/// Makes room for the replies to what the reader is about to hand in, where the outlet is at hand. Answers how many were taken and
+/// aren't written.
+fn make_room<R: Wait + time::Clock>(
+    rt: &R,
+    link: &SessionLink<'_>,
+    outlet: &mut Option<MutexGuard<'_, Outlet<'_>>>,
+    answers: bool,
+) -> usize {
+    match outlet {
+        Some(outlet) => {
+            link.settle_bytes(rt, &**outlet);
+            outlet.make_room(answers);
+            outlet.unwritten()
+        }
+        None => 0,
+    }
+}
+
+/// Writes the replies that a hold took, where the outlet is at hand, in which so many had been taken before. False where the writer has
+/// something to do.
+fn write_taken<L: Ledger, R: Wait + time::Clock>(
+    rt: &R,
+    service: &Service<L>,
+    link: &SessionLink<'_>,
+    outlet: Option<MutexGuard<'_, Outlet<'_>>>,
+    pass: &mut Pass<L>,
+    batch: &BatchOutcome,
+    before: usize,
+) -> bool {
+    let Some(mut outlet) = outlet else {
+        return false;
+    };
+    link.note_taken(outlet.unwritten().saturating_sub(before));
+    let last = !is_going(&batch.turn) || !link.keeps_replies(rt, &*outlet);
+    is_written(rt, service, link, &mut *outlet, pass, last) && batch.stop == Some(Stop::Empty)
 }
 
 /// Hands in what is offered, and requests that are ready behind it, under one hold.
@@ -179,7 +241,7 @@ fn hold_once<L: Ledger, R: Wait + time::Clock>(
     note_load(service, link, &offer, source.frames.is_ready(), asked);
     let mut disks = service.hold(rt, link.is_bulk());
     let held = HoldClock::at(clock.now());
-    let most = batch_after(until(asked, held.now()));
+    let most = handed_in(source.answers, batch_after(until(asked, held.now())));
     let batch = source.hand_in_batch(&mut *disks, service, link, pass, outlet, offer, most, &held);
     service.let_go(rt, disks, held.now());
     link.note_arrived(batch.arrived);

@@ -94,6 +94,7 @@ fn write_on<L: Ledger, R: Wait + time::Clock>(
 ) -> Round {
     let mut guard = link.outlet.lock(rt);
     let outlet = &mut *guard;
+    outlet.make_room(false);
     if let Some(ready) = link.ready.take(rt) {
         return send_ready(rt, service, link, outlet, pass, ready, times);
     }
@@ -246,6 +247,7 @@ fn send<L: Ledger, R: Wait + time::Clock>(
         link.seat.note_idle(rt);
         link.settle_bytes(rt, outlet);
         link.ready.rest(rt);
+        outlet.rest();
     }
     Round::Idle
 }

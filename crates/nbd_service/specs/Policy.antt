@@ -8,6 +8,7 @@ use Rattle.nbd_service.specs.declared.request_size.Load.TheVariants as loads
 use Rattle.nbd_service.specs.declared.waiting.Waiting.{Waiting}
 use Rattle.nbd_service.specs.declared.waiting.Waiting.TheVariants as waits
 use Rattle.nbd_service.specs.declared.write_pace.WritePace.{WritePace}
+use Rattle.nbd_service.specs.declared.long_readers.LongReaders.{LongReaders}
 
 -- ---- requests
 
@@ -196,6 +197,28 @@ abbrev pub short_pieces_by : ℕ → ℕ → ℕ
 short_pieces_by before bytes =
     if bytes == 0 then 2 else (if nat_lt bytes 16384 then min (before + 1) 18446744073709551615 else 0)
 
+-- ---- readers of long data, counted in spans of 20 milliseconds
+
+abbrev pub span_by : ℕ → ℕ
+span_by moment = moment / 20000000
+
+-- nobody yet in a later span, and before it those of the one that it follows
+abbrev pub in_span_by : LongReaders → ℕ → LongReaders
+in_span_by readers span =
+    if nat_le span readers.span then readers
+    else record { span = span; now = 0; before = if (span - readers.span) == 1 then readers.now else 0 }
+
+-- one more, but where it counts in the span already
+abbrev pub readers_by : LongReaders → ℕ → Bool → LongReaders
+readers_by readers span counts =
+    let later = in_span_by readers span in
+    if counts then later
+    else record { span = later.span; now = min (later.now + 1) 18446744073709551615; before = later.before }
+
+-- of both spans the one with more
+abbrev pub long_readers_by : LongReaders → ℕ
+long_readers_by readers = if nat_lt readers.now readers.before then readers.before else readers.now
+
 -- ---- replies
 
 -- two processors for each writer
@@ -205,9 +228,18 @@ makes_ready_by writers processors = nat_le writers (processors / 2)
 abbrev pub keeps_by : ℕ → Bool
 keeps_by unsent = nat_lt unsent 4
 
--- 128 KiB, and within the 256 KiB of the outlet together with what isn't sent
-abbrev pub suits_reader_by : ℕ → ℕ → Bool
-suits_reader_by bytes unsent = nat_le bytes 131072 && nat_lt unsent (262144 - bytes)
+-- three quarters of the room, and within it together with what isn't sent
+abbrev pub suits_reader_by : ℕ → ℕ → ℕ → Bool
+suits_reader_by bytes unsent room = nat_le bytes (room - room / 4) && nat_lt unsent (room - bytes)
+
+-- a READ of more than 16 KiB, and of 1 MiB at most, where more sessions read so much than half as many as processors
+abbrev pub answers_read_by : ℕ → ℕ → ℕ → ℕ → Bool
+answers_read_by kind length readers processors =
+    (kind == 0) && (nat_lt 16384 length && nat_le length 1048576) && nat_lt (processors / 2) readers
+
+-- one where the reader answers a READ of long data
+abbrev pub handed_in_by : Bool → ℕ → ℕ
+handed_in_by answers most = if answers then 1 else most
 
 -- a second, and without end where nothing is under way
 abbrev pub patience_by : ℕ → Option ℕ

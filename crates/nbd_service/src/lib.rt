@@ -1,9 +1,9 @@
 //! What the threads of a server share, and what they decide by values: `policy` has the numbers of this crate and of a
-//! connection's threads, and the rules over values. The rules, the pace of writes, the faults, the rates in force and the outcome
-//! of a retune have contracts. The rest has none and is tested instead, since it takes locks, wakes threads, polls sockets and
-//! reads flags that others write: `Service` (the lock of the server and who goes first), the bells, the busy writers, the passes, the wake-ups, the
-//! open connections with their figures, the retunes, and the spin ladder with the poll of a socket by it; and prefetching, which
-//! changes nothing.
+//! connection's threads, and the rules over values. The rules, the pace of writes, the count of long readers, the faults, the
+//! rates in force and the outcome of a retune have contracts. The rest has none and is tested instead, since it takes locks,
+//! wakes threads, polls sockets and reads flags that others write: `Service` (the lock of the server and who goes first), the
+//! bells, the busy writers, the passes, the wake-ups, the open connections with their figures, the retunes, and the spin
+//! ladder with the poll of a socket by it; and prefetching, which changes nothing.
 #![tactic(auto)]
 
 mod bells;
@@ -15,6 +15,7 @@ mod figures;
 mod hold_clock;
 mod interactive;
 mod keepalive;
+mod long_readers;
 mod passes;
 pub mod policy;
 mod prefetching;
@@ -41,6 +42,7 @@ pub use figures::{ExportFigures, tally_of};
 pub use hold_clock::HoldClock;
 pub use interactive::InteractiveLoad;
 pub use keepalive::keep_alive;
+pub use long_readers::LongReaders;
 pub use passes::PassPool;
 pub use prefetching::prefetch;
 pub use request_size::{Load, RequestSize};

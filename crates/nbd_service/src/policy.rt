@@ -1,7 +1,7 @@
 //! The numbers of the serving code, and the rules over values that its threads follow. `specs/Policy.antt` says each rule.
 ghost use Rattle.std.specs.Prelude.{◌≡◌, ◌+◌, ◌-◌, ◌*◌, ◌<◌, ◌≤◌, ◌^◌, min, option_map};
 ghost use Rattle.std.specs.Duration.{as_nanos};
-ghost use Rattle.nbd_service.specs.Policy.{accept_may_pass_by, asks_for_turn_by, backlog_by, batch_by, bell_by, cost_by, data_by, ends_hold_by, handshake_wait_by, has_more_by, holds_back_by, is_alone_by, is_due_by, is_forgotten_by, is_network_fault_by, is_shortage_by, is_stalled_by, is_uneven_by, is_zero_by, keeps_by, keeps_up_by, load_by, looks_in_a_row_by, makes_ready_by, makes_room_by, next_skip_by, patience_by, performs_by, reads_ahead_by, short_pieces_by, size_by, spares_by, still_defers_by, still_retunes_by, still_waits_for_line_by, suits_reader_by, waiting_by, wakes_worker_by, carried_by, yields_by, yields_behind_look_by};
+ghost use Rattle.nbd_service.specs.Policy.{accept_may_pass_by, answers_read_by, asks_for_turn_by, backlog_by, batch_by, bell_by, cost_by, data_by, ends_hold_by, handed_in_by, handshake_wait_by, has_more_by, holds_back_by, is_alone_by, is_due_by, is_forgotten_by, is_network_fault_by, is_shortage_by, is_stalled_by, is_uneven_by, is_zero_by, keeps_by, keeps_up_by, load_by, looks_in_a_row_by, makes_ready_by, makes_room_by, next_skip_by, patience_by, performs_by, reads_ahead_by, short_pieces_by, size_by, span_by, spares_by, still_defers_by, still_retunes_by, still_waits_for_line_by, suits_reader_by, waiting_by, wakes_worker_by, carried_by, yields_by, yields_behind_look_by};
 
 use crate::request_size::{Load, RequestSize};
 use crate::waiting::Waiting;
@@ -195,6 +195,9 @@ pub const BACKLOG_HOLDS: u32 = 16;
 /// How many bytes of replies are kept before they are sent. A reply's data come to it page by page, so that it is to hold a long one.
 pub const OUTLET_BYTES: usize = 262_144;
 
+/// The same while a reader answers READs of long data.
+pub const WIDE_OUTLET_BYTES: usize = 1_572_864;
+
 /// How many replies are taken in a row: twice as many as a reader hands in requests at most, so that it mostly takes all.
 pub const TAKEN_REPLIES: usize = 32;
 
@@ -202,9 +205,14 @@ pub const TAKEN_REPLIES: usize = 32;
 /// next.
 pub const KEPT_REPLIES: usize = 4;
 
-/// How many bytes the replies may have together, heads included, that a reader writes: what a socket mostly holds, so that a
-/// client that doesn't read yet is still read.
-pub const BRIEF_BYTES: usize = 131_072;
+/// How many bytes a READ asks for at most that a reader answers itself where several sessions read long data.
+pub const ANSWERED_BYTES: u32 = 1_048_576;
+
+/// How many times a reader that answers a READ itself waits for its writer, and for how many milliseconds at most each time. Each
+/// reply rings its bell when it is taken and when it is written.
+pub const WRITER_WAITS: u32 = 64;
+
+pub const WRITER_WAIT_MS: u64 = 1;
 
 /// How many milliseconds a reader waits for a client that doesn't read its replies, before it leaves them to the writer.
 pub const FLUSH_WAIT_MS: u64 = 100;
@@ -229,6 +237,9 @@ pub const WIDE_PROCESSORS: usize = 4;
 
 /// How many nanoseconds after another session's long WRITE a session doesn't count as alone with its own.
 pub const LATELY_NS: u64 = 20_000_000;
+
+/// How many nanoseconds a span has in which sessions that read long data are counted.
+pub const SPAN_NS: u64 = 20_000_000;
 
 /// How many pieces are read ahead at most.
 pub const PIECES: usize = 8;
@@ -501,6 +512,29 @@ pub fn performs_itself(size: RequestSize) -> bool
     }
 }
 
+/// Whether a request is a READ of long data that a reader answers itself, where so many sessions read such, with so many processors:
+/// more than half as many, so that none is left for their writers. The reply is short enough to be written briefly.
+pub fn answers_read(head: RequestHead, readers: u64, processors: usize) -> bool
+    ensures { result ≡ answers_read_by head.kind head.length readers processors }
+{
+    let is_long = head.length > SHORT_READ_BYTES && head.length <= ANSWERED_BYTES;
+    head.kind == READ && is_long && readers > processors as u64 / 2
+}
+
+/// The number of the span in which sessions that read long data are counted.
+pub fn span_of(now: Moment) -> u64
+    ensures { result ≡ span_by now }
+{
+    now.nanoseconds() / SPAN_NS
+}
+
+/// How many requests a hold hands in at most, which are so many but where the reader answers a READ of long data itself.
+pub fn handed_in(answers: bool, most: usize) -> usize
+    ensures { result ≡ handed_in_by answers most }
+{
+    if answers { 1 } else { most }
+}
+
 /// How many requests a reader hands in under a hold, where it waited so long for the lock.
 pub fn batch_after(wait: Duration) -> usize
     ensures { result ≡ batch_by (as_nanos wait) }
@@ -595,12 +629,12 @@ pub fn may_keep(unsent: usize) -> bool
     unsent < KEPT_REPLIES
 }
 
-/// Whether a reader may write replies of so many bytes itself: they are short, and there is room for them beside those that
-/// weren't sent, so that nothing is sent before.
-pub fn suits_reader(bytes: usize, unsent_bytes: usize) -> bool
-    ensures { result ≡ suits_reader_by bytes unsent_bytes }
+/// Whether a reader may write replies of so many bytes itself, heads included: they take three quarters of its room at most, so that a
+/// client that doesn't read yet is still read, and fit in beside those that weren't sent, so that nothing is sent before.
+pub fn suits_reader(bytes: usize, unsent_bytes: usize, room: usize) -> bool
+    ensures { result ≡ suits_reader_by bytes unsent_bytes room }
 {
-    bytes <= BRIEF_BYTES && unsent_bytes < OUTLET_BYTES - bytes
+    bytes <= room - room / 4 && unsent_bytes < room - bytes
 }
 
 /// Whether a reader makes a long reply ready while its writer is busy, where so many writers are at work, with so many processors. A

@@ -5,6 +5,7 @@ use crate::busy_writers::BusyWriters;
 use crate::connections::Connections;
 use crate::figures::tally_of;
 use crate::interactive::InteractiveLoad;
+use crate::long_readers::LongReaders;
 use crate::passes::PassPool;
 use crate::policy::{KEPT_BLOCK_BYTES, is_alone, still_defers};
 use crate::retunes::Retunes;
@@ -79,6 +80,8 @@ pub struct Service<L: Ledger> {
     /// How many bytes of each export's WRITEs wait.
     pub waiting_writes: Vec<AtomicU64>,
     pub latest_long: Mutex<Option<LongWrite>>,
+    /// How many sessions read long data.
+    pub readers: Mutex<LongReaders>,
     /// Memory of pages that sessions pass on to others.
     pub spares: SpareStore,
     /// The writers that are at work.
@@ -121,6 +124,7 @@ impl<L: Ledger> Service<L> {
             retunes: Retunes::new(alloc, config)?,
             waiting_writes,
             latest_long: Mutex::new(None),
+            readers: Mutex::new(LongReaders::NOBODY),
             spares: SpareStore::new(alloc)?,
             writers: BusyWriters::new(),
             processors: available_parallelism(rt).map_or(1, |count| count.get()),
@@ -200,6 +204,13 @@ impl<L: Ledger> Service<L> {
             return None;
         }
         self.shared.try_hold()
+    }
+
+    /// Notes that a session sends a long READ in a span, in which it counts already or not. Tells how many sessions do so.
+    pub fn note_long_read<R: Wait>(&self, rt: &R, span: u64, counts: bool) -> u64 {
+        let mut readers = self.readers.lock(rt);
+        *readers = readers.with(span, counts);
+        readers.count()
     }
 
     /// Notes that a session sends a long WRITE. Tells whether no other did so lately.

@@ -2,16 +2,17 @@ mod rates_in_force;
 mod spare_pages;
 
 use nbd_service::policy::{
-    accept_may_pass, asks_for_turn, backlog_after, batch_after, bell_of, brought_by,
-    connections_for, cost_of, data_of, ends_hold, handshake_wait_ms, has_more, holds_back,
-    is_alone, is_due, is_stalled, keeps_up, load_of, looks_in_a_row, makes_ready, makes_room,
-    may_keep, may_read_ahead, moment_after, next_skip, passes_for, patience, performs_itself,
-    short_pieces, size_of, still_defers, still_retunes, still_waits_for_line, suits_reader,
-    waiting_until, wakes_worker, yields_behind, yields_behind_look,
+    accept_may_pass, answers_read, asks_for_turn, backlog_after, batch_after, bell_of, brought_by,
+    connections_for, cost_of, data_of, ends_hold, handed_in, handshake_wait_ms, has_more,
+    holds_back, is_alone, is_due, is_stalled, keeps_up, load_of, looks_in_a_row, makes_ready,
+    makes_room, may_keep, may_read_ahead, moment_after, next_skip, passes_for, patience,
+    performs_itself, short_pieces, size_of, span_of, still_defers, still_retunes,
+    still_waits_for_line, suits_reader, waiting_until, wakes_worker, yields_behind,
+    yields_behind_look,
 };
 use nbd_service::{
-    BusyWriters, InteractiveLoad, Load, RequestSize, RunningClock, SpinPoll, Turns, Waiting,
-    WritePace,
+    BusyWriters, InteractiveLoad, Load, LongReaders, RequestSize, RunningClock, SpinPoll, Turns,
+    Waiting, WritePace,
 };
 use nbd_wire::RequestHead;
 use nbd_wire::protocol::{CACHE, FLUSH, READ, TRIM, WRITE, WRITE_ZEROES};
@@ -58,6 +59,18 @@ fn writers_that_are_at_work(rt: HostRuntime) {
     assert!(rt; writers.count() == 1);
 }
 
+#[test]
+fn readers_of_long_data_are_counted(rt: HostRuntime) {
+    let one = LongReaders::NOBODY.with(7, false);
+    let two = one.with(7, true).with(7, false);
+    assert!(rt; one.count() == 1 && two.count() == 2);
+    let later = two.with(8, false);
+    assert!(rt; later.count() == 2 && later.with(7, false).now == 2);
+    assert!(rt; later.with(9, true).count() == 1 && later.with(10, true).count() == 0);
+    assert!(rt; span_of(moment_after(Duration::from_millis(19))) == 0);
+    assert!(rt; span_of(moment_after(Duration::from_millis(20))) == 1);
+}
+
 /// How much data a request has that asks for so many bytes, or brings them.
 fn size(kind: u16, length: u32) -> RequestSize {
     size_of(RequestHead {
@@ -92,6 +105,11 @@ fn who_performs_and_how_many(rt: HostRuntime) {
     assert!(rt; ends_hold(RequestSize::LongZero) && ends_hold(RequestSize::Nothing));
     assert!(rt; !ends_hold(RequestSize::LongWrite) && !ends_hold(RequestSize::Short));
     assert!(rt; !performs_itself(RequestSize::LongRead));
+    let answers = |kind, length| answers_read(head(kind, length), 3, 4);
+    assert!(rt; answers(READ, 1_048_576) && !answers(READ, 1_048_577));
+    assert!(rt; answers(READ, 16_385) && !answers(READ, 16_384));
+    assert!(rt; !answers(WRITE, 131_072) && !answers_read(head(READ, 131_072), 2, 4));
+    assert!(rt; handed_in(true, 8) == 1 && handed_in(false, 8) == 8);
     assert!(rt; batch_after(Duration::from_millis(1)) == 8);
     assert!(rt; batch_after(Duration::from_micros(1_001)) == 16);
     assert!(rt; passes_for(100_000, 4) == 16_389);
@@ -119,7 +137,8 @@ fn what_is_read_ahead_and_kept(rt: HostRuntime) -> Result<(), Fail> {
     assert!(rt; may_read_ahead(4) && !may_read_ahead(3));
     assert!(rt; short_pieces(1, 16_383) == 2 && short_pieces(1, 16_384) == 0);
     assert!(rt; may_keep(3) && !may_keep(4));
-    assert!(rt; suits_reader(131_072, 131_071) && !suits_reader(131_072, 131_072));
+    assert!(rt; suits_reader(196_608, 65_535, 262_144) && !suits_reader(196_608, 65_536, 262_144));
+    assert!(rt; !suits_reader(196_609, 0, 262_144) && suits_reader(196_609, 0, 262_148));
     assert!(rt; makes_ready(2, 4) && !makes_ready(3, 4) && !makes_ready(1, 1));
     assert!(rt; patience(0) == None);
     assert!(rt; patience(1) == Some(Duration::from_secs(1)));
