@@ -3,6 +3,7 @@
 use crate::feed::Feed;
 use crate::heap_room::HeapRoom;
 use crate::outlet::Outlet;
+use crate::read_ahead::ReadAhead;
 use crate::rules::joined_size;
 use crate::session_link::SessionLink;
 use crate::under_way::Admitted;
@@ -196,20 +197,42 @@ impl<'a, 'b, R: Wait + time::Clock> RequestSource<'a, 'b, R> {
             admitted = admission.added_to(admitted, served);
             batch.add(turn, admission, served);
         }
+        link.bytes.add(admitted);
+        self.end_batch(disks, link, pass, outlet, batch)
+    }
+
+    /// What is done at a hold's end: the session's replies are taken, steps go into the base of its export, and what the export's images
+    /// don't need any more is taken out.
+    fn end_batch<L: Ledger>(
+        &mut self,
+        disks: &mut Disks<L>,
+        link: &SessionLink<'_>,
+        pass: &mut Pass<L>,
+        outlet: &mut Option<MutexGuard<'_, Outlet<'_>>>,
+        mut batch: BatchOutcome,
+    ) -> BatchOutcome {
         if let Some(outlet) = outlet {
             batch.stop = Some(outlet.take(disks, pass, link.session));
         }
-        link.bytes.add(admitted);
         batch.waiting = waiting_in(disks);
         disks.catch_up(link.session.export, QUEUED_WORK);
         disks.sweep(link.session.export, &mut self.outdated);
         batch
     }
 
-    /// Lets go what a hold took out of the images, and keeps the memory of its pages for WRITEs to come.
-    pub fn recycle<L: Ledger>(&mut self, rt: &R, service: &Service<L>, brought: u64) {
+    /// Lets go what a hold took out of the images, or leaves that to the thread that reads ahead, and keeps the memory of its pages for
+    /// WRITEs to come.
+    pub fn recycle<L: Ledger>(
+        &mut self,
+        rt: &R,
+        service: &Service<L>,
+        ahead: &ReadAhead,
+        brought: u64,
+    ) {
         self.frames.exchange(&mut self.spares);
-        self.outdated.recycle(&mut self.spares);
+        if !ahead.discards.leave(&mut self.outdated, &mut self.spares) {
+            self.outdated.recycle(&mut self.spares);
+        }
         service.spares.level(rt, &mut self.spares, brought);
         self.frames.exchange(&mut self.spares);
     }

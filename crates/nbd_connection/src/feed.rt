@@ -86,7 +86,8 @@ impl<'a, 'b, R: Wait + time::Clock> Feed<'a, 'b, R> {
         }
     }
 
-    // The next piece. None where the socket is the reader's. What was written is sent before it waits.
+    // The next piece. None where the socket is the reader's. What was written is sent before it waits, and what was left to the other
+    // thread let go.
     fn next(&self) -> Option<Piece> {
         let ahead = &self.link.ahead;
         for _ in self.rt.forever() {
@@ -104,6 +105,7 @@ impl<'a, 'b, R: Wait + time::Clock> Feed<'a, 'b, R> {
                     .seat
                     .wait_for_pieces(self.rt, self.link.under_way());
             }
+            ahead.discards.let_go();
             ahead.pieces.wait(self.rt, heard, None);
             self.link.seat.end_wait();
         }

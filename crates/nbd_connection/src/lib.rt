@@ -1,12 +1,13 @@
 //! One connection of a server: its handshake, a thread that reads requests and hands them in, one that writes replies, and one
-//! that reads its bytes ahead. `rules` has what they decide by values, with contracts, as `WriteTimes` and parts of `Feed` have;
-//! numbers and the other rules are those of nbd_service. The rest has no contract and is tested instead, since it reads and
-//! writes sockets, takes locks and wakes threads: `enter`, `serve`, and the parts of a connection that tests look at
-//! (`SessionLink`, `Feed`, `ReadAhead`, `TurnSeat`, `BytesUnderWay`).
+//! that reads its bytes ahead. `rules` has what they decide by values, with contracts, as `WriteTimes` and parts of `Feed` and of
+//! `Discards` have; numbers and the other rules are those of nbd_service. The rest has no contract and is tested instead, since it
+//! reads and writes sockets, takes locks and wakes threads: `enter`, `serve`, and the parts of a connection that tests look at
+//! (`SessionLink`, `Feed`, `ReadAhead`, `Discards`, `TurnSeat`, `BytesUnderWay`).
 #![tactic(auto)]
 
 mod batch;
 mod connection;
+mod discards;
 mod feed;
 mod handshake;
 mod heap_room;
@@ -24,6 +25,7 @@ mod write_times;
 mod writer;
 
 pub use connection::{Entered, enter, serve};
+pub use discards::Discards;
 pub use feed::Feed;
 pub use read_ahead::ReadAhead;
 pub use session_link::SessionLink;

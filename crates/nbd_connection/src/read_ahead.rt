@@ -1,5 +1,6 @@
 //! A client's bytes that are read ahead by a thread of their own, while its long WRITEs are copied and performed.
 
+use crate::discards::Discards;
 use nbd_base::NoMemory;
 use nbd_service::policy::{
     ENOUGH_BLANK_PIECES, FEW_SHORT_PIECES, PIECE_BYTES, PIECES, short_pieces,
@@ -35,6 +36,8 @@ pub struct ReadAhead {
     // Whether that thread was started, and whether it is to end.
     started: AtomicBool,
     over: AtomicBool,
+    /// What the reader's holds took out of the images, which the other thread lets go while it reads ahead.
+    pub discards: Discards,
     /// Rung where a piece came, or the socket was given back.
     pub(crate) pieces: Bell,
     // Rung where the other thread has something to do.
@@ -51,6 +54,7 @@ impl ReadAhead {
             running: AtomicBool::new(false),
             started: AtomicBool::new(false),
             over: AtomicBool::new(false),
+            discards: Discards::new(),
             pieces: Bell::new(),
             work: Bell::new(),
         })
@@ -133,6 +137,7 @@ impl ReadAhead {
             } else if let Some(bytes) = self.obtain(rt, alloc) {
                 let count = self.read_piece(rt, peer, bytes);
                 short = short_pieces(short, count);
+                self.discards.work(rt, alloc);
             } else {
                 self.work.wait(rt, heard, None);
             }
@@ -177,6 +182,7 @@ impl ReadAhead {
         self.made.fetch_sub(blank.len(), Ordering::SeqCst);
         blank.clear();
         drop(blank);
+        self.discards.close(rt);
         self.running.store(false, Ordering::SeqCst);
         self.pieces.ring();
     }

@@ -245,7 +245,7 @@ fn hold_once<L: Ledger, R: Wait + time::Clock>(
     let batch = source.hand_in_batch(&mut *disks, service, link, pass, outlet, offer, most, &held);
     service.let_go(rt, disks, held.now());
     link.note_arrived(batch.arrived);
-    source.recycle(rt, service, batch.brought);
+    source.recycle(rt, service, &link.ahead, batch.brought);
     source.room.note(service.alloc, batch.brought);
     link.note_prefetched(batch.prefetched);
     source.wakeups.wake(&service.bells);

@@ -71,13 +71,7 @@ impl<'a> TurnSeat<'a> {
             self.owed.store(0, Ordering::SeqCst);
             return;
         }
-        let mut cost = self
-            .owed
-            .load(Ordering::SeqCst)
-            .saturating_add(cost_of(head));
-        for request in ready.iter().rev().take(most.saturating_sub(1)) {
-            cost = cost.saturating_add(cost_of(request.head()));
-        }
+        let cost = self.cost_with(head, ready, most);
         let enters = (backlog > 0 || long) && !self.at_hand.load(Ordering::SeqCst);
         let clock = RunningClock::since(rt, self.start);
         let now = clock.now().nanoseconds();
@@ -98,6 +92,19 @@ impl<'a> TurnSeat<'a> {
         self.owed.store(0, Ordering::SeqCst);
         self.asked_at
             .store(clock.now().nanoseconds(), Ordering::SeqCst);
+    }
+
+    /// What is to be charged, in units: what went on since its reader asked last, and a request with those that are ready behind it, `most` at
+    /// most in all.
+    fn cost_with(&self, head: RequestHead, ready: &[Request<Global>], most: usize) -> u32 {
+        let mut cost = self
+            .owed
+            .load(Ordering::SeqCst)
+            .saturating_add(cost_of(head));
+        for request in ready.iter().rev().take(most.saturating_sub(1)) {
+            cost = cost.saturating_add(cost_of(request.head()));
+        }
+        cost
     }
 
     /// Notes whether the next request is a long WRITE, whether others are ready behind it, and how many are under way. Tells for how

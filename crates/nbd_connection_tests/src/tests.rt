@@ -1,4 +1,5 @@
-use nbd_connection::{BytesUnderWay, Feed, SessionLink, TurnSeat};
+use export_cell::Outdated;
+use nbd_connection::{BytesUnderWay, Discards, Feed, SessionLink, TurnSeat};
 use nbd_service::{InteractiveLoad, RetuneGate, Traffic, Turns};
 use nbd_session::Buffered;
 use nbd_workers::Bell;
@@ -189,5 +190,32 @@ fn bytes_that_are_read_ahead(rt: HostRuntime) -> Result<(), Fail> {
     );
     assert!(rt; sent.is_ok());
     assert_eq!(rt; told?, (3_000_000, true));
+    Ok(())
+}
+
+/// Whether what holds took out is left to another thread at times when that lets such go and is done with what was left before, and at no
+/// others.
+fn is_left_in_turn<R: Wait>(rt: &R, alloc: Global, outdated: &mut Outdated<Global>) -> bool {
+    let mut spares = Spares::new(alloc);
+    let discards = Discards::new();
+    let at_first = discards.leave(outdated, &mut spares);
+    discards.work(rt, alloc);
+    let once = discards.leave(outdated, &mut spares);
+    let at_once = discards.leave(outdated, &mut spares);
+    discards.work(rt, alloc);
+    let behind = discards.leave(outdated, &mut spares);
+    discards.let_go();
+    let behind_own = discards.leave(outdated, &mut spares);
+    discards.close(rt);
+    let at_last = discards.leave(outdated, &mut spares);
+    once && behind && behind_own && !at_first && !at_once && !at_last
+}
+
+#[test]
+fn what_holds_took_out(rt: HostRuntime) -> Result<(), Fail> {
+    let rt = &rt;
+    let alloc = rt.alloc();
+    let mut outdated = Outdated::with_room(alloc, 1).expect(rt, "memory");
+    assert!(rt; is_left_in_turn(rt, alloc, &mut outdated));
     Ok(())
 }

@@ -141,7 +141,7 @@ pub const EXPECTED_NS: u64 = 1_000_000_000;
 pub const MUCH_READ_BYTES: usize = 65_536;
 
 /// So many bytes of one write to a socket are many: behind it the thread lets others run.
-pub const MUCH_WRITTEN_BYTES: usize = 196_608;
+pub const MUCH_WRITTEN_BYTES: usize = 131_072;
 
 /// How often a session's thread looks for the lock before it waits in `Shared::hold`, which tries the lock itself at each look; and
 /// how often in a row before other threads run.
@@ -629,8 +629,8 @@ pub fn may_keep(unsent: usize) -> bool
     unsent < KEPT_REPLIES
 }
 
-/// Whether a reader may write replies of so many bytes itself, heads included: they take three quarters of its room at most, so that a
-/// client that doesn't read yet is still read, and fit in beside those that weren't sent, so that nothing is sent before.
+/// Whether a reader may write replies of so many bytes itself, heads included: they take three quarters of its room at most, and fit in
+/// beside those that weren't sent, so that nothing is sent before. For a client that doesn't read it waits `FLUSH_WAIT_MS`.
 pub fn suits_reader(bytes: usize, unsent_bytes: usize, room: usize) -> bool
     ensures { result ≡ suits_reader_by bytes unsent_bytes room }
 {
