@@ -1,5 +1,6 @@
 //! Where the bytes of a connection come from: its socket, or what was read ahead.
-ghost use Rattle.std.specs.Prelude.{◌≤◌, length};
+ghost use Rattle.std.specs.Prelude.{◌≤◌, length, IfSome};
+ghost use Rattle.std.specs.Io.{ReadsAtMost};
 
 use crate::read_ahead::Piece;
 use crate::session_link::SessionLink;
@@ -86,6 +87,35 @@ impl<'a, 'b, R: Wait + time::Clock> Feed<'a, 'b, R> {
         }
     }
 
+    // What comes from the socket within a while, where the session asks for little.
+    fn read_soon(&mut self, buf: &mut [u8]) -> Option<usize>
+        ensures { IfSome result (λ n. n ≤ length buf.new) }
+    {
+        if self.link.is_bulk() {
+            return None;
+        }
+        let came = self.poll.read(self.link.peer, buf, self.link.interactive)?;
+        if self.is_between {
+            self.link.seat.note_input();
+        }
+        Some(came)
+    }
+
+    // What comes from the socket.
+    fn read_later(&mut self, buf: &mut [u8]) -> io::Result<usize>
+        ensures { ReadsAtMost result buf.new }
+    {
+        let mut peer = self.link.peer;
+        if self.is_between {
+            self.link
+                .seat
+                .wait_for_client(self.rt, peer, self.link.under_way());
+        }
+        let came = peer.read(buf);
+        self.link.seat.end_wait();
+        came
+    }
+
     // The next piece. None where the socket is the reader's. What was written is sent before it waits, and what was left to the other
     // thread let go.
     fn next(&self) -> Option<Piece> {
@@ -143,17 +173,10 @@ impl<R: Wait + time::Clock> Read for Feed<'_, '_, R> {
         if count > 0 {
             return Ok(count);
         }
-        let mut peer = self.link.peer;
-        if !self.link.is_bulk() {
-            self.poll.poll(peer, self.link.interactive);
-        }
-        if self.is_between {
-            self.link
-                .seat
-                .wait_for_client(self.rt, peer, self.link.under_way());
-        }
-        let came = peer.read(buf);
-        self.link.seat.end_wait();
+        let came = match self.read_soon(buf) {
+            Some(count) => Ok(count),
+            None => self.read_later(buf),
+        };
         self.link.interactive.rest_behind(&came, MUCH_READ_BYTES);
         came
     }

@@ -141,6 +141,13 @@ impl<'a> TurnSeat<'a> {
         }
     }
 
+    /// Something had come behind the latest request.
+    pub fn note_input(&self) {
+        if self.is_waited_for() {
+            set(&self.had_input, true);
+        }
+    }
+
     /// The same where it is known that nothing has come.
     pub fn wait_for_pieces<R: Wait + time::Clock>(&self, rt: &R, under_way: u64) {
         if !self.is_waited_for() {

@@ -74,7 +74,7 @@ yields_behind_look_by look in_a_row = nat_lt 0 in_a_row && ((look % in_a_row) ==
 
 -- never alone
 abbrev pub looks_in_a_row_by : ℕ → ℕ
-looks_in_a_row_by looking = if nat_lt 1 looking then 4 else 0
+looks_in_a_row_by looking = if nat_lt 1 looking then 1 else 0
 
 abbrev pub yields_by : ℕ → ℕ → Bool
 yields_by bytes many = nat_le many bytes

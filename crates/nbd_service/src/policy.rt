@@ -154,8 +154,9 @@ pub const LOCK_LOOKS_IN_A_ROW: usize = 32;
 pub const SOCKET_LOOKS: usize = 50;
 
 /// Behind how many looks in a row at a socket other threads run, where several threads look at theirs: 4 KiB requests one at a time from four
-/// connections then came to more, since their clients want the processors (docs/notes/tries.md).
-pub const SOCKET_LOOKS_IN_A_ROW: usize = 4;
+/// connections then came to more, since their clients want the processors, and to more behind each look than behind each fourth
+/// (docs/notes/tries.md).
+pub const SOCKET_LOOKS_IN_A_ROW: usize = 1;
 
 /// In how many reads a socket isn't looked at, at least, once nothing came at a look.
 pub const LEAST_SKIPPED_READS: u32 = 8;

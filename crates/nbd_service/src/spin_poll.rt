@@ -1,9 +1,10 @@
 //! A socket that is looked at for a while before its reader sleeps.
+ghost use Rattle.std.specs.Prelude.{◌≤◌, length, IfSome};
 
 use crate::interactive::InteractiveLoad;
 use crate::policy::{SOCKET_LOOKS, next_skip};
 use crate::spin::SpinLadder;
-use libc::net::{POLLIN, poll};
+use libc::net::{MSG_DONTWAIT, POLLIN, poll, recv};
 use libc::types::pollfd;
 use std::net::TcpStream;
 use std::os::fd::AsRawFd;
@@ -26,17 +27,28 @@ impl SpinPoll {
         }
     }
 
-    /// Looks at the socket until something has come, for a while at most. Where other threads look at theirs, it lets others run
-    /// in between. True where a read won't wait.
-    pub fn poll(&mut self, peer: &TcpStream, load: &InteractiveLoad) -> bool {
+    /// Reads what comes within a while. Where other threads look at their sockets too, it lets others run in between. None where nothing
+    /// came, or the connection failed, which the next read that waits tells.
+    pub fn read(
+        &mut self,
+        peer: &TcpStream,
+        buf: &mut [u8],
+        load: &InteractiveLoad,
+    ) -> Option<usize>
+        ensures { IfSome result (λ n. n ≤ length buf.new) }
+    {
         if self.left > 0 {
             self.left -= 1;
-            return false;
+            return None;
         }
         load.begin_look();
-        let came = has_come(peer, load);
+        let came = read_soon(peer, buf, load);
         load.end_look();
-        self.skipped = if came { 0 } else { next_skip(self.skipped) };
+        self.skipped = if came.is_some() {
+            0
+        } else {
+            next_skip(self.skipped)
+        };
         self.left = self.skipped;
         came
     }
@@ -52,18 +64,24 @@ pub fn has_input(peer: &TcpStream) -> bool {
     poll(&mut socket, 0) > 0
 }
 
-/// Whether something has come, or the connection is over, at one of some looks.
-fn has_come(peer: &TcpStream, load: &InteractiveLoad) -> bool {
-    let mut socket = [pollfd {
-        fd: peer.as_raw_fd(),
-        events: POLLIN,
-        revents: 0,
-    }];
+/// Reads what has come. None where nothing has, or the connection failed.
+fn read_now(peer: &TcpStream, buf: &mut [u8]) -> Option<usize>
+    ensures { IfSome result (λ n. n ≤ length buf.new) }
+{
+    let came = unsafe { recv(peer.as_raw_fd(), buf, MSG_DONTWAIT) };
+    if came < 0 { None } else { Some(came as usize) }
+}
+
+/// Reads what has come at one of some looks.
+fn read_soon(peer: &TcpStream, buf: &mut [u8], load: &InteractiveLoad) -> Option<usize>
+    ensures { IfSome result (λ n. n ≤ length buf.new) }
+{
     for look in 0..SOCKET_LOOKS {
-        if poll(&mut socket, 0) > 0 {
-            return true;
+        let came = read_now(peer, buf);
+        if came.is_some() {
+            return came;
         }
         let _ = SpinLadder::at_socket(load.looking()).rest_behind(look);
     }
-    false
+    None
 }

@@ -124,7 +124,7 @@ fn who_lets_others_run(rt: HostRuntime) {
     assert!(rt; next_skip(0) == 8 && next_skip(8) == 16 && next_skip(64) == 64);
     assert!(rt; yields_behind_look(31, 32) && !yields_behind_look(32, 32));
     assert!(rt; !yields_behind_look(49, 0));
-    assert!(rt; looks_in_a_row(1) == 0 && looks_in_a_row(2) == 4 && looks_in_a_row(16) == 4);
+    assert!(rt; looks_in_a_row(1) == 0 && looks_in_a_row(2) == 1 && looks_in_a_row(16) == 1);
     assert!(rt; yields_behind(196_608, 196_608) && !yields_behind(196_607, 196_608));
 }
 
@@ -219,27 +219,29 @@ fn what_a_listener_passes_over(rt: HostRuntime) {
     assert!(rt; connections_for(1_024) == 1_008 && connections_for(3) == 0);
 }
 
-/// Whether something came when a socket was looked at before a byte was sent, and at how many of twelve looks after it.
-fn watched(rt: &HostRuntime) -> io::Result<(bool, usize)> {
+/// Whether a byte came by a read of a socket that was looked at before anything was sent, by how many of twelve reads behind it, and the
+/// latest of these bytes.
+fn watched(rt: &HostRuntime) -> io::Result<(bool, usize, u8)> {
     let (here, mut there) = UnixStream::pair(rt)?;
     let peer = &TcpStream::from(OwnedFd::from(here));
     let load = InteractiveLoad::new();
     let mut socket = SpinPoll::new();
-    let before = socket.poll(peer, &load);
-    there.write_all(b"x")?;
+    let mut byte = [0u8; 1];
+    let before = socket.read(peer, &mut byte, &load).is_some();
+    there.write_all(b"abcdefghijkl")?;
     let mut after = 0usize;
     for _ in 0..12 {
-        if socket.poll(peer, &load) {
+        if socket.read(peer, &mut byte, &load) == Some(1) {
             after = after.saturating_add(1);
         }
     }
-    Ok((before, after))
+    Ok((before, after, byte[0]))
 }
 
 #[test]
 fn a_socket_that_is_watched(rt: HostRuntime) -> Result<(), Fail> {
     // Since nothing came at first, the socket isn't looked at for eight reads.
-    assert_eq!(rt; watched(&rt)?, (false, 4));
+    assert_eq!(rt; watched(&rt)?, (false, 4, b'd'));
     Ok(())
 }
 
