@@ -1,5 +1,5 @@
 //! What a reader's holds took out of the images, for the thread that reads ahead to let go.
-ghost use Rattle.std.specs.Prelude.{◌≡◌, ◌≤◌, true, false, IfOk};
+ghost use Rattle.std.specs.Prelude.{◌≡◌, Some, None, IfOk};
 ghost use Rattle.std.specs.Bool.{OnTrue, OnFalse};
 ghost use Rattle.payload.specs.Swept.{nothing};
 
@@ -23,12 +23,15 @@ struct Discard {
 }
 
 impl Model for Discard {
-    ghost use Rattle.std.specs.Prelude.{◌≡◌, Bool, false};
+    ghost use Rattle.std.specs.Prelude.{◌≡◌, Option, Some, None, false, if◌then◌else◌};
+    ghost use Rattle.std.specs.declared.alloc.Global.{Global};
     ghost use Rattle.payload.specs.Swept.{nothing};
+    ghost use Rattle.export_cell.specs.declared.outdated.Outdated.{Outdated};
 
-    ghost Value = { Bool };
+    // What is to be let go, where there is something.
+    ghost Value = { Option (Outdated Global) };
 
-    ghost view = { λ discard. discard.is_full };
+    ghost view = { λ discard. if discard.is_full then Some discard.outdated else None };
 
     ghost invariant = { λ discard. discard.is_full ≡ false
         → (discard.outdated.live ≡ nothing) × (discard.outdated.base ≡ nothing) };
@@ -37,7 +40,7 @@ impl Model for Discard {
 impl Discard {
     /// Room, and nothing in it.
     fn with_room(alloc: Global) -> Result<Discard, NoMemory>
-        ensures { IfOk result (λ discard. discard ≡ false) }
+        ensures { IfOk result (λ discard. discard ≡ None) }
     {
         Ok(Discard {
             outdated: Outdated::with_room(alloc, OUTDATED_PAGES)?,
@@ -49,10 +52,11 @@ impl Discard {
     /// Takes what a hold took out, gives room with nothing in it in its place, and passes on the memory of pages that were let go. False
     /// where what was taken before isn't let go yet: then nothing is done.
     fn exchange(&mut self, outdated: &mut Outdated<Global>, spares: &mut Spares<Global>) -> bool
-        ensures full { self.new ≡ true }
-        ensures room { OnTrue result (self.old ≡ false) }
+        ensures room { OnTrue result (self.old ≡ None) }
+        ensures taken { OnTrue result (self.new ≡ Some outdated.old) }
         ensures live { OnTrue result (outdated.new.live ≡ nothing) }
         ensures base { OnTrue result (outdated.new.base ≡ nothing) }
+        ensures same { OnFalse result (self.new ≡ self.old) }
         ensures kept { OnFalse result (outdated.new ≡ outdated.old) }
         ensures none { OnFalse result (spares.new ≡ spares.old) }
     {
@@ -67,7 +71,7 @@ impl Discard {
 
     /// Lets go what was taken.
     fn let_go(&mut self)
-        ensures { self.new ≡ false }
+        ensures { self.new ≡ None }
     {
         if self.is_full {
             self.outdated.recycle(&mut self.spares);

@@ -37,7 +37,7 @@ pub struct ReadAhead {
     started: AtomicBool,
     over: AtomicBool,
     /// What the reader's holds took out of the images, which the other thread lets go while it reads ahead.
-    pub discards: Discards,
+    pub(crate) discards: Discards,
     /// Rung where a piece came, or the socket was given back.
     pub(crate) pieces: Bell,
     // Rung where the other thread has something to do.

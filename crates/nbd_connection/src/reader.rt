@@ -52,8 +52,7 @@ pub fn read_requests<'s, E, L: Ledger, R: Wait + Sync + time::Clock>(
             Turn::Going(_) => {}
             Turn::Held(request) => {
                 held = Some(request);
-                link.replies.ring();
-                link.seat.leave(rt, false);
+                rest(rt, link);
                 link.room
                     .wait(rt, heard, Some(Duration::from_secs(PATIENCE_S)));
             }
@@ -126,10 +125,11 @@ fn wait_for_retune<R: Wait + time::Clock>(rt: &R, link: &SessionLink<'_>) {
 }
 
 /// Before the reader waits for something else than its client: nobody waits for this session in the order of turns from now on,
-/// and the writer sends what the reader wrote.
+/// the writer sends what the reader wrote, and what was left to the thread that reads ahead is let go.
 fn rest<R: Wait + time::Clock>(rt: &R, link: &SessionLink<'_>) {
     link.seat.leave(rt, false);
     link.replies.ring();
+    link.ahead.discards.let_go();
 }
 
 /// Has the client's bytes read ahead from now on, or no longer.
