@@ -15,7 +15,7 @@ from drawing import COLOURS, Drawing
 LAYERS = [
     ("the program", ["nbdq"]),
     ("commands, scripts, files", ["nbdq_cli", "nbd_scripts", "nbd_config", "nbd_control"]),
-    ("connections, threads", ["nbd_connection", "nbd_service"]),
+    ("connections, threads", ["nbd_connection", "nbd_link", "nbd_service", "nbd_threads", "nbd_policy"]),
     ("turns under one lock", ["session_turns", "server_lock", "nbd_workers"]),
     ("one conversation", ["nbd_session", "nbd_options"]),
     ("many exports", ["server_core", "core_laws", "server_table", "turn_order"]),

@@ -1,19 +1,15 @@
 //! What a reader hands in under one hold.
 
-use crate::feed::Feed;
 use crate::heap_room::HeapRoom;
-use crate::outlet::Outlet;
-use crate::read_ahead::ReadAhead;
-use crate::rules::joined_size;
-use crate::session_link::SessionLink;
-use crate::under_way::Admitted;
 use export_cell::Outdated;
 use nbd_base::NoMemory;
-use nbd_service::policy::{
-    OUTDATED_PAGES, QUEUED_WORK, SPARES_OF_A_SESSION, brought_by, ends_hold, performs_itself,
-    size_of, waiting_until,
+use nbd_link::rules::joined_size;
+use nbd_link::{Admitted, Feed, Outlet, ReadAhead, SessionLink};
+use nbd_policy::{
+    OUTDATED_PAGES, QUEUED_WORK, RequestSize, SPARES_OF_A_SESSION, Waiting, brought_by, ends_hold,
+    performs_itself, size_of, waiting_until,
 };
-use nbd_service::{Asked, Disks, RequestSize, Service, Waiting, Wakeups, prefetch};
+use nbd_service::{Asked, Disks, Service, Wakeups, prefetch};
 use nbd_session::{Counted, Frame, FrameReader};
 use nbd_wire::{Request, RequestHead};
 use payload::Spares;

@@ -1,17 +1,15 @@
 //! One client's connection: its handshake, and then a thread that reads requests beside one that writes replies.
 
 use crate::batch::RequestSource;
-use crate::feed::Feed;
 use crate::handshake::{HandshakeClock, HandshakeSocket};
 use crate::reader::read_requests;
-use crate::session_link::SessionLink;
-use crate::turn_seat::TurnSeat;
-use crate::under_way::BytesUnderWay;
 use crate::writer::write_replies;
 use nbd_base::NoMemory;
-use nbd_service::policy::FLUSH_WAIT_MS;
-use nbd_service::{Connection, RetuneGate, Service, Wakeups};
+use nbd_link::{BytesUnderWay, Feed, SessionLink};
+use nbd_policy::FLUSH_WAIT_MS;
+use nbd_service::{Service, Wakeups};
 use nbd_session::{Counted, Entry, haggle};
+use nbd_threads::{Connection, RetuneGate, TurnSeat};
 use server_core::SessionId;
 use server_lock::Pass;
 use session_turns::Door;

@@ -1,6 +1,6 @@
 //! A client's socket during its handshake, for which it has so long and no longer.
 
-use nbd_service::policy::handshake_wait_ms;
+use nbd_policy::handshake_wait_ms;
 use std::cell::Cell;
 use std::io::{ErrorKind, Read, Write};
 use std::net::TcpStream;

@@ -1,6 +1,6 @@
 //! Room for what a session's WRITEs bring, in the C library's store of the reader's thread.
 
-use nbd_service::policy::{ROOM_BYTES, makes_room};
+use nbd_policy::{ROOM_BYTES, makes_room};
 use std::alloc::Global;
 
 /// How much of its room a session took. glibc has the kernel open new memory block by block, and all threads of the process wait for

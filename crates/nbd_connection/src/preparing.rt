@@ -1,7 +1,7 @@
 //! Replies with long data that a reader makes ready while its writer is busy.
 
-use crate::session_link::SessionLink;
-use nbd_service::policy::READY_BYTES;
+use nbd_link::SessionLink;
+use nbd_policy::READY_BYTES;
 use nbd_service::{Service, Wakeups};
 use nbd_wire::Reply;
 use server_lock::Pass;

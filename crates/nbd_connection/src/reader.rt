@@ -1,15 +1,15 @@
 //! The thread of a connection that reads requests.
 
 use crate::batch::{BatchOutcome, Offer, RequestSource};
-use crate::outlet::{FlushOutcome, Outlet};
 use crate::preparing::make_ready;
-use crate::rules::{wakes_writer, writer_chooses};
-use crate::session_link::SessionLink;
-use nbd_service::policy::{
-    BATCH, PATIENCE_S, WRITER_WAIT_MS, WRITER_WAITS, answers_read, batch_after, handed_in, load_of,
-    makes_ready, may_read_ahead, size_of, span_of,
+use nbd_link::rules::{wakes_writer, writer_chooses};
+use nbd_link::{FlushOutcome, Outlet, SessionLink};
+use nbd_policy::{
+    BATCH, PATIENCE_S, RequestSize, WRITER_WAIT_MS, WRITER_WAITS, answers_read, batch_after,
+    handed_in, load_of, makes_ready, may_read_ahead, size_of, span_of,
 };
-use nbd_service::{HoldClock, RequestSize, Service};
+use nbd_service::Service;
+use nbd_threads::HoldClock;
 use nbd_wire::Request;
 use nbd_workers::until;
 use server_lock::Pass;

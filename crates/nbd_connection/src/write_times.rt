@@ -1,8 +1,8 @@
 //! How long a session's writer writes, and what lies between its writes.
 ghost use Rattle.std.specs.Prelude.{◌≡◌, ◌-◌, if◌then◌else◌, true, false};
-ghost use Rattle.nbd_service.specs.Policy.{keeps_up_by, pace_by};
+ghost use Rattle.nbd_policy.specs.Policy.{keeps_up_by, pace_by};
 
-use nbd_service::WritePace;
+use nbd_policy::WritePace;
 use tag_clock::Moment;
 
 /// How long a session's writer writes, and what lies between its writes. Moments are in nanoseconds.

@@ -1,12 +1,11 @@
 //! The thread of a connection that writes replies.
 
 use crate::batch::waiting_in;
-use crate::outlet::Outlet;
-use crate::rules::writer_goes_on;
-use crate::session_link::SessionLink;
 use crate::write_times::WriteTimes;
-use nbd_service::policy::is_due;
-use nbd_service::{Service, Waiting, Wakeups};
+use nbd_link::rules::writer_goes_on;
+use nbd_link::{Outlet, SessionLink};
+use nbd_policy::{Waiting, is_due};
+use nbd_service::{Service, Wakeups};
 use server_lock::Pass;
 use session_turns::{ReadyReply, Stop};
 use std::alloc::Global;

@@ -1,2 +1,1 @@
-pub mod Policy
 pub mod Retunes

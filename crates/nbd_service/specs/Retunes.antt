@@ -1,20 +1,10 @@
--- The rates in force, and what comes of a retune.
-use Rattle.std.specs.Prelude.{ℕ, Bool, true, false, ◌&&◌, List, map, slice_set, Result, Ok, Err}
-use Rattle.turn_order.specs.declared.Rates.{Rates}
-use Rattle.nbd_commands.specs.Exports.{Export}
+-- What comes of a retune.
+use Rattle.std.specs.Prelude.{ℕ, Bool, true, false, ◌&&◌, Result, Ok, Err}
 use Rattle.server_core.specs.declared.refusal.NotRetuned.{NotRetuned}
 use Rattle.server_core.specs.declared.refusal.NotRetuned.TheVariants as refused
 use Rattle.nbd_service.specs.declared.retuning.RetuneOutcome.{RetuneOutcome}
 use Rattle.nbd_service.specs.declared.retuning.RetuneOutcome.TheVariants as came
-use Rattle.nbd_service.specs.Policy.{still_retunes_by}
-
--- as an export is configured
-abbrev pub rates_of : Export → Rates
-rates_of e = record { reservation = e.reservation; limit = e.limit; weight = e.weight }
-
--- one export has others; where there is no such export, all stay
-abbrev pub put_in_force : ℕ → Rates → List Rates → List Rates
-put_in_force export rates all = slice_set all export rates
+use Rattle.nbd_policy.specs.Policy.{still_retunes_by}
 
 -- what came of one try
 abbrev pub outcome_by : Result (Unit {0}) NotRetuned → RetuneOutcome

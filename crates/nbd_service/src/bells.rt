@@ -1,9 +1,8 @@
 //! Where the threads of a server sleep, and who is woken by what.
 
-use crate::policy::{LAST_MOMENT_NS, SESSION_BELLS, bell_of, wakes_worker};
-use crate::waiting::Waiting;
 use nbd_base::NoMemory;
 use nbd_commands::{Config, ExportConfig};
+use nbd_policy::{LAST_MOMENT_NS, SESSION_BELLS, Waiting, bell_of, wakes_worker};
 use nbd_workers::Bell;
 use server_core::{SessionId, Ticket};
 use std::alloc::Global;

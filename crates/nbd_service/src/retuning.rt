@@ -3,10 +3,10 @@
 ghost use Rattle.std.specs.Prelude.{◌≡◌};
 ghost use Rattle.nbd_service.specs.Retunes.{is_tried_again_by, outcome_by};
 
-use crate::policy::{RETUNE_LOOK_MS, RETUNE_LOOKS, still_retunes};
-use crate::retunes::RetuneGate;
 use crate::service::Service;
 use nbd_commands::{ConfigError, Rates, Refusal};
+use nbd_policy::{RETUNE_LOOK_MS, RETUNE_LOOKS, still_retunes};
+use nbd_threads::RetuneGate;
 use server_core::NotRetuned;
 use std::sync::Wait;
 use std::sync::ledger::Ledger;

@@ -1,23 +1,17 @@
 //! What the threads of a server share.
 
 use crate::bells::Bells;
-use crate::busy_writers::BusyWriters;
-use crate::connections::Connections;
 use crate::figures::tally_of;
-use crate::interactive::InteractiveLoad;
-use crate::long_readers::LongReaders;
 use crate::passes::PassPool;
-use crate::policy::{KEPT_BLOCK_BYTES, is_alone, still_defers};
-use crate::retunes::Retunes;
-use crate::running_clock::RunningClock;
-use crate::spare_store::SpareStore;
-use crate::spin::SpinLadder;
-use crate::turns::Turns;
 use eligibility::Heaped;
 use export_store::Paged;
 use nbd_base::NoMemory;
 use nbd_commands::Config;
 use nbd_options::ExportTable;
+use nbd_policy::{KEPT_BLOCK_BYTES, LongReaders, is_alone, still_defers};
+use nbd_threads::{
+    BusyWriters, Connections, InteractiveLoad, Retunes, RunningClock, SpareStore, SpinLadder, Turns,
+};
 use server_core::SessionId;
 use server_lock::{Booked, Pass, Shared};
 use std::alloc::Global;

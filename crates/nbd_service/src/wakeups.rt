@@ -1,9 +1,9 @@
 //! What a session's thread does for all sessions while it has the lock, and whom it wakes afterwards.
 
 use crate::bells::Bells;
-use crate::policy::{NOTED_SESSIONS, PERFORMED_FOR_ONE};
 use crate::service::Disks;
 use nbd_base::NoMemory;
+use nbd_policy::{NOTED_SESSIONS, PERFORMED_FOR_ONE};
 use server_core::{SessionId, Ticket};
 use server_lock::{Pass, turn_dispatch, turn_perform};
 use std::alloc::Global;

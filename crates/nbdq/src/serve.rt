@@ -5,9 +5,10 @@ mod tests;
 
 use crate::serving::serve_on;
 use nbd_commands::Config;
-use nbd_service::policy::CONNECTIONS;
-use nbd_service::{ServeFault, room_for_connections};
+use nbd_policy::CONNECTIONS;
+use nbd_service::ServeFault;
 use nbd_session::Counted;
+use nbd_threads::room_for_connections;
 use nbdq_cli::{Ending, Outcome, ServeTask, read_offer, write_warnings};
 use std::alloc::Global;
 use std::fs::{Files, Permissions, remove_file, set_permissions};

@@ -13,7 +13,7 @@ use idle_threads::{Guest, IdleThreads};
 use listener::{Entrance, Listener, may_pass};
 use nbd_commands::Config;
 use nbd_connection::{enter, serve};
-use nbd_service::policy::{RETRY_MS, passes_for};
+use nbd_policy::{RETRY_MS, passes_for};
 use nbd_service::{PassPool, ServeFault, Service, WorkerGate};
 use nbd_session::table_of;
 use nbd_workers::work;

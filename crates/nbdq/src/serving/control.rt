@@ -9,8 +9,9 @@ use nbd_control::{
     Answer, Command, CommandError, ExportStats, Name, Rates, Refused, ServerStats, SessionLine,
     read_command, write_answer, write_metrics, write_sessions, write_stats,
 };
-use nbd_service::policy::{CONTROL_CLIENTS, RETRY_MS};
-use nbd_service::{ExportFigures, RetuneOutcome, Service, SessionFigures};
+use nbd_policy::{CONTROL_CLIENTS, RETRY_MS};
+use nbd_service::{ExportFigures, RetuneOutcome, Service};
+use nbd_threads::SessionFigures;
 use server_core::SessionId;
 use std::alloc::Global;
 use std::net::TcpStream;

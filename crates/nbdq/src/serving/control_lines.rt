@@ -3,7 +3,7 @@
 use super::control::ControlSocket;
 use nbd_base::NoMemory;
 use nbd_control::MAX_LINE;
-use nbd_service::policy::{CONTROL_LOOK_MS, still_waits_for_line};
+use nbd_policy::{CONTROL_LOOK_MS, still_waits_for_line};
 use std::alloc::Global;
 use std::io::{ErrorKind, Read, Write};
 use std::net::TcpStream;

@@ -2,7 +2,7 @@
 
 use nbd_base::NoMemory;
 use nbd_connection::Entered;
-use nbd_service::policy::IDLE_THREADS;
+use nbd_policy::IDLE_THREADS;
 use nbd_workers::Bell;
 use std::alloc::Global;
 use std::net::TcpStream;

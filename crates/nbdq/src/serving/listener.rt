@@ -2,8 +2,8 @@
 
 use super::idle_threads::IdleThreads;
 use nbd_base::NoMemory;
-use nbd_service::keep_alive;
-use nbd_service::policy::accept_may_pass;
+use nbd_policy::accept_may_pass;
+use nbd_threads::keep_alive;
 use std::alloc::Global;
 use std::io;
 use std::io::ErrorKind;

@@ -1,0 +1,5 @@
+//! Tests of nbd_link: bytes that are read ahead.
+#![tactic(auto)]
+
+#[cfg(test)]
+mod tests;

@@ -1,0 +1,33 @@
+//! What the threads of a server know of each other and of its connections, beside the server itself: whose turn it is, who asks for
+//! little, the rates in force, the open connections with their figures, spare pages, clocks, and how a thread looks for what it waits
+//! for. The rates in force and a read that doesn't wait have contracts. The rest has none and is tested instead, since it takes locks,
+//! wakes threads, looks at sockets and reads flags that others write. Numbers and rules over values are nbd_policy's.
+#![tactic(auto)]
+
+mod busy_writers;
+mod connections;
+mod descriptors;
+mod hold_clock;
+mod interactive;
+mod keepalive;
+mod retunes;
+mod running_clock;
+mod spare_store;
+mod spin;
+mod spin_poll;
+mod turn_seat;
+mod turns;
+
+pub use busy_writers::BusyWriters;
+pub use connections::{Connection, Connections, SessionFigures, Traffic};
+pub use descriptors::room_for_connections;
+pub use hold_clock::HoldClock;
+pub use interactive::InteractiveLoad;
+pub use keepalive::keep_alive;
+pub use retunes::{RatesInForce, RetuneGate, Retunes};
+pub use running_clock::RunningClock;
+pub use spare_store::SpareStore;
+pub use spin::SpinLadder;
+pub use spin_poll::{SpinPoll, has_input};
+pub use turn_seat::TurnSeat;
+pub use turns::Turns;
