@@ -1,4 +1,3 @@
 pub mod BytesLemmas
 pub mod Overwriting
 pub mod RowLemmas
-pub mod SpareLemmas

@@ -2,10 +2,9 @@ ghost use Rattle.std.specs.Prelude.{◌≡◌, ◌+◌, ◌<◌, ◌≤◌, ◌%
 ghost use Rattle.std.specs.List.{concat};
 ghost use Rattle.payload.specs.Rows.{AreWhole, HasRoom};
 
-use crate::page::{PAGE, zeros};
+use crate::page::{PAGE, Page, zeros};
 use crate::payload::Payload;
 use crate::spares::Spares;
-use crate::unshared::{UnsharedPage, share_all};
 use bytes::BytesMut;
 use nbd_base::NoMemory;
 use std::alloc::Allocator;
@@ -16,8 +15,7 @@ use std::mem;
 #[derive(Drop)]
 pub struct Growing<A: Allocator + Copy> {
     alloc: A,
-    // They get their counts of owners at the end.
-    pages: Vec<UnsharedPage<A>, A>,
+    pages: Vec<Page<A>, A>,
     // The beginning of the page that follows.
     last: BytesMut<A>,
     // How many bytes of the first page lie before the payload, and how many there are with these.
@@ -62,7 +60,7 @@ fn begin<A: Allocator + Copy>(
 
 // One more page, of these bytes.
 fn close<A: Allocator + Copy>(
-    pages: &mut Vec<UnsharedPage<A>, A>,
+    pages: &mut Vec<Page<A>, A>,
     bytes: BytesMut<A>,
 ) -> Result<(), NoMemory>
     requires full { length bytes.items ≡ 4096 }
@@ -70,7 +68,8 @@ fn close<A: Allocator + Copy>(
     ensures whole { OnOk result (AreWhole pages.new.items) }
     ensures bytes { OnOk result (concat pages.new.items ≡ concat pages.old.items ++ bytes.items) }
 {
-    pages.push(UnsharedPage::of(bytes))?;
+    let bytes = bytes.freeze()?;
+    pages.push(Page::of(bytes))?;
     Ok(())
 }
 
@@ -78,7 +77,7 @@ fn close<A: Allocator + Copy>(
 // they are on their way to memory.
 fn fill<A: Allocator + Copy>(
     spares: &mut Spares<A>,
-    pages: &mut Vec<UnsharedPage<A>, A>,
+    pages: &mut Vec<Page<A>, A>,
     last: &mut BytesMut<A>,
     rest: &[u8],
 ) -> Result<(), NoMemory>
@@ -101,9 +100,9 @@ fn fill<A: Allocator + Copy>(
 
 // The pages, and one that begins with the bytes of the last where there are any.
 fn closed<A: Allocator + Copy>(
-    mut pages: Vec<UnsharedPage<A>, A>,
+    mut pages: Vec<Page<A>, A>,
     mut last: BytesMut<A>,
-) -> Result<Vec<UnsharedPage<A>, A>, NoMemory>
+) -> Result<Vec<Page<A>, A>, NoMemory>
     requires begun { length last.items < 4096 }
     requires room { HasRoom last }
     requires whole { AreWhole pages.items }
@@ -209,7 +208,7 @@ impl<A: Allocator + Copy> Growing<A> {
             start,
             end,
         } = self;
-        let pages = share_all(alloc, closed(pages, last)?)?;
+        let pages = closed(pages, last)?;
         Payload::among(alloc, pages, start, end)
     }
 }

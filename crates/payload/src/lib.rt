@@ -10,7 +10,6 @@ mod payload;
 mod pieces;
 mod spares;
 mod swept;
-mod unshared;
 
 pub use growing::Growing;
 pub use page::{PAGE, Page};

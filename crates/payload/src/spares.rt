@@ -11,19 +11,16 @@ use std::marker::Model;
 #[derive(Drop)]
 pub struct Spares<A: Allocator + Copy> {
     alloc: A,
-    blocks: Vec<BytesMut<A>, A>,
+    // Nobody else has one of them.
+    pages: Vec<Page<A>, A>,
 }
 
 impl<A: Allocator + Copy> Model for Spares<A> {
     ghost use Rattle.std.specs.Prelude.{ℕ, length};
-    ghost use Rattle.std.specs.List.{All};
-    ghost use Rattle.payload.specs.Spares.{IsSpare};
 
     ghost Value = { ℕ };
 
-    ghost view = { λ spares. length spares.blocks.items };
-
-    ghost invariant = { λ spares. All IsSpare spares.blocks.items };
+    ghost view = { λ spares. length spares.pages.items };
 }
 
 impl<A: Allocator + Copy> Spares<A> {
@@ -36,7 +33,7 @@ impl<A: Allocator + Copy> Spares<A> {
     {
         Spares {
             alloc,
-            blocks: Vec::new(alloc),
+            pages: Vec::new(alloc),
         }
     }
 
@@ -44,15 +41,15 @@ impl<A: Allocator + Copy> Spares<A> {
     pub fn with_places(alloc: A, most: usize) -> Result<Spares<A>, NoMemory>
         ensures { IfOk result (λ spares. spares ≡ 0) }
     {
-        let blocks = Vec::with_capacity(alloc, most)?;
-        Ok(Spares { alloc, blocks })
+        let pages = Vec::with_capacity(alloc, most)?;
+        Ok(Spares { alloc, pages })
     }
 
     /// How many there are.
     pub fn len(&self) -> usize
         ensures { result ≡ self.now }
     {
-        self.blocks.len()
+        self.pages.len()
     }
 
     /// Where memory comes from once there are none.
@@ -66,8 +63,11 @@ impl<A: Allocator + Copy> Spares<A> {
         ensures room { IfOk result (λ block. 4096 ≤ block.spare) }
         ensures one { self.new ≡ self.old - 1 }
     {
-        if let Some(block) = self.blocks.pop() {
-            return Ok(block);
+        if let Some(page) = self.pages.pop() {
+            if let Some(mut block) = page.into_bytes().reclaim() {
+                block.clear();
+                return Ok(block);
+            }
         }
         let block = BytesMut::with_capacity(self.alloc, PAGE)?;
         Ok(block)
@@ -87,12 +87,11 @@ impl<A: Allocator + Copy> Spares<A> {
     pub fn keep(&mut self, page: Page<A>)
         ensures { (self.new ≡ self.old + 1) ⊎ (self.new ≡ self.old) }
     {
-        if self.len() == self.blocks.capacity() {
+        if self.len() == self.pages.capacity() {
             return;
         }
-        if let Some(mut block) = page.into_bytes().reclaim() {
-            block.clear();
-            self.blocks.push_reserved(block);
+        if page.is_alone() {
+            self.pages.push_reserved(page);
         }
     }
 
@@ -111,13 +110,13 @@ impl<A: Allocator + Copy> Spares<A> {
             ((self.new + 1 ≡ self.old) × (others.new ≡ others.old + 1)) }
         ensures none { OnFalse result ((self.new ≡ self.old) × (others.new ≡ others.old)) }
     {
-        if others.len() == others.blocks.capacity() {
+        if others.len() == others.pages.capacity() {
             return false;
         }
-        let Some(block) = self.blocks.pop() else {
+        let Some(page) = self.pages.pop() else {
             return false;
         };
-        others.blocks.push_reserved(block);
+        others.pages.push_reserved(page);
         true
     }
 

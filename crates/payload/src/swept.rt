@@ -91,6 +91,7 @@ impl<A: Allocator + Copy> Swept<A> {
         ensures { self.new ≡ nothing }
     {
         let was_full = self.pages.len() == self.pages.capacity();
+        let _alone = self.look_at_last();
         while let Some(page) = self.pages.pop() {
             if self.pages.len() % LOOKED_AT == 0 {
                 let _alone = self.look_at_last();

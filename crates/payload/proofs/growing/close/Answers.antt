@@ -8,4 +8,4 @@ returns-clause-bytes g c =
     let pages : List (List ℕ) = c.args.pages.now.items in
     ap concat c.in_ok-push.ensures.items
     ∙ concat-next pages c.of.result
-    ∙ ap (λ (page : List ℕ). concat pages ++ page) c.of.ensures
+    ∙ ap (λ (page : List ℕ). concat pages ++ page) (c.of.ensures.bytes ∙ c.in_ok-bytes.ensures.ok)

@@ -1,4 +1,4 @@
-use Rattle.std.proofs.Common.{◌++◌, List, ℕ, ◌∙◌, ap, length, take}
+use Rattle.std.proofs.Common.{◌++◌, List, ℕ, ◌∙◌}
 use Rattle.std.specs.List.{concat}
 use Rattle.std.proofs.lemmas.Result.{IfOk-weaker}
 use Rattle.payload.proofs.RowLemmas.{behind_start}
@@ -8,6 +8,5 @@ pub returns : goal.returns
 returns g c =
     let inside = c.self.inside in
     let front = concat inside.pages.items ++ inside.last.items in
-    let shared = ap (λ (pages : List (List ℕ)). take (length front) (concat pages)) c.in_ok-pages.ensures in
-    let same = behind_start (concat c.in_ok-pages.pages.items) front inside.start inside.end (shared ∙ c.in_ok-closed.ensures.bytes) c.self.invariant.long c.self.invariant.within in
+    let same = behind_start (concat c.in_ok-pages.pages.items) front inside.start inside.end c.in_ok-pages.ensures.bytes c.self.invariant.long c.self.invariant.within in
     IfOk-weaker c.among.result _ _ (λ payload is. is ∙ same ∙ c.self.view_is) c.among.ensures
