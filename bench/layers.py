@@ -17,7 +17,7 @@ LAYERS = [
     ("commands, scripts, files", ["nbdq_cli", "nbd_scripts", "nbd_config", "nbd_control"]),
     ("connections, threads", ["nbd_connection", "nbd_link", "nbd_service", "nbd_threads", "nbd_policy"]),
     ("turns under one lock", ["session_turns", "server_lock", "nbd_workers"]),
-    ("one conversation", ["nbd_session", "nbd_options"]),
+    ("one conversation", ["nbd_session", "nbd_options", "nbd_stream"]),
     ("many exports", ["server_core", "core_laws", "server_table", "turn_order"]),
     ("one export", ["export_cell", "step_log", "lone_export"]),
     ("its parts", ["nbd_commands", "export_queue", "export_store", "page_table", "number_sets", "reply_box", "eligibility"]),

@@ -76,7 +76,7 @@ NONE = {
     "payload Page::as_bytes": ONE_FIELD,
     "payload Page::into_bytes": MADE_OF,
     "payload Swept::new": NO_MEMORY,
-    "nbd_session Counted::into_inner": MADE_OF,
+    "nbd_stream Counted::into_inner": MADE_OF,
     "number_sets HeldZeros::none": NO_MEMORY,
     "page_table Table::new": NO_MEMORY,
     "session_turns Door::into_pass": MADE_OF,

@@ -10,7 +10,7 @@ use nbd_policy::{
     performs_itself, size_of, waiting_until,
 };
 use nbd_service::{Asked, Disks, Service, Wakeups, prefetch};
-use nbd_session::{Counted, Frame, FrameReader};
+use nbd_stream::{Counted, Frame, FrameReader};
 use nbd_wire::{Request, RequestHead};
 use payload::Spares;
 use server_lock::Pass;

@@ -6,8 +6,8 @@ use crate::read_ahead::Piece;
 use crate::session_link::SessionLink;
 use nbd_base::NoMemory;
 use nbd_policy::MUCH_READ_BYTES;
-use nbd_session::{Buffered, append_front};
-use nbd_threads::SpinPoll;
+use nbd_stream::{Buffered, append_front};
+use nbd_threads::SpinRead;
 use payload::{Growing, Spares};
 use std::alloc::Allocator;
 use std::io::Read;
@@ -30,7 +30,7 @@ pub struct Feed<'a, 'b, R: Wait + time::Clock> {
     // The piece that is read from, and how many of its bytes were.
     piece: Option<Piece>,
     used: usize,
-    poll: SpinPoll,
+    soon: SpinRead,
     // Whether the next bytes begin a request.
     is_between: bool,
 }
@@ -42,7 +42,7 @@ impl<'a, 'b, R: Wait + time::Clock> Feed<'a, 'b, R> {
             link,
             piece: None,
             used: 0,
-            poll: SpinPoll::new(),
+            soon: SpinRead::new(),
             is_between: true,
         }
     }
@@ -94,7 +94,7 @@ impl<'a, 'b, R: Wait + time::Clock> Feed<'a, 'b, R> {
         if self.link.is_bulk() {
             return None;
         }
-        let came = self.poll.read(self.link.peer, buf, self.link.interactive)?;
+        let came = self.soon.read(self.link.peer, buf, self.link.interactive)?;
         if self.is_between {
             self.link.seat.note_input();
         }

@@ -1,7 +1,7 @@
 //! What the threads of one connection share: the session with its outlet (`SessionLink`), where its bytes come from (`Feed`, `ReadAhead`),
-//! and what of it is under way. `rules` has what the threads decide by values, with contracts, as
-//! parts of `Feed` and of `Discards` have; numbers and the other rules are nbd_policy's. The rest has no contract and is tested
-//! instead, since it reads and writes sockets, takes locks and wakes threads.
+//! and what of it is under way. `rules` has what the threads decide by values, with contracts, as parts of `Feed` and of `Discards` have;
+//! numbers and the other rules are nbd_policy's. The rest has no contract and is tested instead, since it reads and writes sockets, takes
+//! locks and wakes threads.
 #![tactic(auto)]
 
 mod discards;

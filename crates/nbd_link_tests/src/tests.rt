@@ -1,6 +1,6 @@
 use export_cell::Outdated;
 use nbd_link::{BytesUnderWay, Discards, Feed, SessionLink};
-use nbd_session::Buffered;
+use nbd_stream::Buffered;
 use nbd_threads::{InteractiveLoad, RetuneGate, Traffic, TurnSeat, Turns};
 use nbd_workers::Bell;
 use payload::{Growing, Spares};

@@ -2,8 +2,8 @@
 use Rattle.std.proofs.Common.{◌≡◌, ℕ, List, [], ◌++◌, append_assoc, append-nil, Option, Some, None, refl, sym, ap, ◌∙◌, subst}
 use Rattle.std.proofs.lemmas.List.{append_cancel_left}
 use Rattle.std.specs.Io.KnownBytes.{append_known, Appends}
-use Rattle.nbd_session.specs.Streams.{WritesPart}
-use Rattle.nbd_session.proofs.TextPartLemmas.{part_behind}
+use Rattle.nbd_stream.specs.Streams.{WritesPart}
+use Rattle.nbd_stream.proofs.TextPartLemmas.{part_behind}
 use Rattle.nbd_scripts.specs.Told.{CutShort}
 
 -- what the output would hold with all of it

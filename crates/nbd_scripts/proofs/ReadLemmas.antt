@@ -1,7 +1,7 @@
 -- What is read of known bytes.
 use Rattle.std.proofs.Common.{ℕ, List, [], append-nil, Option, Some, None, refl, subst}
 use Rattle.std.specs.Io.KnownBytes.{Consumes, IsAtEnd}
-use Rattle.nbd_session.proofs.KnownLemmas.{Consumes-then}
+use Rattle.nbd_stream.proofs.KnownLemmas.{Consumes-then}
 use Rattle.nbd_scripts.specs.Told.{IsWhole}
 
 pub nothing_read : (known : Option (List ℕ)) → Consumes known known []

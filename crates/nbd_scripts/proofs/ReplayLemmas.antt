@@ -10,10 +10,10 @@ use Rattle.server_table.specs.Steps.{step, table_after}
 use Rattle.server_table.specs.Shares.{mark_of, marks_of}
 use Rattle.server_core.specs.Served.{Served, Stepped, opening_served}
 use Rattle.server_core.proofs.Goings.{Going, one_more}
-use Rattle.nbd_session.specs.Streams.{WritesPart}
-use Rattle.nbd_session.proofs.KnownLemmas.{Appends-then}
-use Rattle.nbd_session.proofs.BufferLemmas.{Appends-none}
-use Rattle.nbd_session.proofs.TextPartLemmas.{part_behind}
+use Rattle.nbd_stream.specs.Streams.{WritesPart}
+use Rattle.nbd_stream.proofs.KnownLemmas.{Appends-then}
+use Rattle.nbd_stream.proofs.BufferLemmas.{Appends-none}
+use Rattle.nbd_stream.proofs.TextPartLemmas.{part_behind}
 use Rattle.nbd_scripts.specs.declared.outcome.Outcome.{Outcome}
 use Rattle.nbd_scripts.specs.declared.outcome.Outcome.TheVariants as outcome
 use Rattle.nbd_scripts.specs.declared.replay_line.ReplayLine.{ReplayLine}

@@ -2,7 +2,7 @@
 use Rattle.std.proofs.Common.{◌≡◌, ℕ, List, Option, inl, inr}
 use Rattle.std.specs.Prelude.{◌⊎◌}
 use Rattle.std.specs.Io.KnownBytes.{Appends}
-use Rattle.nbd_session.specs.Streams.{WritesPart}
+use Rattle.nbd_stream.specs.Streams.{WritesPart}
 use Rattle.nbd_scripts.specs.Told.{Writes}
 use Rattle.nbd_scripts.specs.declared.outcome.Outcome.{Outcome}
 use Rattle.nbd_scripts.specs.declared.outcome.Outcome.TheVariants.{Done, NoMemory, WriteFailed}

@@ -3,7 +3,7 @@ use Rattle.std.specs.Prelude.{◌≡◌, ◌≢◌, ℕ, ◌⊎◌, List, ◌++�
 use Rattle.std.specs.Fmt.{decimal}
 use Rattle.std.specs.Io.KnownBytes.{append_known, Appends, Consumes, IsAtEnd}
 use Rattle.nbd_commands.specs.Refusals.{code_of}
-use Rattle.nbd_session.specs.Streams.{Rises, WritesPart}
+use Rattle.nbd_stream.specs.Streams.{Rises, WritesPart}
 use Rattle.nbd_scripts.specs.declared.fault.LineFault.{LineFault}
 use Rattle.nbd_scripts.specs.declared.fault.LineFault.TheVariants.{Form, Value}
 use Rattle.nbd_scripts.specs.declared.fault.LineFault.TheVariants as fault

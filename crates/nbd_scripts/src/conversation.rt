@@ -3,7 +3,7 @@
 ghost use Rattle.std.specs.Prelude.{◌≡◌, ◌≢◌, ◌⊎◌, IfOk, IsErr, codes};
 ghost use Rattle.std.specs.Io.KnownBytes.{Appends};
 ghost use Rattle.hex.specs.Hex.{decode_of};
-ghost use Rattle.nbd_session.specs.Streams.{WritesPart};
+ghost use Rattle.nbd_stream.specs.Streams.{WritesPart};
 ghost use Rattle.nbd_scripts.specs.Told.{CountsRead, CountsWrite, CutShort};
 ghost use Rattle.nbd_scripts.specs.Scripts.{TellsTalk};
 ghost use Rattle.nbd_scripts.specs.Output.{is_gap, digits_of, printed, word_of, Prints};
@@ -16,7 +16,8 @@ use crate::writing::tell_text;
 use hex::FromHexError;
 use nbd_base::NoMemory;
 use nbd_commands::Config;
-use nbd_session::{Counted, End, talk};
+use nbd_session::{End, talk};
+use nbd_stream::Counted;
 use std::alloc::Allocator;
 use std::io::{Read, Write};
 

@@ -5,7 +5,7 @@ ghost use Rattle.nbd_scripts.specs.Told.{CountsRead, IsWhole};
 
 use crate::outcome::Outcome;
 use nbd_base::NoMemory;
-use nbd_session::Counted;
+use nbd_stream::Counted;
 use std::alloc::Allocator;
 use std::io::Read;
 

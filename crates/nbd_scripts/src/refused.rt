@@ -7,7 +7,7 @@ use crate::fault::LineFault;
 use crate::outcome::Outcome;
 use crate::writing::tell_text;
 use nbd_base::NoMemory;
-use nbd_session::Counted;
+use nbd_stream::Counted;
 use nbd_text::or_no_memory;
 use std::alloc::Allocator;
 use std::io::Write;

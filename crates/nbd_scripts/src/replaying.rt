@@ -19,7 +19,7 @@ use eligibility::Heaped;
 use export_store::Paged;
 use nbd_base::NoMemory;
 use nbd_commands::Config;
-use nbd_session::Counted;
+use nbd_stream::Counted;
 use nbd_text::or_no_memory;
 use server_core::Server;
 use std::alloc::Allocator;

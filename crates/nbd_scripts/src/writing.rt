@@ -1,11 +1,11 @@
 //! Writing a text, and what is written of it where a write fails.
 
 ghost use Rattle.std.specs.Prelude.{◌≡◌, ◌≢◌, ◌⊎◌};
-ghost use Rattle.nbd_session.specs.Streams.{Rises};
+ghost use Rattle.nbd_stream.specs.Streams.{Rises};
 ghost use Rattle.nbd_scripts.specs.Told.{Writes};
 
 use crate::outcome::Outcome;
-use nbd_session::{Counted, WriteFailed, put};
+use nbd_stream::{Counted, WriteFailed, put};
 use std::io::Write;
 
 /// Writes a text, and answers `well` where all of it is written.

@@ -20,8 +20,8 @@ use Rattle.nbd_session.specs.declared.option_input.Offer.TheVariants as offers
 use Rattle.nbd_session.specs.Options.{asked_text, GoesOn}
 use Rattle.nbd_session.specs.Haggling.{TakesOption}
 use Rattle.nbd_session.specs.Askings.{asked_at, asked_in, last_text, Asks, AsksBehind, EndsBy, IsOutside}
-use Rattle.nbd_session.proofs.KnownLemmas.{Consumes-then}
-use Rattle.nbd_session.proofs.BufferLemmas.{Consumes-none}
+use Rattle.nbd_stream.proofs.KnownLemmas.{Consumes-then}
+use Rattle.nbd_stream.proofs.BufferLemmas.{Consumes-none}
 
 -- one more at the end
 flat_map-last : {A B : Type 0} (f : A → List B) (xs : List A) (a : A) → flat_map f (xs ++ a ∷ []) ≡ flat_map f xs ++ f a

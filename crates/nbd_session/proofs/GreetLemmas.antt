@@ -10,10 +10,10 @@ use Rattle.nbd_session.specs.declared.outcomes.End.{End}
 use Rattle.nbd_session.specs.declared.outcomes.End.TheVariants as ends
 use Rattle.nbd_session.specs.declared.outcomes.Entry.TheVariants as entries
 use Rattle.nbd_session.specs.declared.outcomes.TalkFault.TheVariants as faults
-use Rattle.nbd_session.specs.Streams.{WritesPart}
+use Rattle.nbd_stream.specs.Streams.{WritesPart}
 use Rattle.nbd_session.specs.Outcomes.{Converses, Going}
 use Rattle.nbd_session.specs.Conversation.{FlagsStop, Handshake, HagglesOn, IsEntryTold}
-use Rattle.nbd_session.proofs.BufferLemmas.{Consumes-none}
+use Rattle.nbd_stream.proofs.BufferLemmas.{Consumes-none}
 
 module _ (may : ℕ → Attached → Type 0) (table : List ExportFacts) where
   -- the greeting was said, and so the flags end the handshake

@@ -24,12 +24,12 @@ use Rattle.nbd_session.specs.declared.outcomes.TalkFault.{TalkFault}
 use Rattle.nbd_session.specs.declared.outcomes.TalkFault.TheVariants as faults
 use Rattle.nbd_session.specs.declared.option_input.Offer.{Offer}
 use Rattle.nbd_session.specs.declared.option_input.Offer.TheVariants as offers
-use Rattle.nbd_session.specs.Streams.{WritesPart}
+use Rattle.nbd_stream.specs.Streams.{WritesPart}
 use Rattle.nbd_session.specs.Options.{asked_text, text_to, MayAnswer, IsAsked, GoesOn, entry_after, OptionStops, StopsAt, Leaves, Haggles}
 use Rattle.nbd_session.specs.Haggling.{TakesOption, IsSeen, Answers}
 use Rattle.nbd_session.specs.Outcomes.{Converses, IsBeginning, Going}
 use Rattle.nbd_session.specs.Conversation.{HagglesOn, IsLeft, IsEntryTold}
-use Rattle.nbd_session.proofs.BufferLemmas.{Appends-none}
+use Rattle.nbd_stream.proofs.BufferLemmas.{Appends-none}
 
 -- the bytes of a whole option
 pub record GotOption (seen : ℕ) (old new : Option (List ℕ)) (number : ℕ) (content : List ℕ) : Type 0 where

@@ -12,19 +12,18 @@ use Rattle.nbd_session.specs.declared.outcomes.End.{End}
 use Rattle.nbd_session.specs.declared.outcomes.End.TheVariants as ends
 use Rattle.nbd_session.specs.declared.outcomes.TalkFault.{TalkFault}
 use Rattle.nbd_session.specs.declared.outcomes.TalkFault.TheVariants as faults
-use Rattle.nbd_session.specs.declared.ending.Ending.{Ending}
-use Rattle.nbd_session.specs.declared.ending.Ending.TheVariants as ending
-use Rattle.nbd_session.specs.declared.ending.Frame.{Frame}
-use Rattle.nbd_session.specs.declared.ending.Frame.TheVariants as frames
-use Rattle.nbd_session.specs.Conversation.{AreBytes}
-use Rattle.nbd_session.specs.Frames.{Reading, Nexts, IsNext, IsEnded, EndsReader, Stops, Gives, end_by}
+use Rattle.nbd_stream.specs.declared.ending.Ending.{Ending}
+use Rattle.nbd_stream.specs.declared.ending.Ending.TheVariants as ending
+use Rattle.nbd_stream.specs.declared.ending.Frame.{Frame}
+use Rattle.nbd_stream.specs.declared.ending.Frame.TheVariants as frames
+use Rattle.nbd_stream.specs.Streams.{AreBytes, Rises, WritesPart}
+use Rattle.nbd_stream.specs.Frames.{Reading, Nexts, IsNext, IsEnded, EndsReader, Stops, Gives}
+use Rattle.nbd_session.specs.Outcomes.{end_by, IsTold, Claims, Converses, IsBeginning}
 use Rattle.nbd_session.specs.Requests.{after, reply_to, FindsWorn, Serves, StopsBy, IsAnswered}
-use Rattle.nbd_session.specs.Outcomes.{IsTold, Claims, Converses, IsBeginning}
-use Rattle.nbd_session.specs.Streams.{Rises, WritesPart}
-use Rattle.nbd_session.proofs.KnownLemmas.{Appends-then, Consumes-then}
-use Rattle.nbd_session.proofs.BufferLemmas.{Appends-none, Consumes-none}
+use Rattle.nbd_stream.proofs.KnownLemmas.{Appends-then, Consumes-then}
+use Rattle.nbd_stream.proofs.BufferLemmas.{Appends-none, Consumes-none}
 use Rattle.nbd_session.proofs.OutcomeLemmas.{Claims-after}
-use Rattle.nbd_session.proofs.FrameLemmas.{append_bytes}
+use Rattle.nbd_stream.proofs.FrameLemmas.{append_bytes}
 use Rattle.nbd_session.proofs.ServeLemmas.{stops, goes_on, IsServed, is_fresh, told, led}
 use Rattle.nbd_session.proofs.SomeConversation.{some_serving, bytes_behind}
 

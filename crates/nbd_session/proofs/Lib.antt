@@ -1,7 +1,3 @@
-pub mod KnownLemmas
-pub mod BufferLemmas
-pub mod FrameLemmas
-pub mod IntakeLemmas
 pub mod OutcomeLemmas
 pub mod Turns
 pub mod ServingLemmas
@@ -20,4 +16,3 @@ pub mod KeptLemmas
 pub mod TalkLemmas
 pub mod HaggledLemmas
 pub mod Worked
-pub mod TextPartLemmas

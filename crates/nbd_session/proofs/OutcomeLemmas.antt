@@ -3,8 +3,8 @@ use Rattle.std.proofs.Common.{ℕ, List, [], ◌++◌, Option, Result, Ok, Err, 
 use Rattle.nbd_session.specs.declared.outcomes.TalkFault.{TalkFault}
 use Rattle.nbd_session.specs.declared.outcomes.TalkFault.TheVariants as faults
 use Rattle.nbd_session.specs.Outcomes.{Claims, Converses, Going}
-use Rattle.nbd_session.proofs.KnownLemmas.{Appends-then, Consumes-then}
-use Rattle.nbd_session.proofs.BufferLemmas.{Appends-none, Consumes-none}
+use Rattle.nbd_stream.proofs.KnownLemmas.{Appends-then, Consumes-then}
+use Rattle.nbd_stream.proofs.BufferLemmas.{Appends-none, Consumes-none}
 
 module _ {E : Type 0} where
   pub Claims-after : (Told : Option (List ℕ) → E → Type 0) (P Q : List ℕ → List ℕ → E → Type 0) (new : Option (List ℕ)) (b0 t0 b t : List ℕ) (answer : Result E TalkFault)

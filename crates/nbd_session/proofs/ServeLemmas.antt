@@ -13,7 +13,7 @@ use Rattle.lone_export.specs.Alone.{Alone}
 use Rattle.lone_export.specs.Lone.{Whole}
 use Rattle.nbd_session.specs.Plainly.{reply_of, steps_for, behind, IsIdle}
 use Rattle.nbd_session.proofs.Turns.{IsTurn, turn, rests_behind, count_is, few_steps, finds_fresh, finds_worn, opened_count}
-use Rattle.nbd_session.proofs.BufferLemmas.{Appends-none, Consumes-none}
+use Rattle.nbd_stream.proofs.BufferLemmas.{Appends-none, Consumes-none}
 
 pub stops : (terms : Terms) (s : Alone) (bytes : List ℕ) (end : End) → StopsBy bytes end → Serves terms s bytes [] end
 stops terms s bytes end h = record { requests = []; rest = bytes; spelled = refl; said = refl; answered = tt; ends = inl h }

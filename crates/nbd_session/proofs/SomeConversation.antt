@@ -30,7 +30,8 @@ use Rattle.nbd_options.specs.Haggled.{Asked, said_to, wants_no_zeroes, greeting_
 use Rattle.nbd_session.specs.declared.outcomes.Entry.{Entry}
 use Rattle.nbd_session.specs.declared.outcomes.Entry.TheVariants as entries
 use Rattle.nbd_session.specs.Options.{asked_text, text_to, MayAnswer, IsAsked, OptionStops, Haggles, entry_after}
-use Rattle.nbd_session.specs.Conversation.{AreBytes, FlagsStop, Greeted, IsGiven, facts_of, ServesAt, Continues, Talked}
+use Rattle.nbd_session.specs.Conversation.{FlagsStop, Greeted, IsGiven, facts_of, ServesAt, Continues, Talked}
+use Rattle.nbd_stream.specs.Streams.{AreBytes}
 use Rattle.nbd_session.proofs.ServeLemmas.{stops, goes_on}
 use Rattle.nbd_session.proofs.HaggleLemmas.{stops_here, leaves_here, same_said}
 use Rattle.nbd_session.proofs.HaggleLemmas as row

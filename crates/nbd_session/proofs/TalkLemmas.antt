@@ -21,7 +21,7 @@ use Rattle.nbd_session.specs.Requests.{Serves, opened}
 use Rattle.nbd_session.specs.Options.{asked_text, Haggles, StopsAt}
 use Rattle.nbd_session.specs.Outcomes.{Converses, IsTold, Going}
 use Rattle.nbd_session.specs.Conversation.{FlagsStop, Greeted, Shaken, Handshake, IsEntryTold, IsGiven, facts_of, ServesAt, Talked}
-use Rattle.nbd_session.proofs.BufferLemmas.{Appends-none, Consumes-none}
+use Rattle.nbd_stream.proofs.BufferLemmas.{Appends-none, Consumes-none}
 use Rattle.nbd_session.proofs.ServeLemmas.{stops}
 use Rattle.nbd_session.proofs.OneHaggling.{given_of}
 use Rattle.nbd_session.proofs.InTable.{HasPlace, IsIn, inside_of}

@@ -1,5 +1,5 @@
 -- The whole conversation of one client.
-use Rattle.std.specs.Prelude.{◌≡◌, ℕ, ◌<◌, ◌⊎◌, ◌^◌, Bool, List, [], ◌++◌, map, length, get_or, Option, Some, None, slice_get}
+use Rattle.std.specs.Prelude.{◌≡◌, ℕ, ◌<◌, ◌⊎◌, ◌^◌, Bool, List, [], ◌++◌, map, length, Option, Some, None, slice_get}
 use Rattle.std.specs.Int.{w32, to_be_bytes}
 use Rattle.nbd_commands.specs.Exports.{Export, flags_of}
 use Rattle.nbd_commands.specs.Terms.{terms_of}
@@ -14,6 +14,7 @@ use Rattle.nbd_session.specs.declared.outcomes.Entry.TheVariants as entries
 use Rattle.nbd_session.specs.Options.{Haggles}
 use Rattle.nbd_session.specs.Requests.{Serves, opened}
 use Rattle.nbd_session.specs.Outcomes.{IsTold}
+use Rattle.nbd_stream.specs.Streams.{AreBytes}
 
 -- ---- the handshake
 
@@ -91,10 +92,6 @@ pub record Talked (exports : List Export) (bytes text : List ℕ) (end : End) : 
   pub shaken : Shaken IsGiven (map facts_of exports) bytes first entry rest
   pub said : text ≡ first ++ later
   pub continues : Continues exports entry rest later end
-
--- each is a byte
-abbrev pub AreBytes : List ℕ → Type 0
-AreBytes bytes = (i : ℕ) → get_or bytes i 0 < 256
 
 -- To these bytes the server says one text, and ends in one way.
 abbrev pub OneConversation : List Export → Type 0

@@ -15,7 +15,7 @@ use Rattle.nbd_options.specs.Asking.{Asking, asked_by}
 use Rattle.nbd_options.specs.Replies.{ClientOption, next_after}
 use Rattle.nbd_options.specs.Haggled.{Said, said_to}
 use Rattle.nbd_session.specs.Options.{OptionStops, MayAnswer}
-use Rattle.nbd_session.specs.Streams.{WritesPart}
+use Rattle.nbd_stream.specs.Streams.{WritesPart}
 use Rattle.nbd_session.specs.Outcomes.{IsTold}
 
 -- the bytes are those of an option that is answered

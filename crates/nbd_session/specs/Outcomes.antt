@@ -1,6 +1,8 @@
 -- What a call that converses read, wrote and answered.
 use Rattle.std.specs.Prelude.{ℕ, List, ◌++◌, Option, Result, Ok, Err}
 use Rattle.std.specs.Io.KnownBytes.{Consumes, Appends, IsAtEnd}
+use Rattle.nbd_stream.specs.declared.ending.Ending.{Ending}
+use Rattle.nbd_stream.specs.declared.ending.Ending.TheVariants as endings
 use Rattle.nbd_session.specs.declared.outcomes.End.{End}
 use Rattle.nbd_session.specs.declared.outcomes.End.TheVariants as ends
 use Rattle.nbd_session.specs.declared.outcomes.TalkFault.{TalkFault}
@@ -11,6 +13,15 @@ abbrev pub IsTold : Option (List ℕ) → End → Type 0
 IsTold new ends.Over = IsAtEnd new
 IsTold new ends.Cut = IsAtEnd new
 IsTold new end = Unit {0}
+
+-- how a conversation ends where the reading of its requests ended so
+abbrev pub end_by : Ending → Result End TalkFault
+end_by endings.Over = Ok ends.Over
+end_by endings.Cut = Ok ends.Cut
+end_by endings.BadMagic = Ok ends.BadMagic
+end_by endings.TooLong = Ok ends.TooLong
+end_by endings.ReadFailed = Err faults.ReadFailed
+end_by endings.NoMemory = Err faults.NoMemory
 
 module _ {E : Type 0} where
   -- the text is a beginning of what is said to these bytes

@@ -1,6 +1,6 @@
 ghost use Rattle.std.specs.Prelude.{◌≡◌, [], OnOk, IsErrOf};
 ghost use Rattle.std.specs.Int.{w32, to_be_bytes};
-ghost use Rattle.nbd_session.specs.Streams.{Rises};
+ghost use Rattle.nbd_stream.specs.Streams.{Rises};
 ghost use Rattle.nbd_session.specs.Outcomes.{Converses};
 ghost use Rattle.nbd_session.specs.Conversation.{Handshake, IsEntryTold, HagglesOn};
 ghost use Rattle.nbd_session.specs.Options.{MayAnswer, entry_after};
@@ -9,13 +9,12 @@ ghost use Rattle.nbd_session.specs.Askings.{Asks, AsksBehind};
 ghost use Rattle.nbd_base.specs.Logs.{Notes};
 ghost use Rattle.nbd_options.specs.Asking.{asked_by};
 
-use crate::counted::Counted;
-use crate::exact_io::{Filled, fill, put};
 use crate::option_input::{Offer, read_option};
 use crate::outcomes::{End, Entry, TalkFault};
 use nbd_options::{
     Attach, Attached, ExportTable, Haggle, HaggleEnd, HeadFault, Next, greeting, no_zeroes, said,
 };
+use nbd_stream::{Counted, Filled, fill, put};
 use std::alloc::Allocator;
 use std::io::{Read, Write};
 

@@ -1,12 +1,11 @@
 ghost use Rattle.std.specs.Prelude.{◌≡◌, ℕ, ◌++◌, ◌+◌, ◌^◌, ◌<◌, ◌≤◌, [], length, IfOk, IsErrOf};
 ghost use Rattle.nbd_wire.specs.Grammar.{option_head_text};
-ghost use Rattle.nbd_session.specs.Streams.{Rises};
+ghost use Rattle.nbd_stream.specs.Streams.{Rises};
 ghost use Rattle.nbd_session.specs.Haggling.{TakesOption, IsSeen};
 
-use crate::counted::Counted;
-use crate::exact_io::{Filled, fill};
 use crate::outcomes::{End, TalkFault};
 use nbd_options::{Haggle, HeadFault};
+use nbd_stream::{Counted, Filled, fill};
 use std::alloc::Allocator;
 use std::io::Read;
 

@@ -1,5 +1,5 @@
-use crate::exact_io::WriteFailed;
 use nbd_base::NoMemory;
+use nbd_stream::WriteFailed;
 use std::alloc::{AllocError, AllocFailed};
 use thiserror::Error;
 

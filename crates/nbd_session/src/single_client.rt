@@ -1,17 +1,16 @@
 ghost use Rattle.std.specs.Prelude.{◌≡◌, ◌≤◌, map, length, IfOk, OnOk, IsErrOf};
 ghost use Rattle.nbd_commands.specs.Exports.{flags_of};
-ghost use Rattle.nbd_session.specs.Streams.{Rises};
+ghost use Rattle.nbd_stream.specs.Streams.{Rises};
 ghost use Rattle.nbd_session.specs.Outcomes.{Converses, IsTold};
 ghost use Rattle.nbd_session.specs.Conversation.{Talked, facts_of};
 
-use crate::buffered::Buffered;
-use crate::counted::Counted;
 use crate::haggling::haggle;
 use crate::outcomes::{End, Entry, TalkFault};
 use crate::transmission::transmit;
 use nbd_base::NoMemory;
 use nbd_commands::{Config, ExportConfig};
 use nbd_options::{Always, ExportTable};
+use nbd_stream::{Buffered, Counted};
 use std::alloc::Allocator;
 use std::io::Write;
 

@@ -1,25 +1,19 @@
-ghost use Rattle.std.specs.Prelude.{◌≡◌, ◌==◌, OnOk, OnErr, IsErrOf};
+ghost use Rattle.std.specs.Prelude.{◌≡◌, OnOk, OnErr, IsErrOf};
 ghost use Rattle.std.specs.Io.KnownBytes.{Appends};
 ghost use Rattle.nbd_wire.specs.Grammar.{reply_text};
 ghost use Rattle.nbd_commands.specs.Terms.{terms_of};
-ghost use Rattle.nbd_session.specs.Streams.{Rises, WritesPart};
+ghost use Rattle.nbd_stream.specs.Streams.{Rises, WritesPart};
 ghost use Rattle.nbd_session.specs.Requests.{Serves, opened};
 ghost use Rattle.nbd_session.specs.Plainly.{IsIdle};
-ghost use Rattle.nbd_session.specs.Outcomes.{Converses, IsTold};
-ghost use Rattle.nbd_session.specs.Frames.{end_by};
+ghost use Rattle.nbd_session.specs.Outcomes.{Converses, IsTold, end_by};
 
-use crate::buffered::Buffered;
-use crate::counted::Counted;
-use crate::ending::{Ending, Frame};
-use crate::exact_io::put;
-use crate::frames::Frames;
 use crate::outcomes::{End, TalkFault};
 use crate::serving::{open, serve};
 use export_store::{Image, Paged};
 use lone_export::Lone;
 use nbd_commands::ExportConfig;
-use nbd_wire::protocol::DISC;
-use nbd_wire::{Reply, RequestHead, write_reply};
+use nbd_stream::{Buffered, Counted, Ending, Frame, Frames, is_disc, put};
+use nbd_wire::{Reply, write_reply};
 use std::alloc::Allocator;
 use std::io::Write;
 
@@ -95,13 +89,6 @@ fn end_of(ending: Ending) -> Result<End, TalkFault>
         Ending::ReadFailed => Err(TalkFault::ReadFailed),
         Ending::NoMemory => Err(TalkFault::NoMemory),
     }
-}
-
-/// Whether a request ends the session. Its other fields are ignored.
-pub fn is_disc(head: RequestHead) -> bool
-    ensures { result ≡ (head.kind == 2) }
-{
-    head.kind == DISC
 }
 
 /// Writes a reply.

@@ -4,6 +4,7 @@ use nbd_base::NoMemory;
 use nbd_commands::{Config, ExportList, ExportSettings};
 use nbd_options::Always;
 use nbd_session::*;
+use nbd_stream::*;
 use nbd_wire::{Reply, RequestHead, write_head};
 use payload::{Growing, Payload, Spares};
 use refusing::Refusing;

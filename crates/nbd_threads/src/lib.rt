@@ -14,7 +14,7 @@ mod retunes;
 mod running_clock;
 mod spare_store;
 mod spin;
-mod spin_poll;
+mod spin_read;
 mod turn_seat;
 mod turns;
 
@@ -28,6 +28,6 @@ pub use retunes::{RatesInForce, RetuneGate, Retunes};
 pub use running_clock::RunningClock;
 pub use spare_store::SpareStore;
 pub use spin::SpinLadder;
-pub use spin_poll::{SpinPoll, has_input};
+pub use spin_read::{SpinRead, has_input};
 pub use turn_seat::TurnSeat;
 pub use turns::Turns;

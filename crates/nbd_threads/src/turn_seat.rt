@@ -1,7 +1,7 @@
 //! A session's place in the order of turns.
 
 use crate::running_clock::RunningClock;
-use crate::spin_poll::has_input;
+use crate::spin_read::has_input;
 use crate::turns::Turns;
 use nbd_policy::{RequestSize, asks_for_turn, backlog_after, cost_of, has_more, size_of};
 use nbd_wire::{Request, RequestHead};
@@ -143,13 +143,6 @@ impl<'a> TurnSeat<'a> {
         }
     }
 
-    /// Something had come behind the latest request.
-    pub fn note_input(&self) {
-        if self.is_waited_for() {
-            set(&self.had_input, true);
-        }
-    }
-
     /// The same where it is known that nothing has come.
     pub fn wait_for_pieces<R: Wait + time::Clock>(&self, rt: &R, under_way: u64) {
         if !self.is_waited_for() {
@@ -160,6 +153,13 @@ impl<'a> TurnSeat<'a> {
         } else {
             let much = self.backlog.load(Ordering::SeqCst) > 0;
             self.leave(rt, much && self.writes_long.load(Ordering::SeqCst));
+        }
+    }
+
+    /// The reader got bytes without a wait: more had come behind the latest request.
+    pub fn note_input(&self) {
+        if self.is_waited_for() {
+            set(&self.had_input, true);
         }
     }
 

@@ -10,7 +10,7 @@ use nbd_policy::{
     size_of, span_of, still_defers, still_retunes, still_waits_for_line, suits_reader,
     waiting_until, wakes_worker, yields_behind, yields_behind_look,
 };
-use nbd_threads::{BusyWriters, InteractiveLoad, RunningClock, SpinPoll, Turns};
+use nbd_threads::{BusyWriters, InteractiveLoad, RunningClock, SpinRead, Turns};
 use nbd_wire::RequestHead;
 use nbd_wire::protocol::{CACHE, FLUSH, READ, TRIM, WRITE, WRITE_ZEROES};
 use std::alloc::Global;
@@ -222,7 +222,7 @@ fn watched(rt: &HostRuntime) -> io::Result<(bool, usize, u8)> {
     let (here, mut there) = UnixStream::pair(rt)?;
     let peer = &TcpStream::from(OwnedFd::from(here));
     let load = InteractiveLoad::new();
-    let mut socket = SpinPoll::new();
+    let mut socket = SpinRead::new();
     let mut byte = [0u8; 1];
     let before = socket.read(peer, &mut byte, &load).is_some();
     there.write_all(b"abcdefghijkl")?;

@@ -7,7 +7,7 @@ mod serving;
 
 use clap::Error;
 use control::control;
-use nbd_session::Counted;
+use nbd_stream::Counted;
 use nbdq_cli::{
     Commands, ControlTask, Ending, Outcome, ServeTask, Task, read_command_line, run_asked,
     run_buffered,

@@ -7,7 +7,7 @@ use crate::serving::serve_on;
 use nbd_commands::Config;
 use nbd_policy::CONNECTIONS;
 use nbd_service::ServeFault;
-use nbd_session::Counted;
+use nbd_stream::Counted;
 use nbd_threads::room_for_connections;
 use nbdq_cli::{Ending, Outcome, ServeTask, read_offer, write_warnings};
 use std::alloc::Global;

@@ -4,7 +4,7 @@ use Rattle.std.proofs.lemmas.List.{drop_more}
 use Rattle.std.proofs.Math.ListN.{drop_of_length-le}
 use Rattle.std.specs.Io.KnownBytes.{Appends}
 use Rattle.nbd_commands.specs.Exports.{Export}
-use Rattle.nbd_session.proofs.KnownLemmas.{Appends-then}
+use Rattle.nbd_stream.proofs.KnownLemmas.{Appends-then}
 use Rattle.nbdq_cli.specs.Lines.{lines_of}
 
 -- what is written so far and the lines that are left, from this place on, are the head and all lines

@@ -8,7 +8,7 @@ use nbd_base::NoMemory;
 use nbd_commands::{Config, ExportConfig};
 use nbd_config::{FileError, FileRefusal, Place, read_config};
 use nbd_scripts::{Outcome, read_whole, tell_text};
-use nbd_session::Counted;
+use nbd_stream::Counted;
 use nbd_text::or_no_memory;
 use std::alloc::{Allocator, Global};
 use std::io::{Read, Write};

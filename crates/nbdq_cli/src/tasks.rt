@@ -8,7 +8,7 @@ use crate::checking::check_text;
 use crate::command_line::Task;
 use crate::outcome::Outcome;
 use nbd_scripts::{replay_script, talk_script};
-use nbd_session::Counted;
+use nbd_stream::Counted;
 use std::alloc::{Allocator, Global};
 use std::io::{BufWriter, Read, Write};
 

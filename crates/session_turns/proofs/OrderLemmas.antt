@@ -3,10 +3,10 @@ use Rattle.std.proofs.Common.{◌≡◌, ℕ, true, false, List, [], ◌∷◌, 
 use Rattle.std.specs.Io.KnownBytes.{Appends, Keeps}
 use Rattle.std.proofs.lemmas.List.{append-nil}
 use Rattle.nbd_wire.specs.Grammar.{ReplyMessage, reply_text}
-use Rattle.nbd_session.specs.Streams.{WritesPart}
-use Rattle.nbd_session.proofs.KnownLemmas.{Appends-then, Appends-kept}
-use Rattle.nbd_session.proofs.BufferLemmas.{Appends-none}
-use Rattle.nbd_session.proofs.TextPartLemmas.{part_before, part_behind}
+use Rattle.nbd_stream.specs.Streams.{WritesPart}
+use Rattle.nbd_stream.proofs.KnownLemmas.{Appends-then, Appends-kept}
+use Rattle.nbd_stream.proofs.BufferLemmas.{Appends-none}
+use Rattle.nbd_stream.proofs.TextPartLemmas.{part_before, part_behind}
 use Rattle.session_turns.specs.Outgoing.{Outgoing, texts_of}
 use Rattle.session_turns.proofs.ReplyTexts.{texts-append}
 use Rattle.session_turns.specs.InOrder.{Follows, IsBegun, IsTaken, IsWritten, IsReadyWritten, IsSent}

@@ -2,8 +2,8 @@
 use Rattle.std.specs.Prelude.{◌≡◌, ℕ, true, false, List, [], ◌∷◌, ◌++◌, Option, Result}
 use Rattle.std.specs.Io.KnownBytes.{Appends, Keeps}
 use Rattle.nbd_wire.specs.Grammar.{ReplyMessage, reply_text}
-use Rattle.nbd_session.specs.declared.exact_io.WriteFailed.{WriteFailed}
-use Rattle.nbd_session.specs.Streams.{WritesPart}
+use Rattle.nbd_stream.specs.declared.exact_io.WriteFailed.{WriteFailed}
+use Rattle.nbd_stream.specs.Streams.{WritesPart}
 use Rattle.session_turns.specs.Outgoing.{Outgoing, IsFresh, Writes, texts_of}
 
 -- Of these replies, all were written but those that wait, behind what stood there at the start; or a write failed, and a

@@ -9,9 +9,9 @@ use Rattle.server_core.specs.declared.session.SessionId.{SessionId}
 use Rattle.server_core.specs.declared.refusal.SessionRefusal.{SessionRefusal}
 use Rattle.server_core.specs.Served.{Served, Stepped, answer_of_arrive, answer_of_refusal}
 use Rattle.server_lock.specs.Scores.{Score, noted}
-use Rattle.nbd_session.specs.declared.ending.Frame.{Frame}
-use Rattle.nbd_session.specs.declared.ending.Frame.TheVariants as frames
-use Rattle.nbd_session.specs.Frames.{Stream}
+use Rattle.nbd_stream.specs.declared.ending.Frame.{Frame}
+use Rattle.nbd_stream.specs.declared.ending.Frame.TheVariants as frames
+use Rattle.nbd_stream.specs.Frames.{Stream}
 use Rattle.session_turns.specs.SessionTurns.{Reads}
 use Rattle.session_turns.specs.declared.turns.Turn.{Turn}
 use Rattle.session_turns.specs.declared.turns.Turn.TheVariants.{Going, Held, Ended}

@@ -3,8 +3,8 @@ use Rattle.std.specs.Prelude.{◌≡◌, ◌⊎◌, ◌≤◌, ℕ, Bool, true, 
 use Rattle.std.specs.List.{flat_map}
 use Rattle.std.specs.Io.KnownBytes.{Appends}
 use Rattle.nbd_wire.specs.Grammar.{ReplyMessage, reply_text}
-use Rattle.nbd_session.specs.declared.exact_io.WriteFailed.{WriteFailed}
-use Rattle.nbd_session.specs.Streams.{Rises, WritesPart}
+use Rattle.nbd_stream.specs.declared.exact_io.WriteFailed.{WriteFailed}
+use Rattle.nbd_stream.specs.Streams.{Rises, WritesPart}
 use Rattle.session_turns.specs.declared.ready_reply.ReadyReply.{ReadyReply}
 use Rattle.session_turns.specs.declared.ready_reply.ReadyReply.TheVariants.{Text, Whole}
 

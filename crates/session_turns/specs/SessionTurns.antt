@@ -11,10 +11,10 @@ use Rattle.server_lock.specs.declared.trace.EventTrace.TheVariants as event
 use Rattle.server_lock.specs.declared.trace.AnswerTrace.{AnswerTrace}
 use Rattle.server_lock.specs.declared.trace.AnswerTrace.TheVariants as answer
 use Rattle.server_lock.specs.Scores.{Score, next_count}
-use Rattle.nbd_session.specs.declared.ending.Ending.{Ending}
-use Rattle.nbd_session.specs.declared.ending.Frame.{Frame}
-use Rattle.nbd_session.specs.declared.ending.Frame.TheVariants as frames
-use Rattle.nbd_session.specs.Frames.{Stream, Nexts, IsWhole}
+use Rattle.nbd_stream.specs.declared.ending.Ending.{Ending}
+use Rattle.nbd_stream.specs.declared.ending.Frame.{Frame}
+use Rattle.nbd_stream.specs.declared.ending.Frame.TheVariants as frames
+use Rattle.nbd_stream.specs.Frames.{Stream, Nexts, IsWhole}
 use Rattle.session_turns.specs.declared.turns.Turn.{Turn}
 use Rattle.session_turns.specs.declared.turns.Turn.TheVariants.{Going, Held, Ended}
 

@@ -4,7 +4,7 @@ use Rattle.nbd_wire.specs.Grammar.{ReplyMessage}
 use Rattle.server_core.specs.declared.session.SessionId.{SessionId}
 use Rattle.server_lock.specs.declared.trace.AnswerTrace.TheVariants as answer
 use Rattle.server_lock.specs.Scores.{Score}
-use Rattle.nbd_session.specs.declared.exact_io.WriteFailed.{WriteFailed}
+use Rattle.nbd_stream.specs.declared.exact_io.WriteFailed.{WriteFailed}
 use Rattle.session_turns.specs.declared.taking.Stop.{Stop}
 use Rattle.session_turns.specs.declared.taking.Stop.TheVariants.{Full}
 use Rattle.session_turns.specs.declared.turns.WriteTurn.{WriteTurn}

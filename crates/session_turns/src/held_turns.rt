@@ -7,7 +7,7 @@ ghost use Rattle.session_turns.specs.Offering.{MakesLeave, Offers, HandsIn, Hand
 use crate::turns::{Arrival, Turn};
 use eligibility::Eligibility;
 use export_store::Image;
-use nbd_session::{Buffered, Frame, FrameReader, is_disc};
+use nbd_stream::{Buffered, Frame, FrameReader, is_disc};
 use nbd_wire::Request;
 use server_core::{ArriveRefusal, SessionId};
 use server_lock::{Booked, Pass, turn_arrive, turn_leave};

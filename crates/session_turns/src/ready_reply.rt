@@ -2,10 +2,10 @@
 ghost use Rattle.std.specs.Prelude.{◌≡◌, ◌<◌, ◌-◌, length, OnOk, OnErr};
 ghost use Rattle.std.specs.Io.KnownBytes.{Appends};
 ghost use Rattle.nbd_wire.specs.Grammar.{reply_text};
-ghost use Rattle.nbd_session.specs.Streams.{Rises, WritesPart};
+ghost use Rattle.nbd_stream.specs.Streams.{Rises, WritesPart};
 ghost use Rattle.session_turns.specs.Outgoing.{ready_text};
 
-use nbd_session::{Counted, WriteFailed, put, put_reply};
+use nbd_stream::{Counted, WriteFailed, put, put_reply};
 use nbd_wire::Reply;
 use std::alloc::Allocator;
 use std::io::Write;

@@ -1,7 +1,7 @@
 //! The way of a session's replies: those that were taken, and where they are written.
 ghost use Rattle.std.specs.Prelude.{◌≡◌, ◌≤◌, ◌<◌, ◌^◌, ◌-◌, [], length, min, OnOk, OnErr};
 ghost use Rattle.std.specs.Io.KnownBytes.{Appends};
-ghost use Rattle.nbd_session.specs.Streams.{Rises, WritesPart};
+ghost use Rattle.nbd_stream.specs.Streams.{Rises, WritesPart};
 ghost use Rattle.session_turns.specs.Outgoing.{texts_of, data_of};
 
 use crate::ready_reply::{REPLY_HEAD_BYTES, ReadyReply, put_ready};
@@ -9,7 +9,7 @@ use crate::taking::{Stop, take_one, take_replies};
 use eligibility::Eligibility;
 use export_store::Image;
 use nbd_base::NoMemory;
-use nbd_session::{Counted, WriteFailed, put_reply};
+use nbd_stream::{Counted, WriteFailed, put_reply};
 use nbd_wire::Reply;
 use server_core::SessionId;
 use server_lock::{Booked, Pass};
@@ -83,7 +83,7 @@ fn data_in<A: Allocator>(replies: &[Reply<A>]) -> usize
 impl<W: Write + Drop, A: Allocator> ReplyWriter<W, A> {
     ghost use Rattle.std.specs.Prelude.{◌≡◌, ◌≤◌, ◌+◌, ◌-◌, ◌^◌, [], length, min, IfOk, OnOk, OnErr};
     ghost use Rattle.std.specs.Io.KnownBytes.{Keeps};
-    ghost use Rattle.nbd_session.specs.Streams.{Rises};
+    ghost use Rattle.nbd_stream.specs.Streams.{Rises};
     ghost use Rattle.session_turns.specs.Taking.{Takes, TakesOne};
     ghost use Rattle.session_turns.specs.Outgoing.{IsFresh, Writes, texts_of, data_of, ready_text};
 

@@ -10,7 +10,7 @@ use crate::taking::Stop;
 use eligibility::Eligibility;
 use export_store::Image;
 use lone_export::Arrived;
-use nbd_session::{Buffered, FrameReader};
+use nbd_stream::{Buffered, FrameReader};
 use nbd_wire::{Request, RequestHead};
 use server_core::SessionId;
 use server_lock::{Pass, Shared};

@@ -1,6 +1,6 @@
 //! Whole configuration files by `check`, and the whole output of each.
 
-use nbd_session::Counted;
+use nbd_stream::Counted;
 use nbdq_cli::{Job, Outcome, Task, asked_job, check_text};
 use refusing::Refusing;
 use std::alloc::Global;

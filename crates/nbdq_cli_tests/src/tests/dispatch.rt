@@ -1,7 +1,7 @@
 //! From command lines to exit statuses: which command runs, and what the shell is told.
 
 use clap::Error;
-use nbd_session::Counted;
+use nbd_stream::Counted;
 use nbdq_cli::{
     Commands, ControlTask, Ending, Outcome, ServeTask, Task, asked_job, run_asked, run_buffered,
 };

@@ -1,6 +1,6 @@
 //! What is said of configurations that are odd and legal.
 
-use nbd_session::Counted;
+use nbd_stream::Counted;
 use nbdq_cli::{read_offer, write_warnings};
 use std::alloc::Global;
 

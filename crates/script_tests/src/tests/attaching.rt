@@ -3,7 +3,8 @@
 use super::scripts::{joined, repeated};
 use super::streams::beginning;
 use nbd_options::{Attach, Attached, ExportTable};
-use nbd_session::{Counted, End, Entry, haggle};
+use nbd_session::{End, Entry, haggle};
+use nbd_stream::Counted;
 use std::alloc::Global;
 
 /// The client's flags, and GO of `a` twice.

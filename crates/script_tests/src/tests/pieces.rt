@@ -4,7 +4,8 @@ use super::faults::{SAID, SENT, configured, is_held};
 use super::scripts::joined;
 use super::streams::{Source, beginning};
 use nbd_commands::Config;
-use nbd_session::{Counted, End, Ending, Frame, FrameReader};
+use nbd_session::End;
+use nbd_stream::{Counted, Ending, Frame, FrameReader};
 use refusing::Refusing;
 use std::alloc::{Allocator, Global};
 

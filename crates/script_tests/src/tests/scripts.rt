@@ -2,7 +2,7 @@
 
 use super::streams::{Sink, beginning};
 use nbd_scripts::{Outcome, replay_script, talk_script};
-use nbd_session::Counted;
+use nbd_stream::Counted;
 use std::alloc::{Allocator, Global};
 use std::io;
 use std::io::{Read, Write};

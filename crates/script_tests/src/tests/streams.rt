@@ -1,6 +1,6 @@
 //! Readers and writers that end or fail at a place.
 
-use nbd_session::Buffered;
+use nbd_stream::Buffered;
 use std::alloc::Global;
 use std::io;
 use std::io::{Read, Write};

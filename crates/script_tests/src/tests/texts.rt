@@ -4,7 +4,7 @@ use super::scripts::{Command, every_write_fails, goes, joined, repeated, went, w
 use super::streams::{Sink, Source};
 use nbd_base::NoMemory;
 use nbd_scripts::{Outcome, read_whole, tell_text};
-use nbd_session::Counted;
+use nbd_stream::Counted;
 use nbd_text::or_no_memory;
 use refusing::Refusing;
 use std::alloc::Global;

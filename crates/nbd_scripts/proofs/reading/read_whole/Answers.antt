@@ -1,6 +1,6 @@
 use Rattle.std.proofs.Common.{◌≡◌, ◌++◌, ℕ, take, arith, rules, refl, sym, ◌∙◌, subst}
 use Rattle.std.specs.Io.KnownBytes.{Consumes}
-use Rattle.nbd_session.proofs.KnownLemmas.{Consumes-then}
+use Rattle.nbd_stream.proofs.KnownLemmas.{Consumes-then}
 use Rattle.nbd_scripts.proofs.ReadLemmas.{nothing_read, all_read}
 use Rattle.nbd_scripts.proofs.reading.read_whole.Goals as goal
 

@@ -1,6 +1,6 @@
 use Rattle.std.proofs.Common.{◌++◌, Some}
 use Rattle.std.specs.Io.KnownBytes.{Appends}
-use Rattle.nbd_session.proofs.KnownLemmas.{Appends-then}
+use Rattle.nbd_stream.proofs.KnownLemmas.{Appends-then}
 use Rattle.nbd_scripts.specs.Waiting.{number_text, reservation_word, rest_text}
 use Rattle.nbd_scripts.proofs.tags.write_tag.Goals as goal
 

@@ -7,9 +7,9 @@ use Rattle.nbd_options.specs.Haggled.{greeting_text}
 use Rattle.nbd_session.specs.declared.outcomes.End.TheVariants as ends
 use Rattle.nbd_session.specs.declared.outcomes.Entry.TheVariants as entries
 use Rattle.nbd_session.specs.declared.outcomes.TalkFault.TheVariants as faults
-use Rattle.nbd_session.specs.Streams.{WritesPart}
+use Rattle.nbd_stream.specs.Streams.{WritesPart}
 use Rattle.nbd_session.specs.Conversation.{Handshake, HagglesOn, IsEntryTold}
-use Rattle.nbd_session.proofs.BufferLemmas.{Consumes-none}
+use Rattle.nbd_stream.proofs.BufferLemmas.{Consumes-none}
 use Rattle.nbd_session.proofs.OutcomeLemmas.{Converses-after}
 use Rattle.nbd_session.proofs.GreetLemmas.{greet_fault, flags_stop, flags_fault, flags_going}
 use Rattle.nbd_session.proofs.AskingLemmas.{asks_for_none, asks_behind_flags}

@@ -1,7 +1,7 @@
 use Rattle.std.proofs.Common.{[], take, arith}
 use Rattle.std.proofs.lemmas.List.{length-take}
 use Rattle.nbd_session.specs.declared.outcomes.End.TheVariants.{Cut}
-use Rattle.nbd_session.proofs.BufferLemmas.{Consumes-none}
+use Rattle.nbd_stream.proofs.BufferLemmas.{Consumes-none}
 use Rattle.nbd_session.proofs.OfferLemmas.{content_gap}
 use Rattle.nbd_session.proofs.option_input.read_content.Goals as goal
 

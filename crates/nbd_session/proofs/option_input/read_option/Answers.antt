@@ -1,7 +1,7 @@
 use Rattle.std.proofs.Common.{◌≡◌, ◌++◌, Some, take, ℕ, List, arith, sym, subst}
 use Rattle.std.proofs.lemmas.List.{length-take}
 use Rattle.nbd_session.specs.Haggling.{IsOffer}
-use Rattle.nbd_session.proofs.KnownLemmas.{Consumes-then}
+use Rattle.nbd_stream.proofs.KnownLemmas.{Consumes-then}
 use Rattle.nbd_options.specs.declared.haggle.HeadFault.{HeadFault}
 use Rattle.nbd_options.specs.declared.haggle.HeadFault.TheVariants as faults
 use Rattle.nbd_options.specs.Haggled.{head_fault}

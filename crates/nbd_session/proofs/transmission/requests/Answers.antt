@@ -3,8 +3,8 @@ use Rattle.std.specs.Result.{OnOk}
 use Rattle.std.proofs.lemmas.Result.{err_from_is_err_and}
 use Rattle.nbd_session.specs.declared.outcomes.End.{End}
 use Rattle.nbd_session.specs.declared.outcomes.TalkFault.{TalkFault}
-use Rattle.nbd_session.specs.Frames.{Reading}
-use Rattle.nbd_session.specs.Streams.{Rises}
+use Rattle.nbd_stream.specs.Frames.{Reading}
+use Rattle.nbd_stream.specs.Streams.{Rises}
 use Rattle.nbd_session.specs.Requests.{opened}
 use Rattle.nbd_session.proofs.ServeLemmas.{served_by, still_idle, still_terms, still_few, few_at_first, worn_by_count}
 use Rattle.nbd_session.proofs.KeptLemmas.{keeps_nothing, is_ended, is_without_memory, read_rises, reads_kept, is_disc, disc_by, no_disc_by, is_worn, is_part, keeps_on, gives, no_write_failed}

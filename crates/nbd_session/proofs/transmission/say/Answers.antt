@@ -1,8 +1,8 @@
 use Rattle.std.proofs.Common.{rules, ◌≡◌, [], refl, subst}
 use Rattle.std.proofs.lemmas.Result.{err_from_is_err_and}
 use Rattle.nbd_wire.specs.Grammar.{reply_text}
-use Rattle.nbd_session.specs.Streams.{WritesPart}
-use Rattle.nbd_session.proofs.BufferLemmas.{Appends-none}
+use Rattle.nbd_stream.specs.Streams.{WritesPart}
+use Rattle.nbd_stream.proofs.BufferLemmas.{Appends-none}
 use Rattle.nbd_session.proofs.transmission.say.Goals as goal
 
 pub returns-in_err-write_reply-clause-part : goal.returns-in_err-write_reply-clause-part

@@ -1,6 +1,6 @@
 use Rattle.std.proofs.Common.{◌++◌, Some, codes}
 use Rattle.std.specs.Io.KnownBytes.{Appends}
-use Rattle.nbd_session.proofs.KnownLemmas.{Appends-then}
+use Rattle.nbd_stream.proofs.KnownLemmas.{Appends-then}
 use Rattle.nbdq_cli.specs.Checked.{disk_text, rates_text, queue_text}
 use Rattle.nbdq_cli.proofs.checking.write_export.Goals as goal
 

@@ -1,8 +1,8 @@
 use Rattle.std.proofs.Common.{◌≡◌, ◌+◌, ◌++◌, take, drop, sym, ap, subst, ◌∙◌}
 use Rattle.std.proofs.lemmas.List.{take-append-drop}
 use Rattle.nbd_wire.specs.Grammar.{reply_text}
-use Rattle.nbd_session.specs.Streams.{WritesPart}
-use Rattle.nbd_session.proofs.TextPartLemmas.{part_before, part_behind}
+use Rattle.nbd_stream.specs.Streams.{WritesPart}
+use Rattle.nbd_stream.proofs.TextPartLemmas.{part_before, part_behind}
 use Rattle.session_turns.specs.Outgoing.{texts_of}
 use Rattle.session_turns.proofs.ReplyTexts.{texts-append, texts_more}
 use Rattle.session_turns.proofs.reply_writer.put_all.Goals as goal
