@@ -311,6 +311,26 @@ fn memory_that_is_shown_is_kept(rt: HostRuntime) {
     assert!(rt; spares.len() == 1);
 }
 
+// Whether the memory of a spare page is taken, so that none is asked for.
+fn is_taken_first(heap: &Refusing<Global>, bytes: &[u8]) -> bool {
+    let Ok(mut spares) = Spares::with_places(heap, 1) else {
+        return false;
+    };
+    let Ok(page) = Payload::copied_to(&mut spares, 4_096, bytes) else {
+        return false;
+    };
+    page.recycle(&mut spares);
+    heap.arm(1);
+    spares.take().is_ok() && heap.is_armed()
+}
+
+#[test]
+fn memory_that_is_spare_is_taken_first(rt: HostRuntime) {
+    let bytes = numbers(&rt, 4_096);
+    let heap = Refusing::new(rt.alloc(), 0);
+    assert!(rt; is_taken_first(&heap, &bytes));
+}
+
 // Whether a payload whose memory is had there is these bytes. None where it is refused.
 fn is_copied(heap: &Refusing<Global>, bytes: &[u8]) -> Option<bool> {
     let payload = Payload::copied(heap, 4_000, bytes).ok()?;
@@ -353,6 +373,6 @@ fn each_growth_is_refused_in_turn(rt: HostRuntime) {
     let few = bytes.as_slice().get(..9_000).expect(&rt, "bytes");
     // Four pages, each with its memory and a count of owners, and a row for them.
     sees_refusals(&rt, false, few, 9);
-    // The memory of five pages, and a row for them: they get their counts at the end.
-    sees_refusals(&rt, true, &bytes, 6);
+    // The memory of five pages, counts of owners of the four that are whole, and a row for these.
+    sees_refusals(&rt, true, &bytes, 10);
 }
