@@ -6,7 +6,8 @@
 #
 # It wants a machine with nothing else to do, and gcc and python3 (Debian's packages of these names). Reckoned from what
 # measure.py does, with two peers and 5 rounds, it takes 22 minutes as it is, 16 with `--seconds 0.3`, and 10 with
-# `--seconds 0.3 --transports unix`; for each round less some 4, 3 and 2 minutes less. A busy machine takes longer.
+# `--seconds 0.3 --transports unix`; for each round less some 4, 3 and 2 minutes less. A busy machine takes longer, and so does one whose host takes its processors away
+# (`--patience`).
 set -eu
 top=$(cd "$(dirname "$0")/.." && pwd)
 program=$(realpath "$1")

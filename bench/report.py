@@ -31,7 +31,7 @@ def about(run):
     print("%s, Linux %s, %d processors (%s). %s." % (run["date"], run["kernel"], run["processors"], run["processor"], servers))
     print("%d rounds of %g s, the servers in turn; %.1f threads were ready to run before it began.\n" % (run["rounds"], run["seconds"], run["load_before"]))
     if "again" in run:
-        print("%d rounds were measured again, since other machines of the host took more than 3 in 100 of the processors' time meanwhile; of that of those that count they took %.1f in 100.\n" % (run["again"], 100 * run["stolen"]))
+        print("%d rounds were measured again, since other machines of the host took more than 3 in 100 of the processors' time meanwhile; in the rounds that count they took %.1f in 100.\n" % (run["again"], 100 * run["stolen"]))
     if run["load_before"] > BUSY:
         print("**The machine was busy in the minute before it began.** Where that went on beside it, these tables show what is measured, and compare servers poorly.\n")
 
