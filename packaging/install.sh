@@ -25,6 +25,11 @@ list() {
 LIST
 }
 
+case ${1:-} in
+  --remove | "" | [!-]*) ;;
+  *) echo "packaging/install.sh [PROGRAM | --remove]" >&2; exit 2 ;;
+esac
+
 if [ "${1:-}" = --remove ]; then
   list - | while read -r _ _ place; do rm -fv "$root/$place"; done
   rmdir "$root/share/doc/nbdq/examples" "$root/share/doc/nbdq" 2>/dev/null || true
@@ -40,10 +45,15 @@ done
 # Where the program isn't in /usr/local, the service and the page name its place.
 sed -i "s|/usr/local/|$prefix/|g" "$root/lib/systemd/system/nbdq.service" "$root/share/man/man1/nbdq.1"
 
+# Elsewhere than below these systemd looks for no service by its name.
+case $prefix in
+  /usr | /usr/local) unit=nbdq ;;
+  *) unit=$prefix/lib/systemd/system/nbdq.service ;;
+esac
 cat <<SAID
 To run it as a service:
-  systemd-sysusers                                   # makes the user nbdq
+  systemd-sysusers $prefix/lib/sysusers.d/nbdq.conf      # makes the user nbdq
   install -D $prefix/share/doc/nbdq/examples/vm-host.toml /etc/nbdq/disks.toml      # and edit it
-  nbdq check < /etc/nbdq/disks.toml
-  systemctl daemon-reload && systemctl enable --now nbdq
+  $prefix/bin/nbdq check < /etc/nbdq/disks.toml
+  systemctl daemon-reload && systemctl enable --now $unit
 SAID

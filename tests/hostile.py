@@ -290,6 +290,23 @@ def socket_files():
         os.remove(path)
 
 
+def control_without_threads():
+    """The control socket where the process may have next to no more memory, and so no more threads."""
+    with Files() as files:
+        server = files.serve()
+        server.stdout.readline()
+        time.sleep(0.5)
+        with open("/proc/%d/status" % server.pid) as it:
+            data = next(int(line.split()[1]) * 1024 for line in it if line.startswith("VmData:"))
+        hard = resource.prlimit(server.pid, resource.RLIMIT_DATA)[1]
+        resource.prlimit(server.pid, resource.RLIMIT_DATA, (data + MIB, hard))
+        figures, other, stopped = (files.tell(line) for line in (b"stats\n", b"sessions\n", b"stop\n"))
+        well = figures[0].startswith(b"server ") and other == (b"\n", 0) and stopped == (b"stopping\n\n", 0)
+        yield well, "where no thread can be had stats is answered %r, sessions %r, stop %r" % (figures[0][:22], other[0], stopped[0])
+        status, said = ended(server)
+        yield status == 0, "and the server ends with status %r, %r" % (status, said)
+
+
 def last_clients():
     """Of clients that come one behind another up to the last that is accepted, each is greeted."""
     path, missed, rounds = "/dev/shm/nbdq-hostile-%d" % os.getpid(), 0, 60
@@ -536,6 +553,7 @@ TESTS = [
     socket_files,
     control_files,
     control_clients,
+    control_without_threads,
     last_clients,
     stuck_reader,
 ]

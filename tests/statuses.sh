@@ -127,6 +127,8 @@ cp disks.toml input
 case_of 4 '' 'read failed' "serve by an input that fails" from_folder "$program" serve --unix socket
 case_of 4 '' 'write failed' "serve to an output that fails" to_full "$program" serve --unix socket
 case_of 4 '' 'cannot listen' "serve in no folder" "$program" serve --unix none/socket
+case_of 4 '' 'cannot listen' "serve at an empty path" "$program" serve --unix ''
+case_of 4 '' 'cannot listen' "a control socket at an empty path" "$program" serve --unix socket --control ''
 case_of 4 '' 'control: socket failed' "control without a server" "$program" control --unix none/socket
 
 # ---- a server that is asked for its end, and those who ask

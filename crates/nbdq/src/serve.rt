@@ -13,7 +13,7 @@ use nbdq_cli::{Ending, Outcome, ServeTask, read_offer, write_warnings};
 use std::alloc::Global;
 use std::fs::{Files, Permissions, remove_file, set_permissions};
 use std::io;
-use std::io::Write;
+use std::io::{ErrorKind, Write};
 use std::net::{Net, SocketAddr, TcpListener, TcpStream};
 use std::os::unix::fs::PermissionsExt;
 use std::os::unix::net::UnixListener;
@@ -160,9 +160,10 @@ fn remove_socket<R: Files>(rt: &R, path: &Option<String>) {
     }
 }
 
-/// Makes the file of a socket.
+/// Makes the file of a socket. For an empty path the system would choose a name that is no file, and that anybody may connect to.
 fn bind_unix<R: Net + Files>(rt: &R, path: &Option<String>) -> io::Result<Option<UnixListener>> {
     match path {
+        Some(path) if path.is_empty() => Err(io::Error::from(ErrorKind::InvalidInput)),
         Some(path) => Ok(Some(UnixListener::bind(rt, path.as_str())?)),
         None => Ok(None),
     }

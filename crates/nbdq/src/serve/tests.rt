@@ -30,3 +30,13 @@ fn is_made_and_removed<R: Net + Files>(rt: &R, alloc: Global, path: &str) -> boo
 fn the_file_of_a_control_socket(rt: HostRuntime) {
     assert!(rt; is_made_and_removed(&rt, rt.alloc(), "nbdq.private"));
 }
+
+/// Whether no socket is made at an empty path.
+fn is_refused<R: Net + Files>(rt: &R, alloc: Global) -> bool {
+    bind_unix(rt, &Some(String::new(alloc))).is_err()
+}
+
+#[test]
+fn an_empty_path(rt: HostRuntime) {
+    assert!(rt; is_refused(&rt, rt.alloc()));
+}

@@ -76,29 +76,52 @@ pub fn serve_control<L: Ledger + Send + Sync, R: Wait + Threads + Sync + time::C
 ) {
     thread::scope(thread::scope_env(), rt, |scope| {
         for _ in rt.forever() {
-            let accepted = control.listener.accept();
-            if control.is_ended() {
+            let Some(peer) = next_client(rt, control) else {
                 return;
-            }
-            match accepted {
-                Ok(peer) => {
-                    if control.enter() {
-                        let started = scope.spawn(move || {
-                            serve_lines(rt, service, config, entrances, control, &peer);
-                            control.leave();
-                        });
-                        if started.is_err() {
-                            control.leave();
-                        }
-                    }
+            };
+            let same = peer.try_clone();
+            let started = scope.spawn(move || {
+                serve_client(rt, service, config, entrances, control, &peer)
+            });
+            if started.is_err() {
+                // Where no thread can be had this one serves the client, and others wait meanwhile.
+                match same {
+                    Ok(peer) => serve_client(rt, service, config, entrances, control, &peer),
+                    Err(_) => control.leave(),
                 }
-                Err(error) if may_pass(&error) => {
-                    thread::sleep(rt, Duration::from_millis(RETRY_MS))
-                }
-                Err(_) => return,
             }
         }
     });
+}
+
+/// The next client, which has entered. None where the server is at its end, or the socket failed.
+fn next_client<R: Wait + time::Clock>(rt: &R, control: &ControlSocket) -> Option<TcpStream> {
+    for _ in rt.forever() {
+        let accepted = control.listener.accept();
+        if control.is_ended() {
+            return None;
+        }
+        match accepted {
+            Ok(peer) if control.enter() => return Some(peer),
+            Ok(_) => {}
+            Err(error) if may_pass(&error) => thread::sleep(rt, Duration::from_millis(RETRY_MS)),
+            Err(_) => return None,
+        }
+    }
+    unreachable!()
+}
+
+/// Serves a client, until it leaves.
+fn serve_client<L: Ledger, R: Wait + time::Clock>(
+    rt: &R,
+    service: &Service<L>,
+    config: &Config<Global>,
+    entrances: &[Entrance<L>],
+    control: &ControlSocket,
+    peer: &TcpStream,
+) {
+    serve_lines(rt, service, config, entrances, control, peer);
+    control.leave();
 }
 
 /// Answers the lines of a client.
