@@ -290,6 +290,123 @@ def socket_files():
         os.remove(path)
 
 
+def head(kind, cookie, offset, length):
+    return struct.pack(">IHHQQI", 0x25609513, 0, kind, cookie, offset, length)
+
+
+def burst(client):
+    """Eight READs at once, all answered, and then nothing."""
+    client.socket.sendall(b"".join(head(READ, i, 0, 4096) for i in range(8)))
+    for _ in range(8):
+        client.reply(4096)
+
+
+def cut_write(client):
+    """40 long WRITEs, and the beginning of one more."""
+    data = bytes(131072)
+    whole = b"".join(head(WRITE, i, 0, 131072) + data for i in range(40))
+    client.socket.sendall(whole + head(WRITE, 99, 0, 131072) + data[:100000])
+
+
+def unread_reads(client):
+    client.socket.sendall(b"".join(head(READ, i, 0, MIB) for i in range(8)))
+
+
+def sessions_not_waited_for():
+    """A session that has nothing for the server to do doesn't stop another export, though one more of its own export goes on."""
+    cases = [("has been answered and sends nothing", burst, -0.5), ("stops within a WRITE", cut_write, 0.5), ("reads no replies", unread_reads, 0.5)]
+    for what, misuse, at in cases:
+        with two_disks(config=exports_of(["weight = 1"] * 2)) as server:
+            clients = [server.clients(0, connections=4, bytes=4096, depth=32), server.clients(1, rate=500)]
+            alone = load(1, clients)[0]["a_second"]
+            client = Client(server.places[1], server.exports[1], patience=60)
+            Client(server.places[0], server.exports[0]).ask(READ, 0, 4096)
+            time.sleep(0.05)
+            if at > 0:
+                threading.Timer(at, misuse, (client,)).start()
+            else:
+                misuse(client)
+                time.sleep(-at)
+            beside = load(3, clients, slices=100)[0]["slices"][-20:]
+            rate = 10 * sum(beside) / len(beside)
+            yield rate > alone / 4, "beside a session that %s another export gets %d requests a second (%d without it)" % (what, rate, alone)
+            client.socket.close()
+
+
+def shares_of_unequal_requests():
+    """Each request counts what it is, also where a hold hands in one alone."""
+    with two_disks(config=exports_of(["weight = 1"] * 2)) as server:
+        flood = dict(connections=4, depth=32)
+        clients = [server.clients(0, **flood, bytes=4096), server.clients(1, **flood, operation="trim", bytes=2 * MIB)]
+        first, other = (it["a_second"] for it in load(2, clients, warm=0.5))
+        yield 0.5 < first / max(other, 1) < 2, "4 KiB READs beside TRIMs of 2 MiB, of one unit each: %.2f (1)" % (first / max(other, 1))
+
+
+def writes_of_clients_that_leave():
+    """WRITEs that wait for a limit behind clients that come, send and go: 256 MiB of them, and one for each session."""
+    with two_disks(config=exports_of(["limit = 1", "weight = 1"], mib=32)) as server:
+        most, data = 0, bytes(32 * MIB)
+        for _ in range(24):
+            client = Client(server.places[0], server.exports[0], patience=1)
+            try:
+                for i in range(2):
+                    client.socket.sendall(head(WRITE, i, 0, 32 * MIB) + data)
+                client.socket.sendall(head(READ, 9, 1 << 40, 4096))
+            except TimeoutError:
+                pass
+            client.socket.close()
+            most = max(most, server.memory())
+        yield most < 1200, "24 clients that leave two WRITEs of 32 MiB each: the server holds %d MiB at most (1,200)" % most
+
+
+def orderly_ends():
+    """`stop now` where fewer requests may be in service than there are workers, and where no descriptor is left."""
+    for what, config, sessions, requests in (
+        ("of 400 READs at a limit, one in service at a time,", "inflight = 1\n" + exports_of(["limit = 200"], mib=8), 2, 200),
+        ("of sessions that have all descriptors", exports_of(["weight = 1"], mib=8), 8, 0),
+    ):
+        with Files() as files:
+            server = serve("--sessions", "forever", *files.words, config=config)
+            files.server = server
+            server.stdout.readline()
+            asks = files.connect()
+            time.sleep(0.2)
+            clients = [Client("unix:" + files.unix, "e0") for _ in range(sessions)]
+            resource.prlimit(server.pid, resource.RLIMIT_NOFILE, (len(os.listdir("/proc/%d/fd" % server.pid)),) * 2)
+            for client in clients:
+                client.socket.sendall(b"".join(head(READ, i, 0, 4096) for i in range(requests)))
+            time.sleep(0.1)
+            asks.sendall(b"stop now\n")
+            began = time.time()
+            status, said = ended(server, 15)
+            yield status == 0, "stop now %s ends the server after %.1f s, %r" % (what, time.time() - began, said)
+
+
+def retune_beside_a_slow_reader():
+    """A retune where the requests that wait are left to the writer of a client that reads slowly."""
+    with Files() as files:
+        server = serve("--sessions", "forever", *files.words, config=exports_of(["weight = 1"], mib=64))
+        files.server = server
+        server.stdout.readline()
+        client = Client("unix:" + files.unix, "e0")
+        client.socket.sendall(b"".join(head(READ, i, 0, 8 * MIB) for i in range(8)))
+        reads = threading.Event()
+
+        def read_slowly():
+            while not reads.wait(0.02) and client.socket.recv(100000):
+                pass
+
+        reader = threading.Thread(target=read_slowly)
+        reader.start()
+        time.sleep(0.5)
+        began = time.time()
+        answer = files.tell(b"retune e0 0 0 2\n")
+        took = time.time() - began
+        reads.set()
+        reader.join()
+        yield answer == (b"retuned\n\n", 0) and took < 1, "a retune beside a slow reader is answered %r after %.2f s" % (answer[0], took)
+
+
 def control_without_threads():
     """The control socket where the process may have next to no more memory, and so no more threads."""
     with Files() as files:
@@ -554,6 +671,11 @@ TESTS = [
     control_files,
     control_clients,
     control_without_threads,
+    sessions_not_waited_for,
+    shares_of_unequal_requests,
+    writes_of_clients_that_leave,
+    orderly_ends,
+    retune_beside_a_slow_reader,
     last_clients,
     stuck_reader,
 ]

@@ -6,11 +6,12 @@ use nbd_base::NoMemory;
 use nbd_link::rules::joined_size;
 use nbd_link::{Admitted, Feed, Outlet, ReadAhead, SessionLink};
 use nbd_policy::{
-    OUTDATED_PAGES, QUEUED_WORK, RequestSize, SPARES_OF_A_SESSION, Waiting, brought_by, ends_hold,
-    performs_itself, size_of, waiting_until,
+    OUTDATED_PAGES, QUEUED_WORK, RequestSize, SPARES_OF_A_SESSION, Waiting, brought_by, cost_of,
+    ends_hold, performs_itself, size_of, waiting_until,
 };
 use nbd_service::{Asked, Disks, Service, Wakeups, prefetch};
 use nbd_stream::{Counted, Frame, FrameReader};
+use nbd_wire::protocol::WRITE;
 use nbd_wire::{Request, RequestHead};
 use payload::Spares;
 use server_lock::Pass;
@@ -51,6 +52,14 @@ impl Offer {
             Offer::Read(Frame::Ended(_)) => None,
         }
     }
+
+    /// Whether it is a WRITE.
+    pub fn writes(&self) -> bool {
+        match self.head() {
+            Some(head) => head.kind == WRITE,
+            None => false,
+        }
+    }
 }
 
 /// What a reader's hold came to.
@@ -72,6 +81,8 @@ pub struct BatchOutcome {
     pub brought: u64,
     /// How many requests were handed in.
     pub arrived: u64,
+    /// What those behind the first cost in the order of turns, in units.
+    pub cost: u32,
     /// What prefetching for these requests came to.
     pub prefetched: u64,
 }
@@ -111,6 +122,14 @@ impl Admission {
     fn brought(&self) -> u64 {
         match &self.arrival {
             Some(arrival) => brought_by(arrival.head),
+            None => 0,
+        }
+    }
+
+    /// What it costs in the order of turns, in units.
+    fn cost(&self) -> u32 {
+        match &self.arrival {
+            Some(arrival) => cost_of(arrival.head),
             None => 0,
         }
     }
@@ -193,6 +212,8 @@ impl<'a, 'b, R: Wait + time::Clock> RequestSource<'a, 'b, R> {
             admitted = admission.added_to(admitted, served);
             batch.add(turn, admission, served);
         }
+        // First, so that who finds nothing under way finds no bytes of these.
+        link.note_arrived(batch.arrived);
         link.bytes.add(admitted);
         self.end_batch(disks, link, pass, outlet, batch)
     }
@@ -296,6 +317,7 @@ impl BatchOutcome {
             waiting: Waiting::Nothing,
             brought: admission.brought(),
             arrived: admission.arrival.is_some() as u64,
+            cost: 0,
             prefetched,
         }
     }
@@ -307,6 +329,7 @@ impl BatchOutcome {
         self.arrived = self
             .arrived
             .saturating_add(admission.arrival.is_some() as u64);
+        self.cost = self.cost.saturating_add(admission.cost());
         self.writes_long = self.writes_long || admission.size == RequestSize::LongWrite;
         self.reads_long = self.reads_long || admission.is_left(served);
         self.size = joined_size(self.size, admission.size);

@@ -133,15 +133,16 @@ fn serve_session<L: Ledger + Send + Sync, R: Wait + Threads + Sync + time::Clock
     let Some(gate) = service.retunes.gate(session.export) else {
         return;
     };
-    let bytes = BytesUnderWay::new(all_waiting, &connection.traffic);
-    let link = link_of(service, peer, &patient, &bytes, gate, session);
+    let bytes = BytesUnderWay::new(all_waiting, &connection.traffic, &service.writers);
+    let seat = TurnSeat::new(&service.turns, service.start, session.export);
+    let link = link_of(service, peer, &patient, &bytes, &seat, gate, session);
     if let (Ok(link), Ok(wakeups)) = (link, wakeups) {
         let feed = Counted::new(Feed::new(rt, &link));
         if let Ok(source) = RequestSource::new(service.alloc, feed, wakeups) {
             read_and_write(rt, service, &link, source, pass);
         }
     }
-    bytes.settle();
+    service.leave_writes(rt, session.export, bytes.leave());
     // The writer has dropped the session, where there was one.
     service.give_up(rt, session, pass);
 }
@@ -152,12 +153,12 @@ fn link_of<'a, L: Ledger>(
     peer: &'a TcpStream,
     patient: &'a AtomicBool,
     bytes: &'a BytesUnderWay<'a>,
+    seat: &'a TurnSeat<'a>,
     gate: &'a RetuneGate,
     session: SessionId,
 ) -> Result<SessionLink<'a>, NoMemory> {
     let replies = service.bells.replies(session);
     let interactive = &service.interactive;
-    let seat = TurnSeat::new(&service.turns, service.start, session.export);
     SessionLink::new(
         service.alloc,
         session,

@@ -68,12 +68,19 @@ impl<'a, R: time::Clock> HandshakeSocket<'a, R> {
 
 impl<R: time::Clock> Read for HandshakeSocket<'_, R> {
     fn read(&mut self, buf: &mut [u8]) -> io::Result<usize> {
-        let Some(left) = self.clock.left() else {
-            return Err(io::Error::from(ErrorKind::TimedOut));
-        };
-        let _ = self.peer.set_read_timeout(Some(left));
         let mut peer = self.peer;
-        peer.read(buf)
+        for _ in 0..u64::MAX {
+            let Some(left) = self.clock.left() else {
+                break;
+            };
+            let _ = self.peer.set_read_timeout(Some(left));
+            match peer.read(buf) {
+                // A process that was stopped goes on.
+                Err(error) if error.kind() == ErrorKind::Interrupted => {}
+                came => return came,
+            }
+        }
+        Err(io::Error::from(ErrorKind::TimedOut))
     }
 }
 

@@ -28,8 +28,10 @@ pub fn make_ready<L: Ledger, R: Wait + time::Clock>(
         link.ready.give_back(rt, ReadyReply::Text(text));
         return;
     };
+    let put = link.ready.put(rt, ReadyReply::of(reply, text, READY_BYTES));
+    // Behind that: where nothing is under way and none is ready, nothing counts any more.
     link.note_taken(1);
-    if !link.ready.put(rt, ReadyReply::of(reply, text, READY_BYTES)) {
+    if !put {
         service.give_up(rt, link.session, pass);
     }
     link.replies.ring();

@@ -5,8 +5,8 @@ use crate::preparing::make_ready;
 use nbd_link::rules::{wakes_writer, writer_chooses};
 use nbd_link::{FlushOutcome, Outlet, SessionLink};
 use nbd_policy::{
-    BATCH, PATIENCE_S, RequestSize, WRITER_WAIT_MS, WRITER_WAITS, answers_read, batch_after,
-    handed_in, load_of, makes_ready, may_read_ahead, size_of, span_of,
+    PATIENCE_S, RequestSize, WRITER_WAIT_MS, WRITER_WAITS, answers_read, batch_after, handed_in,
+    load_of, makes_ready, may_read_ahead, size_of, span_of,
 };
 use nbd_service::Service;
 use nbd_threads::HoldClock;
@@ -41,7 +41,7 @@ pub fn read_requests<'s, E, L: Ledger, R: Wait + Sync + time::Clock>(
             Some(request) => Offer::Again(request),
             None => Offer::Read(source.frames.next()),
         };
-        wait_for_room(rt, link);
+        wait_for_room(rt, service, link, offer.writes());
         source.answers = answers(rt, service, &offer, &mut read_in);
         if source.answers {
             wait_for_writer(rt, link);
@@ -64,16 +64,22 @@ pub fn read_requests<'s, E, L: Ledger, R: Wait + Sync + time::Clock>(
 }
 
 /// Waits while other rates are asked for the session's export, too many bytes of its requests are under way, or too many of its
-/// export's WRITEs wait.
-fn wait_for_room<R: Wait + time::Clock>(rt: &R, link: &SessionLink<'_>) {
+/// export's WRITEs wait, for which a first WRITE waits as well.
+fn wait_for_room<L: Ledger, R: Wait + time::Clock>(
+    rt: &R,
+    service: &Service<L>,
+    link: &SessionLink<'_>,
+    writes: bool,
+) {
     for _ in rt.forever() {
         if link.gate.is_shut() {
             wait_for_retune(rt, link);
         }
         let heard = link.room.heard();
-        if !link.bytes.holds_back(link.under_way()) {
+        if !link.bytes.holds_back(link.under_way(), writes) {
             return;
         }
+        service.look_at_left_writes(rt, link.session.export);
         rest(rt, link);
         link.room
             .wait(rt, heard, Some(Duration::from_secs(PATIENCE_S)));
@@ -165,13 +171,13 @@ fn read_on<L: Ledger, R: Wait + time::Clock>(
     offer: Offer,
 ) -> (Turn<Global>, bool) {
     if let Some(head) = offer.head() {
-        let most = handed_in(source.answers, BATCH);
         link.seat
-            .wait_for_turn(rt, head, source.frames.ready(), most, link.under_way());
+            .wait_for_turn(rt, head, source.frames.is_ready(), link.under_way());
     }
     let mut outlet = link.outlet.try_lock();
     let before = make_room(rt, link, &mut outlet, source.answers);
     let batch = hold_once(rt, service, link, source, pass, &mut outlet, offer);
+    link.seat.owe(batch.cost);
     let busy = outlet.is_none();
     let written = write_taken(rt, service, link, outlet, pass, &batch, before);
     if wakes_writer(batch.reads_long, written) {
@@ -244,7 +250,6 @@ fn hold_once<L: Ledger, R: Wait + time::Clock>(
     let most = handed_in(source.answers, batch_after(until(asked, held.now())));
     let batch = source.hand_in_batch(&mut *disks, service, link, pass, outlet, offer, most, &held);
     service.let_go(rt, disks, held.now());
-    link.note_arrived(batch.arrived);
     source.recycle(rt, service, &link.ahead, batch.brought);
     source.room.note(service.alloc, batch.brought);
     link.note_prefetched(batch.prefetched);

@@ -106,10 +106,11 @@ impl<'a, 'b, R: Wait + time::Clock> Feed<'a, 'b, R> {
         ensures { ReadsAtMost result buf.new }
     {
         let mut peer = self.link.peer;
+        let seat = self.link.seat;
         if self.is_between {
-            self.link
-                .seat
-                .wait_for_client(self.rt, peer, self.link.under_way());
+            seat.wait_for_client(self.rt, peer, self.link.traffic());
+        } else if let Some(came) = seat.read_within(self.rt, peer, buf) {
+            return Ok(came);
         }
         let came = peer.read(buf);
         self.link.seat.end_wait();
@@ -131,9 +132,9 @@ impl<'a, 'b, R: Wait + time::Clock> Feed<'a, 'b, R> {
                 return None;
             }
             if self.is_between {
-                self.link
-                    .seat
-                    .wait_for_pieces(self.rt, self.link.under_way());
+                self.link.seat.wait_for_pieces(self.rt, self.link.traffic());
+            } else {
+                self.link.seat.leave(self.rt, true);
             }
             ahead.discards.let_go();
             ahead.pieces.wait(self.rt, heard, None);

@@ -5,7 +5,7 @@ use crate::under_way::BytesUnderWay;
 use nbd_base::NoMemory;
 use nbd_policy::{OUTLET_BYTES, TAKEN_REPLIES, WIDE_OUTLET_BYTES, may_keep, suits_reader};
 use nbd_service::Disks;
-use nbd_threads::InteractiveLoad;
+use nbd_threads::{InteractiveLoad, TurnSeat};
 use nbd_workers::Bell;
 use server_core::SessionId;
 use server_lock::Pass;
@@ -73,9 +73,10 @@ impl<'a> Outlet<'a> {
         patient: &'a AtomicBool,
         interactive: &'a InteractiveLoad,
         under_way: &'a BytesUnderWay<'a>,
+        seat: &'a TurnSeat<'a>,
         work: &'a Bell,
     ) -> Result<Outlet<'a>, NoMemory> {
-        let port = Port::new(peer, patient, interactive, under_way, work);
+        let port = Port::new(peer, patient, interactive, under_way, seat, work);
         Ok(Outlet {
             replies: replies_of(alloc, port, OUTLET_BYTES)?,
             other: None,

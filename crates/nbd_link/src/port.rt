@@ -2,7 +2,7 @@
 
 use crate::under_way::BytesUnderWay;
 use nbd_policy::{MUCH_WRITTEN_BYTES, is_stalled};
-use nbd_threads::InteractiveLoad;
+use nbd_threads::{InteractiveLoad, TurnSeat};
 use nbd_workers::Bell;
 use std::io;
 use std::io::{ErrorKind, Write};
@@ -17,6 +17,8 @@ pub struct Port<'a> {
     patient: &'a AtomicBool,
     interactive: &'a InteractiveLoad,
     under_way: &'a BytesUnderWay<'a>,
+    // Nobody waits for a session whose client doesn't read.
+    seat: &'a TurnSeat<'a>,
     // Rung where the client doesn't read, so that the workers choose what its writer would have chosen.
     work: &'a Bell,
 }
@@ -27,6 +29,7 @@ impl<'a> Port<'a> {
         patient: &'a AtomicBool,
         interactive: &'a InteractiveLoad,
         under_way: &'a BytesUnderWay<'a>,
+        seat: &'a TurnSeat<'a>,
         work: &'a Bell,
     ) -> Port<'a> {
         Port {
@@ -34,6 +37,7 @@ impl<'a> Port<'a> {
             patient,
             interactive,
             under_way,
+            seat,
             work,
         }
     }
@@ -49,6 +53,7 @@ impl Write for Port<'_> {
                         && is_timeout(&error)
                         && !is_stalled(waits) => {
                     self.under_way.note_unread(true);
+                    self.seat.leave_later();
                     self.work.ring_one();
                 }
                 written => {

@@ -7,7 +7,7 @@ use crate::rules::waits_for_retune;
 use crate::under_way::BytesUnderWay;
 use nbd_base::NoMemory;
 use nbd_policy::{Load, patience};
-use nbd_threads::{InteractiveLoad, RetuneGate, TurnSeat};
+use nbd_threads::{InteractiveLoad, RetuneGate, Traffic, TurnSeat};
 use nbd_workers::Bell;
 use server_core::SessionId;
 use std::alloc::Global;
@@ -31,7 +31,7 @@ pub struct SessionLink<'a> {
     pub replies: &'a Bell,
     /// The interactive sessions.
     pub interactive: &'a InteractiveLoad,
-    pub seat: TurnSeat<'a>,
+    pub seat: &'a TurnSeat<'a>,
     pub bytes: &'a BytesUnderWay<'a>,
     /// Where its reader waits while other rates are asked for its export.
     pub gate: &'a RetuneGate,
@@ -53,12 +53,12 @@ impl<'a> SessionLink<'a> {
         patient: &'a AtomicBool,
         replies: &'a Bell,
         interactive: &'a InteractiveLoad,
-        seat: TurnSeat<'a>,
+        seat: &'a TurnSeat<'a>,
         bytes: &'a BytesUnderWay<'a>,
         gate: &'a RetuneGate,
         work: &'a Bell,
     ) -> Result<SessionLink<'a>, NoMemory> {
-        let outlet = Outlet::new(alloc, peer, patient, interactive, bytes, work)?;
+        let outlet = Outlet::new(alloc, peer, patient, interactive, bytes, seat, work)?;
         let ready = ReadyReplies::new(alloc)?;
         let ahead = ReadAhead::new(alloc)?;
         Ok(SessionLink {
@@ -145,8 +145,9 @@ impl<'a> SessionLink<'a> {
 
     /// Where nothing is under way and all replies are written, nothing counts any more. Whoever asks has locked the outlet.
     pub fn settle_bytes<R: Wait>(&self, rt: &R, outlet: &Outlet<'_>) {
+        let noted = self.bytes.noted();
         if self.under_way() == 0 && outlet.unwritten() == 0 && self.ready.is_empty(rt) {
-            self.bytes.settle();
+            self.bytes.settle(noted);
         }
     }
 
@@ -162,6 +163,11 @@ impl<'a> SessionLink<'a> {
 
     /// How many requests were handed in whose replies weren't taken.
     pub fn under_way(&self) -> u64 {
-        self.bytes.traffic.under_way()
+        self.traffic().under_way()
+    }
+
+    /// What the session did and has at hand.
+    pub fn traffic(&self) -> &Traffic {
+        self.bytes.traffic
     }
 }

@@ -1,7 +1,7 @@
 //! How many bytes of a session's requests are under way.
 
 use nbd_policy::{SESSION_BYTES, data_of, holds_back};
-use nbd_threads::Traffic;
+use nbd_threads::{BusyWriters, Traffic};
 use nbd_wire::RequestHead;
 use nbd_wire::protocol::WRITE;
 use std::sync::atomic::{AtomicBool, AtomicU64, Ordering};
@@ -44,17 +44,24 @@ pub struct BytesUnderWay<'a> {
     // Whether the session is over, and whether its client hasn't read for a while what was sent.
     over: AtomicBool,
     unread: AtomicBool,
+    writers: &'a BusyWriters,
 }
 
 impl<'a> BytesUnderWay<'a> {
-    /// Of a session that asked for nothing yet: its traffic, and all WRITEs of its export that wait.
-    pub fn new(all_waiting: &'a AtomicU64, traffic: &'a Traffic) -> BytesUnderWay<'a> {
+    /// Of a session that asked for nothing yet: its traffic, all WRITEs of its export that wait, and the writers at work, of which its own
+    /// is one.
+    pub fn new(
+        all_waiting: &'a AtomicU64,
+        traffic: &'a Traffic,
+        writers: &'a BusyWriters,
+    ) -> BytesUnderWay<'a> {
         BytesUnderWay {
             traffic,
             waiting: AtomicU64::new(0),
             all_waiting,
             over: AtomicBool::new(false),
             unread: AtomicBool::new(false),
+            writers,
         }
     }
 
@@ -79,24 +86,39 @@ impl<'a> BytesUnderWay<'a> {
         }
     }
 
-    /// Nothing of the session is under way: nothing counts any more, not the data of requests that were answered with an error
-    /// either.
-    pub fn settle(&self) {
-        if self.traffic.bytes.load(Ordering::SeqCst) > 0 {
-            self.traffic.bytes.store(0, Ordering::SeqCst);
-        }
-        let waiting = self.waiting.load(Ordering::SeqCst);
-        if waiting > 0 {
-            self.waiting.store(0, Ordering::SeqCst);
-            self.all_waiting.fetch_sub(waiting, Ordering::SeqCst);
+    /// What counts now.
+    pub fn noted(&self) -> Admitted {
+        Admitted {
+            bytes: self.traffic.bytes.load(Ordering::SeqCst),
+            waiting: self.waiting.load(Ordering::SeqCst),
         }
     }
 
-    /// Whether the reader hands in no more for now, with so many requests under way.
-    pub fn holds_back(&self, requests: u64) -> bool {
+    /// Nothing was under way after this was noted: it doesn't count any more, the data of requests that were answered with an error
+    /// among it. What was handed in meanwhile counts.
+    pub fn settle(&self, noted: Admitted) {
+        self.note_written(noted.bytes);
+        if noted.waiting > 0 {
+            self.waiting.fetch_sub(noted.waiting, Ordering::SeqCst);
+            self.all_waiting.fetch_sub(noted.waiting, Ordering::SeqCst);
+        }
+    }
+
+    /// The session is over: nothing of it counts any more, but for its WRITEs that may wait still. Tells how many bytes these have.
+    pub fn leave(&self) -> u64 {
+        let noted = self.noted();
+        self.note_written(noted.bytes);
+        self.waiting.fetch_sub(noted.waiting, Ordering::SeqCst);
+        noted.waiting
+    }
+
+    /// Whether the reader hands in no more for now, with so many requests under way: no WRITE either with none, where too many bytes
+    /// of its export's WRITEs wait.
+    pub fn holds_back(&self, requests: u64, writes: bool) -> bool {
         let bytes = self.traffic.bytes.load(Ordering::SeqCst);
         let waiting = self.all_waiting.load(Ordering::SeqCst);
-        holds_back(requests, bytes, waiting) && !self.is_over()
+        let full = holds_back(requests, bytes, waiting) || writes && holds_back(1, 0, waiting);
+        full && !self.is_over()
     }
 
     /// Whether a hold that handed this in hands in no more.
@@ -105,10 +127,16 @@ impl<'a> BytesUnderWay<'a> {
         bytes.saturating_add(admitted.bytes) > SESSION_BYTES
     }
 
-    /// The client reads what is sent, or doesn't.
+    /// The client reads what is sent, or doesn't: then the session's writer isn't at work.
     pub fn note_unread(&self, unread: bool) {
-        if self.is_unread() != unread {
-            self.unread.store(unread, Ordering::SeqCst);
+        if self.is_unread() == unread {
+            return;
+        }
+        self.unread.store(unread, Ordering::SeqCst);
+        if unread {
+            self.writers.end();
+        } else {
+            self.writers.begin();
         }
     }
 

@@ -1,7 +1,7 @@
 use export_cell::Outdated;
 use nbd_link::{BytesUnderWay, Discards, Feed, SessionLink};
 use nbd_stream::Buffered;
-use nbd_threads::{InteractiveLoad, RetuneGate, Traffic, TurnSeat, Turns};
+use nbd_threads::{BusyWriters, InteractiveLoad, RetuneGate, Traffic, TurnSeat, Turns};
 use nbd_workers::Bell;
 use payload::{Growing, Spares};
 use server_core::SessionId;
@@ -38,6 +38,7 @@ struct Shared {
     gate: RetuneGate,
     waiting: AtomicU64,
     traffic: Traffic,
+    writers: BusyWriters,
 }
 
 fn shared_of(alloc: Global) -> Option<Shared> {
@@ -56,6 +57,7 @@ fn shared_of(alloc: Global) -> Option<Shared> {
         gate: RetuneGate::new(),
         waiting: AtomicU64::new(0),
         traffic: Traffic::new(),
+        writers: BusyWriters::new(),
     })
 }
 
@@ -65,12 +67,12 @@ fn link_of<'a>(
     peer: &'a TcpStream,
     patient: &'a AtomicBool,
     bytes: &'a BytesUnderWay<'a>,
+    seat: &'a TurnSeat<'a>,
 ) -> Option<SessionLink<'a>> {
     let session = SessionId {
         export: 0,
         number: 0,
     };
-    let seat = TurnSeat::new(&shared.turns, None, 0);
     SessionLink::new(
         alloc,
         session,
@@ -94,8 +96,9 @@ fn fed<R: Wait + Threads + Sync + time::Clock>(
     peer: &TcpStream,
 ) -> io::Result<(usize, bool)> {
     let patient = AtomicBool::new(false);
-    let bytes = BytesUnderWay::new(&shared.waiting, &shared.traffic);
-    match link_of(shared, alloc, peer, &patient, &bytes) {
+    let bytes = BytesUnderWay::new(&shared.waiting, &shared.traffic, &shared.writers);
+    let seat = TurnSeat::new(&shared.turns, None, 0);
+    match link_of(shared, alloc, peer, &patient, &bytes, &seat) {
         Some(link) => read_ahead(rt, alloc, &link),
         None => Ok((0, false)),
     }

@@ -1,1 +1,2 @@
 pub mod Retunes
+pub mod LeftWrites

@@ -37,13 +37,16 @@ pub struct ExportFigures {
 }
 
 impl ExportFigures {
+    /// How many requests were chosen.
+    pub fn chosen(&self) -> u64 {
+        self.counts
+            .by_reservation
+            .saturating_add(self.counts.by_weight)
+    }
+
     /// How many requests are in service.
     pub fn in_service(&self) -> u64 {
-        let chosen = self
-            .counts
-            .by_reservation
-            .saturating_add(self.counts.by_weight);
-        chosen.saturating_sub(self.counts.performed)
+        self.chosen().saturating_sub(self.counts.performed)
     }
 }
 

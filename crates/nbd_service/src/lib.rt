@@ -1,5 +1,5 @@
-//! The server as its threads share it: `Service` (its lock, and who goes first to it) and what is done around a hold. The faults and the
-//! outcome of a retune have contracts. The rest has none and is tested instead, since it takes locks and wakes threads: `Service`,
+//! The server as its threads share it: `Service` (its lock, and who goes first to it) and what is done around a hold. The faults, the
+//! outcome of a retune and WRITEs that ended sessions left have contracts. The rest has none and is tested instead, since it takes locks and wakes threads: `Service`,
 //! the bells, the passes, the wake-ups, the figures of exports, the workers' gate and the retunes; and prefetching, which changes
 //! nothing. Numbers and rules over values are nbd_policy's, what needs no server is nbd_threads'.
 #![tactic(auto)]
@@ -7,6 +7,7 @@
 mod bells;
 mod fault;
 mod figures;
+mod left_writes;
 mod passes;
 mod prefetching;
 mod retuning;
@@ -17,6 +18,7 @@ mod worker_gate;
 pub use bells::Bells;
 pub use fault::ServeFault;
 pub use figures::{ExportFigures, tally_of};
+pub use left_writes::LeftWrites;
 pub use passes::PassPool;
 pub use prefetching::prefetch;
 pub use retuning::RetuneOutcome;

@@ -76,6 +76,8 @@ impl<L: Ledger> Service<L> {
             if !is_tried_again(latest, passed) {
                 break;
             }
+            // What waits may be left to a thread that waits for its client.
+            self.bells.work.ring_one();
             thread::sleep(rt, Duration::from_millis(RETUNE_LOOK_MS));
         }
         latest

@@ -2,6 +2,7 @@
 
 use crate::bells::Bells;
 use crate::figures::tally_of;
+use crate::left_writes::LeftWrites;
 use crate::passes::PassPool;
 use eligibility::Heaped;
 use export_store::Paged;
@@ -73,6 +74,8 @@ pub struct Service<L: Ledger> {
     pub retunes: Retunes,
     /// How many bytes of each export's WRITEs wait.
     pub waiting_writes: Vec<AtomicU64>,
+    /// What of these ended sessions left.
+    pub left_writes: Vec<Mutex<LeftWrites>>,
     pub latest_long: Mutex<Option<LongWrite>>,
     /// How many sessions read long data.
     pub readers: Mutex<LongReaders>,
@@ -95,8 +98,10 @@ impl<L: Ledger> Service<L> {
         passes: PassPool<L>,
     ) -> Result<Service<L>, NoMemory> {
         let mut waiting_writes = Vec::new(alloc);
+        let mut left_writes = Vec::new(alloc);
         for _ in config.exports() {
             waiting_writes.push(AtomicU64::new(0))?;
+            left_writes.push(Mutex::new(LeftWrites::NONE))?;
         }
         let tally = tally_of(alloc, config)?;
         shared.hold(rt).set_tally(tally);
@@ -117,6 +122,7 @@ impl<L: Ledger> Service<L> {
             turns: Turns::new(alloc, config)?,
             retunes: Retunes::new(alloc, config)?,
             waiting_writes,
+            left_writes,
             latest_long: Mutex::new(None),
             readers: Mutex::new(LongReaders::NOBODY),
             spares: SpareStore::new(alloc)?,
@@ -221,6 +227,46 @@ impl<L: Ledger> Service<L> {
             other,
         });
         alone
+    }
+
+    /// A session of an export ended, and so many bytes of its WRITEs may wait still: they count until none does. Where their figures
+    /// can't be had for want of memory, they count no longer.
+    pub fn leave_writes<R: Wait>(&self, rt: &R, export: u32, bytes: u64) {
+        let (Some(left), true) = (self.left_writes.get(export as usize), bytes > 0) else {
+            return;
+        };
+        match self.export_figures(rt, export) {
+            Ok(Some(figures)) => {
+                let mut left = left.lock(rt);
+                *left = left.with(bytes, figures.chosen(), figures.waiting);
+            }
+            _ => self.forget_writes(export, bytes),
+        }
+        self.look_at_left_writes(rt, export);
+    }
+
+    /// What ended sessions of an export left counts no longer where none of it waits.
+    pub fn look_at_left_writes<R: Wait>(&self, rt: &R, export: u32) {
+        let Some(left) = self.left_writes.get(export as usize) else {
+            return;
+        };
+        let mut left = left.lock(rt);
+        if left.bytes == 0 {
+            return;
+        }
+        if let Ok(Some(figures)) = self.export_figures(rt, export) {
+            if left.are_chosen(figures.chosen()) {
+                self.forget_writes(export, left.bytes);
+                *left = LeftWrites::NONE;
+            }
+        }
+    }
+
+    /// So many bytes of an export's WRITEs don't count as waiting any more.
+    fn forget_writes(&self, export: u32, bytes: u64) {
+        if let Some(waiting) = self.waiting_writes.get(export as usize) {
+            waiting.fetch_sub(bytes, Ordering::SeqCst);
+        }
     }
 
     /// Drops the session. Where it is gone already, all stays.

@@ -65,7 +65,7 @@ pub fn has_input(peer: &TcpStream) -> bool {
 }
 
 /// Reads what has come. None where nothing has, or the connection failed.
-fn read_now(peer: &TcpStream, buf: &mut [u8]) -> Option<usize>
+pub(crate) fn read_now(peer: &TcpStream, buf: &mut [u8]) -> Option<usize>
     ensures { IfSome result (λ n. n ≤ length buf.new) }
 {
     let came = unsafe { recv(peer.as_raw_fd(), buf, MSG_DONTWAIT) };

@@ -1,11 +1,12 @@
 //! A session's place in the order of turns.
+ghost use Rattle.std.specs.Prelude.{◌≤◌, length, IfSome};
 
+use crate::connections::Traffic;
 use crate::running_clock::RunningClock;
-use crate::spin_read::has_input;
+use crate::spin_read::{has_input, read_now};
 use crate::turns::Turns;
 use nbd_policy::{RequestSize, asks_for_turn, backlog_after, cost_of, has_more, size_of};
-use nbd_wire::{Request, RequestHead};
-use std::alloc::Global;
+use nbd_wire::RequestHead;
 use std::net::TcpStream;
 use std::sync::Wait;
 use std::sync::atomic::{AtomicBool, AtomicU32, AtomicU64, Ordering};
@@ -54,8 +55,8 @@ impl<'a> TurnSeat<'a> {
         }
     }
 
-    /// Waits for the turn of a request and of those that are ready behind it, `most` at most in all, while `under_way` of the
-    /// session are under way. Some requests go on without asking; the next that asks is charged with them. A session that mostly
+    /// Waits for the turn of a request, behind which others are ready or none, while `under_way` of the session are under way. Some
+    /// requests go on without asking; the next that asks is charged with them. A session that mostly
     /// has one request at a time doesn't count as one that has something at hand, unless that is a long WRITE: others would stop
     /// for it, and it would have to wake them behind each of its requests. A client of long READs mostly sends one behind each
     /// reply, so those that are under way count.
@@ -63,17 +64,19 @@ impl<'a> TurnSeat<'a> {
         &self,
         rt: &R,
         head: RequestHead,
-        ready: &[Request<Global>],
-        most: usize,
+        ready: bool,
         under_way: u64,
     ) {
         let long = size_of(head) == RequestSize::LongWrite;
-        let backlog = self.note_at_hand(long, !ready.is_empty(), under_way);
+        let backlog = self.note_at_hand(long, ready, under_way);
         if self.turns.is_alone(self.export) {
             self.owed.store(0, Ordering::SeqCst);
             return;
         }
-        let cost = self.cost_with(head, ready, most);
+        let cost = self
+            .owed
+            .load(Ordering::SeqCst)
+            .saturating_add(cost_of(head));
         let enters = (backlog > 0 || long) && !self.at_hand.load(Ordering::SeqCst);
         let clock = RunningClock::since(rt, self.start);
         let now = clock.now().nanoseconds();
@@ -96,17 +99,12 @@ impl<'a> TurnSeat<'a> {
             .store(clock.now().nanoseconds(), Ordering::SeqCst);
     }
 
-    /// What is to be charged, in units: what went on since its reader asked last, and a request with those that are ready behind it, `most` at
-    /// most in all.
-    fn cost_with(&self, head: RequestHead, ready: &[Request<Global>], most: usize) -> u32 {
-        let mut cost = self
-            .owed
-            .load(Ordering::SeqCst)
-            .saturating_add(cost_of(head));
-        for request in ready.iter().rev().take(most.saturating_sub(1)) {
-            cost = cost.saturating_add(cost_of(request.head()));
+    /// So many units more were handed in, behind a request whose turn had come.
+    pub fn owe(&self, cost: u32) {
+        if cost > 0 {
+            let owed = self.owed.load(Ordering::SeqCst);
+            self.owed.store(owed.saturating_add(cost), Ordering::SeqCst);
         }
-        cost
     }
 
     /// Notes whether the next request is a long WRITE, whether others are ready behind it, and how many are under way. Tells for how
@@ -131,34 +129,62 @@ impl<'a> TurnSeat<'a> {
         }
     }
 
-    /// The reader is about to wait for its client, behind whole requests, of which so many are under way.
-    pub fn wait_for_client<R: Wait + time::Clock>(&self, rt: &R, peer: &TcpStream, under_way: u64) {
-        if !self.is_waited_for() {
+    /// The reader is about to wait for its client, behind whole requests.
+    pub fn wait_for_client<R: Wait + time::Clock>(
+        &self,
+        rt: &R,
+        peer: &TcpStream,
+        traffic: &Traffic,
+    ) {
+        if !self.is_at_hand() {
             return;
         }
         let has = has_input(peer);
         set(&self.had_input, has);
         if !has {
-            self.wait_for_pieces(rt, under_way);
+            self.wait_for_pieces(rt, traffic);
         }
     }
 
-    /// The same where it is known that nothing has come.
-    pub fn wait_for_pieces<R: Wait + time::Clock>(&self, rt: &R, under_way: u64) {
-        if !self.is_waited_for() {
+    /// The same where it is known that nothing has come. What is under way counts while the client keeps up with its replies.
+    pub fn wait_for_pieces<R: Wait + time::Clock>(&self, rt: &R, traffic: &Traffic) {
+        if !self.is_at_hand() {
             return;
         }
-        if under_way > 0 {
+        if traffic.under_way() > 0 && self.keeps_up.load(Ordering::SeqCst) {
             set(&self.reader_waits, true);
-        } else {
-            let much = self.backlog.load(Ordering::SeqCst) > 0;
-            self.leave(rt, much && self.writes_long.load(Ordering::SeqCst));
+            // The writer may have sent the last reply before it could see that.
+            if traffic.under_way() > 0 {
+                return;
+            }
         }
+        let much = self.backlog.load(Ordering::SeqCst) > 0;
+        self.leave(rt, much && self.writes_long.load(Ordering::SeqCst));
+    }
+
+    /// What has come of the rest of a request, where the session counts as one that has something at hand. Where nothing has, it doesn't
+    /// count until the next request, but for a moment. None where it doesn't count, nothing has come, or the connection failed.
+    pub fn read_within<R: Wait + time::Clock>(
+        &self,
+        rt: &R,
+        peer: &TcpStream,
+        buf: &mut [u8],
+    ) -> Option<usize>
+        ensures { IfSome result (λ n. n ≤ length buf.new) }
+    {
+        if !self.is_at_hand() {
+            return None;
+        }
+        let came = read_now(peer, buf);
+        if came.is_none() {
+            self.leave(rt, true);
+        }
+        came
     }
 
     /// The reader got bytes without a wait: more had come behind the latest request.
     pub fn note_input(&self) {
-        if self.is_waited_for() {
+        if self.is_at_hand() {
             set(&self.had_input, true);
         }
     }
@@ -188,9 +214,16 @@ impl<'a> TurnSeat<'a> {
         }
     }
 
-    /// Whether others may wait for it.
-    fn is_waited_for(&self) -> bool {
-        self.at_hand.load(Ordering::SeqCst) && self.turns.is_contended(self.export)
+    /// The same, as whoever has the order of turns next finds. It takes no lock.
+    pub fn leave_later(&self) {
+        if self.at_hand.load(Ordering::SeqCst) && self.at_hand.swap(false, Ordering::SeqCst) {
+            self.turns.leave_later(self.export);
+        }
+    }
+
+    /// Whether it counts as one that has something at hand, for which others may wait.
+    fn is_at_hand(&self) -> bool {
+        self.at_hand.load(Ordering::SeqCst)
     }
 }
 

@@ -6,7 +6,7 @@ use nbd_commands::Config;
 use nbd_policy::{BUSY_NS, LINGER_NS, MOST_EXPORTS};
 use nbd_workers::Bell;
 use std::alloc::Global;
-use std::sync::atomic::{AtomicU64, Ordering};
+use std::sync::atomic::{AtomicBool, AtomicU32, AtomicU64, Ordering};
 use std::sync::{Mutex, Wait};
 use std::time::Duration;
 use tag_clock::{Clock, Moment};
@@ -22,6 +22,9 @@ pub struct Turns {
     bells: Vec<Bell>,
     // How many sessions wait.
     waiting: AtomicU64,
+    // How many sessions of each export have nothing at hand any more while the order still counts them, and whether there are such.
+    left: Vec<AtomicU32>,
+    some_left: AtomicBool,
 }
 
 /// The bit of an export, by its number.
@@ -43,9 +46,11 @@ impl Turns {
         }
         let mut asked = Vec::new(alloc);
         let mut bells = Vec::new(alloc);
+        let mut left = Vec::new(alloc);
         for _ in rates {
             asked.push(AtomicU64::new(0))?;
             bells.push(Bell::new())?;
+            left.push(AtomicU32::new(0))?;
         }
         Ok(Turns {
             order: Mutex::new(TurnOrder::new(alloc, rates)?),
@@ -53,6 +58,8 @@ impl Turns {
             asked,
             bells,
             waiting: AtomicU64::new(0),
+            left,
+            some_left: AtomicBool::new(false),
         })
     }
 
@@ -64,11 +71,6 @@ impl Turns {
             self.busy.fetch_or(bit, Ordering::SeqCst);
         }
         busy & !bit == 0
-    }
-
-    /// Whether another export asked lately.
-    pub fn is_contended(&self, export: u32) -> bool {
-        self.busy.load(Ordering::SeqCst) & !bit_of(export as usize) != 0
     }
 
     /// Waits for the export's turn with requests of this cost, in units. Where the session `enters`, it counts from now on as one that
@@ -109,6 +111,7 @@ impl Turns {
         now: Moment,
     ) -> Option<u64> {
         let mut order = self.order.lock(rt);
+        self.note_left(&mut *order);
         if enters {
             order.enter(export, now);
         }
@@ -130,6 +133,7 @@ impl Turns {
     /// A session has nothing at hand any more. Where its client sends much, its export counts for a little longer.
     pub fn leave<R: Wait>(&self, rt: &R, export: u32, now: Moment, lingers: bool) {
         let mut order = self.order.lock(rt);
+        self.note_left(&mut *order);
         order.leave(export);
         if lingers {
             let until = now.nanoseconds().saturating_add(LINGER_NS);
@@ -138,6 +142,29 @@ impl Turns {
         let wakes = self.to_wake(&*order, now);
         drop(order);
         self.ring(wakes);
+    }
+
+    /// A session has nothing at hand any more, as whoever has the order next finds. It takes no lock.
+    pub fn leave_later(&self, export: u32) {
+        if let Some(left) = self.left.get(export as usize) {
+            left.fetch_add(1, Ordering::SeqCst);
+            self.some_left.store(true, Ordering::SeqCst);
+        }
+    }
+
+    /// The order doesn't count those any more that left later.
+    fn note_left(&self, order: &mut TurnOrder<Global>) {
+        if !self.some_left.load(Ordering::SeqCst) {
+            return;
+        }
+        self.some_left.store(false, Ordering::SeqCst);
+        let mut export = 0u32;
+        for left in &self.left {
+            for _ in 0..left.swap(0, Ordering::SeqCst) {
+                order.leave(export);
+            }
+            export = export.saturating_add(1);
+        }
     }
 
     /// The export has other rates from now on. Wakes those whose turn has come by that.

@@ -10,7 +10,7 @@ use nbd_policy::{
     size_of, span_of, still_defers, still_retunes, still_waits_for_line, suits_reader,
     waiting_until, wakes_worker, yields_behind, yields_behind_look,
 };
-use nbd_threads::{BusyWriters, InteractiveLoad, RunningClock, SpinRead, Turns};
+use nbd_threads::{BusyWriters, InteractiveLoad, RunningClock, SpinRead, Traffic, TurnSeat, Turns};
 use nbd_wire::RequestHead;
 use nbd_wire::protocol::{CACHE, FLUSH, READ, TRIM, WRITE, WRITE_ZEROES};
 use std::alloc::Global;
@@ -242,6 +242,62 @@ fn a_socket_that_is_watched(rt: HostRuntime) -> Result<(), Fail> {
     Ok(())
 }
 
+/// A long WRITE.
+const LONG_WRITE: RequestHead = RequestHead {
+    flags: 0,
+    kind: WRITE,
+    cookie: 0,
+    offset: 0,
+    length: 131_072,
+};
+
+/// How many bytes come of the rest of a request where three have come, where none has, and where three have since: in the last case the
+/// session doesn't count any more as one that has something at hand.
+fn came_within<R: Wait + time::Clock>(
+    rt: &R,
+    turns: &Turns,
+    peer: &TcpStream,
+    mut there: &UnixStream,
+) -> io::Result<(Option<usize>, Option<usize>, Option<usize>)> {
+    let seat = TurnSeat::new(turns, Instant::now(rt).ok(), 0);
+    let _ = turns.is_alone(1);
+    seat.wait_for_turn(rt, LONG_WRITE, false, 0);
+    seat.owe(8);
+    let mut bytes = [0u8; 8];
+    there.write_all(b"abc")?;
+    let first = seat.read_within(rt, peer, &mut bytes);
+    let second = seat.read_within(rt, peer, &mut bytes);
+    there.write_all(b"abc")?;
+    let third = seat.read_within(rt, peer, &mut bytes);
+    seat.wait_for_pieces(rt, &Traffic::new());
+    seat.leave_later();
+    Ok((first, second, third))
+}
+
+/// The same beside another export.
+fn comes_within<R: Wait + time::Clock>(
+    rt: &R,
+    alloc: Global,
+    peer: &TcpStream,
+    there: &UnixStream,
+) -> Option<(Option<usize>, Option<usize>, Option<usize>)> {
+    let rates = [Rates {
+        reservation: 0,
+        limit: 0,
+        weight: 1,
+    }; 2];
+    let turns = Turns::of(alloc, &rates).ok()?;
+    came_within(rt, &turns, peer, there).ok()
+}
+
+#[test]
+fn the_rest_of_a_request(rt: HostRuntime) -> Result<(), Fail> {
+    let (here, there) = UnixStream::pair(&rt)?;
+    let peer = TcpStream::from(OwnedFd::from(here));
+    assert!(rt; comes_within(&rt, rt.alloc(), &peer, &there) == Some((Some(3), None, None)));
+    Ok(())
+}
+
 /// How long an export waits that has just got far ahead of another.
 fn waited<R: Wait + time::Clock>(rt: &R, turns: &Turns, start: Instant) -> Option<Duration> {
     let clock = RunningClock::since(rt, Some(start));
@@ -262,17 +318,23 @@ fn waits_beside_another<R: Wait + time::Clock>(rt: &R, alloc: Global) -> Option<
     let turns = Turns::of(alloc, &rates).ok()?;
     let start = Instant::now(rt).ok()?;
     let clock = RunningClock::since(rt, Some(start));
-    let before = turns.is_alone(0) && turns.is_alone(0) && !turns.is_contended(0);
+    let before = turns.is_alone(0) && turns.is_alone(0);
     turns.wait_for_turn(rt, 0, 1, true, &clock);
     turns.wait_for_turn(rt, 1, 1, true, &clock);
-    let beside = !turns.is_alone(1) && turns.is_contended(0);
+    let beside = !turns.is_alone(1) && !turns.is_alone(0);
     // The other is waited for as long as it was seen lately, 5 milliseconds: a test that is stopped for longer waits for nobody.
     let mut waits = false;
     for _ in 0..50 {
         waits = waits || waited(rt, &turns, start)? >= Duration::from_micros(500);
     }
-    turns.leave(rt, 1, Moment::zero(), false);
-    Some(before && beside && waits)
+    // Once it left, whoever is ahead goes on.
+    turns.leave_later(1);
+    let mut goes_on = false;
+    for _ in 0..50 {
+        goes_on = goes_on || waited(rt, &turns, start)? < Duration::from_micros(500);
+    }
+    turns.leave(rt, 0, Moment::zero(), false);
+    Some(before && beside && waits && goes_on)
 }
 
 #[test]

@@ -44,12 +44,12 @@ pub fn serve_on<R: Wait + Threads + Sync + time::Clock>(
 ) -> Result<u128, ServeFault> {
     let mut listeners = Vec::new(alloc);
     if let Some(tcp) = tcp {
-        listeners.push(Listener::Tcp(tcp))?;
+        listeners.push(Listener::tcp(tcp))?;
     }
     if let Some(unix) = unix {
-        listeners.push(Listener::Unix(unix))?;
+        listeners.push(Listener::unix(unix))?;
     }
-    let control = control.map(|listener| ControlSocket::new(Listener::Unix(listener)));
+    let control = control.map(|listener| ControlSocket::new(Listener::unix(listener)));
     let listening = crew.sessions.most().saturating_mul(listeners.len() as u64);
     let passes = passes_for(listening, crew.workers);
     let blank = Blank::new(passes);
@@ -140,6 +140,8 @@ fn run_worker<L: Ledger, R: Wait + time::Clock>(rt: &R, service: &Service<L>) {
         let gate = WorkerGate::new(rt, service);
         let pass = work(rt, &service.shared, &gate, pass);
         service.passes.give_back(rt, pass);
+        // Another may sleep since as many requests were in service as may be.
+        service.bells.work.ring();
     }
 }
 

@@ -14,7 +14,15 @@ use std::sync::ledger::Ledger;
 
 /// Where clients connect. A connection of either kind is a stream socket, so one type serves for both.
 #[derive(Drop)]
-pub enum Listener {
+pub struct Listener {
+    socket: ListeningSocket,
+    // A second descriptor of the socket, lent to a stream: a listener has no `shutdown`. It is made at the start, since there may be no
+    // descriptor left at the end.
+    shutter: Option<TcpStream>,
+}
+
+#[derive(Drop)]
+enum ListeningSocket {
     Tcp(TcpListener),
     Unix(UnixListener),
 }
@@ -34,16 +42,32 @@ impl<L: Ledger> Entrance<L> {
 }
 
 impl Listener {
+    pub fn tcp(listener: TcpListener) -> Listener {
+        let shutter = listener.try_clone().ok();
+        Listener {
+            shutter: shutter.map(|again| TcpStream::from(OwnedFd::from(again))),
+            socket: ListeningSocket::Tcp(listener),
+        }
+    }
+
+    pub fn unix(listener: UnixListener) -> Listener {
+        let shutter = listener.try_clone().ok();
+        Listener {
+            shutter: shutter.map(|again| TcpStream::from(OwnedFd::from(again))),
+            socket: ListeningSocket::Unix(listener),
+        }
+    }
+
     /// The next connection, once there is one. Over TCP it sends each write at once.
     pub fn accept(&self) -> io::Result<TcpStream> {
-        match self {
-            Listener::Tcp(listener) => {
+        match &self.socket {
+            ListeningSocket::Tcp(listener) => {
                 let (stream, _) = listener.accept()?;
                 let _ = stream.set_nodelay(true);
                 keep_alive(&stream);
                 Ok(stream)
             }
-            Listener::Unix(listener) => {
+            ListeningSocket::Unix(listener) => {
                 let (stream, _) = listener.accept()?;
                 Ok(TcpStream::from(OwnedFd::from(stream)))
             }
@@ -52,12 +76,10 @@ impl Listener {
 
     /// Makes an `accept` that waits fail, and each later one.
     pub fn close(&self) -> io::Result<()> {
-        // A listener has no `shutdown`: a second descriptor of its socket is lent to a stream, which has one.
-        let socket = match self {
-            Listener::Tcp(listener) => OwnedFd::from(listener.try_clone()?),
-            Listener::Unix(listener) => OwnedFd::from(listener.try_clone()?),
-        };
-        TcpStream::from(socket).shutdown(Shutdown::Both)
+        match &self.shutter {
+            Some(shutter) => shutter.shutdown(Shutdown::Both),
+            None => Err(io::Error::from(ErrorKind::NotConnected)),
+        }
     }
 }
 
