@@ -333,6 +333,20 @@ def sessions_not_waited_for():
             client.socket.close()
 
 
+def long_reads_beside_stuck_sessions():
+    """READs of 1 MiB of one connection, beside three sessions of another export that don't read their replies."""
+    with two_disks() as server:
+        fill(server.places[0], server.exports[0])
+        reads = [server.clients(0, bytes=MIB, depth=8)]
+        alone = load(2, reads)[0]["mib_a_second"]
+        stuck = [Client(server.places[1], server.exports[1]) for _ in range(3)]
+        for client in stuck:
+            client.send(READ, 0, MIB)
+        time.sleep(0.5)
+        beside = load(2, reads)[0]["mib_a_second"]
+        yield beside > 0.75 * alone, "beside three sessions that don't read 1 MiB READs of another export come to %.2f of those without (0.75)" % (beside / alone)
+
+
 def shares_of_unequal_requests():
     """Each request counts what it is, also where a hold hands in one alone."""
     with two_disks(config=exports_of(["weight = 1"] * 2)) as server:
@@ -672,6 +686,7 @@ TESTS = [
     control_clients,
     control_without_threads,
     sessions_not_waited_for,
+    long_reads_beside_stuck_sessions,
     shares_of_unequal_requests,
     writes_of_clients_that_leave,
     orderly_ends,
