@@ -1,5 +1,6 @@
 use export_cell::Outdated;
 use nbd_link::{BytesUnderWay, Discards, Feed, SessionLink};
+use nbd_service::LeftWrites;
 use nbd_stream::Buffered;
 use nbd_threads::{BusyWriters, InteractiveLoad, RetuneGate, Traffic, TurnSeat, Turns};
 use nbd_workers::Bell;
@@ -221,4 +222,11 @@ fn what_holds_took_out(rt: HostRuntime) -> Result<(), Fail> {
     let mut outdated = Outdated::with_room(alloc, 1).expect(rt, "memory");
     assert!(rt; is_left_in_turn(rt, alloc, &mut outdated));
     Ok(())
+}
+
+#[test]
+fn writes_that_ended_sessions_left(rt: HostRuntime) {
+    let left = LeftWrites::NONE.with(8, 3, 2).with(4, 4, 0);
+    assert!(rt; left.bytes == 12 && left.until == 5);
+    assert!(rt; !left.are_chosen(4) && left.are_chosen(5));
 }
