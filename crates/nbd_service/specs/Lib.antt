@@ -1,2 +1,3 @@
 pub mod Retunes
 pub mod LeftWrites
+pub mod Figures

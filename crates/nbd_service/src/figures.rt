@@ -1,4 +1,6 @@
 //! What is told of the server and its exports while it runs.
+ghost use Rattle.std.specs.Prelude.{◌≡◌, ◌-◌};
+ghost use Rattle.nbd_service.specs.Figures.{chosen_by};
 
 use crate::service::{Disks, Service};
 use export_cell::ExportCell;
@@ -38,14 +40,18 @@ pub struct ExportFigures {
 
 impl ExportFigures {
     /// How many requests were chosen.
-    pub fn chosen(&self) -> u64 {
+    pub fn chosen(&self) -> u64
+        ensures { result ≡ chosen_by self.now.counts }
+    {
         self.counts
             .by_reservation
             .saturating_add(self.counts.by_weight)
     }
 
     /// How many requests are in service.
-    pub fn in_service(&self) -> u64 {
+    pub fn in_service(&self) -> u64
+        ensures { result ≡ chosen_by self.now.counts - self.now.counts.performed }
+    {
         self.chosen().saturating_sub(self.counts.performed)
     }
 }
