@@ -11,7 +11,7 @@ use Rattle.turn_order.specs.Flows.{contends_at, one_more, tuned}
 use Rattle.turn_order.specs.Contenders.{among, goes_on, time_after, charged}
 use Rattle.turn_order.specs.Orders.{Order, placed, back, turned, asked, answer}
 use Rattle.turn_order.specs.Calls.{Call, after, is_go, given_by, IsCostUpTo}
-use Rattle.turn_order.specs.Calls.Call.{Enter, Leave, Begin_wait, End_wait, Linger, Retune, Ask}
+use Rattle.turn_order.specs.Calls.Call.{Enter, Leave, Begin_wait, End_wait, Linger, Limit, Retune, Ask}
 use Rattle.turn_order.specs.Laws.{IsFlow, IsContending, IsContendingAt, lead}
 use Rattle.turn_order.proofs.Cases.{if_told, some_told}
 use Rattle.turn_order.proofs.Puts.{get_same, get_other, put_here, put_other}
@@ -149,6 +149,7 @@ moved most x (Leave e) o f here low near few = changed most e x (Leave e) o f (�
 moved most x (Begin_wait e) o f here low near few = changed most e x (Begin_wait e) o f (λ k. record k { waiting = one_more k.waiting }) refl refl refl refl here low
 moved most x (End_wait e) o f here low near few = changed most e x (End_wait e) o f (λ k. record k { waiting = k.waiting - 1 }) refl refl refl refl here low
 moved most x (Linger e until) o f here low near few = changed most e x (Linger e until) o f (λ k. record k { lingers_until = max k.lingers_until until }) refl refl refl refl here low
+moved most x (Limit e until) o f here low near few = changed most e x (Limit e until) o f (λ k. record k { limited_until = max k.limited_until until }) refl refl refl refl here low
 moved most x (Retune e rates) o f here low near few =
     (f, still most x (Retune e rates) o f f (put_other o e x (tuned rates o.clock) (λ q. near (sym q)) ∙ here) refl refl refl low)
 moved most x (Ask e now cost) o f here low near few = moved_ask most x e now cost o f here low (contends x now f o here near) few

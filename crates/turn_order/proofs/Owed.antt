@@ -11,7 +11,7 @@ use Rattle.turn_order.specs.Flows.{contends_at, due_at, flow_of, one_more, tuned
 use Rattle.turn_order.specs.Contenders.{among, credit_of, goes_on, time_after, charged}
 use Rattle.turn_order.specs.Orders.{Order, placed, back, entered, turned, asked}
 use Rattle.turn_order.specs.Calls.{Call, after, run, fresh, IsCostUpTo}
-use Rattle.turn_order.specs.Calls.Call.{Enter, Leave, Begin_wait, End_wait, Linger, Retune, Ask}
+use Rattle.turn_order.specs.Calls.Call.{Enter, Leave, Begin_wait, End_wait, Linger, Limit, Retune, Ask}
 use Rattle.turn_order.specs.Laws.{IsFlow, time_of, IsOwedLittle, IsOwingLittle}
 use Rattle.turn_order.proofs.Cases.{if_told, some_told, true_false}
 use Rattle.turn_order.proofs.Puts.{get_same, get_other, put_here}
@@ -92,6 +92,7 @@ after_within most (Leave e) o few all = changed_within most e o (λ f. record f 
 after_within most (Begin_wait e) o few all = changed_within most e o (λ f. record f { waiting = one_more f.waiting }) all (λ f here. record { within = (all.each e f here).within })
 after_within most (End_wait e) o few all = changed_within most e o (λ f. record f { waiting = f.waiting - 1 }) all (λ f here. record { within = (all.each e f here).within })
 after_within most (Linger e until) o few all = changed_within most e o (λ f. record f { lingers_until = max f.lingers_until until }) all (λ f here. record { within = (all.each e f here).within })
+after_within most (Limit e until) o few all = changed_within most e o (λ f. record f { limited_until = max f.limited_until until }) all (λ f here. record { within = (all.each e f here).within })
 after_within most (Retune e rates) o few all = changed_within most e o (tuned rates o.clock) all (λ f here. record { within = omega arith })
 after_within most (Ask e now cost) o few all = asked_within most e now cost o few all
 

@@ -4,7 +4,7 @@ use Rattle.turn_order.specs.declared.Rates.{Rates}
 use Rattle.turn_order.specs.declared.Turn.{Turn}
 use Rattle.turn_order.specs.declared.Turn.TheVariants.{Go, Wait}
 use Rattle.turn_order.specs.Flows.{flow_of}
-use Rattle.turn_order.specs.Orders.{Order, entered, left, lingering, retuned, wait_begun, wait_ended, answer, asked}
+use Rattle.turn_order.specs.Orders.{Order, entered, left, lingering, limited, retuned, wait_begun, wait_ended, answer, asked}
 
 pub data Call : Type 0 where
   Enter : (export now : ℕ) → Call
@@ -12,6 +12,7 @@ pub data Call : Type 0 where
   Begin_wait : (export : ℕ) → Call
   End_wait : (export : ℕ) → Call
   Linger : (export until : ℕ) → Call
+  Limit : (export until : ℕ) → Call
   Retune : (export : ℕ) (rates : Rates) → Call
   Ask : (export now cost : ℕ) → Call
 
@@ -21,6 +22,7 @@ after (Leave e) o = left e o
 after (Begin_wait e) o = wait_begun e o
 after (End_wait e) o = wait_ended e o
 after (Linger e until) o = lingering e until o
+after (Limit e until) o = limited e until o
 after (Retune e rates) o = retuned e rates o
 after (Ask e now cost) o = asked e now cost o
 
@@ -43,6 +45,7 @@ given_by a (Leave e) o = 0
 given_by a (Begin_wait e) o = 0
 given_by a (End_wait e) o = 0
 given_by a (Linger e until) o = 0
+given_by a (Limit e until) o = 0
 given_by a (Retune e rates) o = 0
 given_by a (Ask e now cost) o = if e == a then (if is_go (answer e now o) then cost else 0) else 0
 
@@ -57,5 +60,6 @@ IsCostUpTo most (Leave e) = Unit {0}
 IsCostUpTo most (Begin_wait e) = Unit {0}
 IsCostUpTo most (End_wait e) = Unit {0}
 IsCostUpTo most (Linger e until) = Unit {0}
+IsCostUpTo most (Limit e until) = Unit {0}
 IsCostUpTo most (Retune e rates) = Unit {0}
 IsCostUpTo most (Ask e now cost) = cost ≤ most

@@ -4,7 +4,7 @@ use Rattle.turn_order.specs.declared.flow.Flow.{Flow}
 use Rattle.turn_order.specs.declared.contenders.Contenders.{Contenders}
 use Rattle.turn_order.specs.declared.Turn.{Turn}
 use Rattle.turn_order.specs.declared.Turn.TheVariants.{Go, Wait}
-use Rattle.turn_order.specs.Flows.{later_by, contends_at, due_at, late_at, wait_of, reserved_after, limited_after}
+use Rattle.turn_order.specs.Flows.{later_by, contends_at, due_at, late_at, wait_of, reserved_after}
 
 -- one flow more, where it contends: the least virtual time, the least step, and whether a reservation is late
 abbrev pub joined : ℕ → Flow → Contenders → Contenders
@@ -59,6 +59,5 @@ charged now cost all f =
     record f {
       virtual_time = time_after now cost all f;
       reserved_at = reserved_after now cost f;
-      limited_until = limited_after now cost f;
       stopped = f.stopped && due_at now f;
     }

@@ -29,7 +29,6 @@ flow_of rates =
     record {
       step = step_of rates.weight;
       reservation_interval = interval_of rates.reservation;
-      limit_interval = interval_of rates.limit;
       virtual_time = 0;
       reserved_at = 0;
       limited_until = 0;
@@ -40,19 +39,18 @@ flow_of rates =
       stopped = false;
     }
 
--- at other rates: its reservation and its limit begin anew, and it is ahead of the clock by 8,192 of its units at most
+-- at other rates: its reservation begins anew, it isn't past its limit, and it is ahead of the clock by 8,192 of its units at most
 abbrev pub tuned : Rates → ℕ → Flow → Flow
 tuned rates clock f =
     record f {
       step = step_of rates.weight;
       reservation_interval = interval_of rates.reservation;
-      limit_interval = interval_of rates.limit;
       virtual_time = min f.virtual_time (clock + 8192 * step_of rates.weight);
       reserved_at = 0;
       limited_until = 0;
     }
 
--- others wait for it: it has something at hand or lingers, is within its limit, and was seen within 5 ms
+-- others wait for it: it has something at hand or lingers, isn't past its limit, and was seen within 5 ms
 abbrev pub contends_at : ℕ → Flow → Bool
 contends_at now f = (nat_lt 0 f.sessions || nat_lt now f.lingers_until) && nat_le f.limited_until now && nat_le (now - f.seen) 5000000
 
@@ -72,8 +70,3 @@ wait_of now f = if nat_lt 0 f.reservation_interval && nat_lt now f.reserved_at t
 abbrev pub reserved_after : ℕ → ℕ → Flow → ℕ
 reserved_after now cost f =
     if due_at now f then later_by (max f.reserved_at (now - 5000000)) cost f.reservation_interval else f.reserved_at
-
--- a turn takes the end of its limit on, from now at the earliest
-abbrev pub limited_after : ℕ → ℕ → Flow → ℕ
-limited_after now cost f =
-    if nat_lt 0 f.limit_interval then later_by (max f.limited_until now) cost f.limit_interval else f.limited_until

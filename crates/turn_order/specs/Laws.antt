@@ -8,7 +8,7 @@ use Rattle.turn_order.specs.declared.Turn.TheVariants.{Go}
 use Rattle.turn_order.specs.Flows.{step_of, contends_at, late_at}
 use Rattle.turn_order.specs.Orders.{Order, placed, entered, left, answer}
 use Rattle.turn_order.specs.Calls.{Call, after, run, fresh, is_go, given, IsCostUpTo}
-use Rattle.turn_order.specs.Calls.Call.{Enter, Leave, Begin_wait, End_wait, Linger, Retune, Ask}
+use Rattle.turn_order.specs.Calls.Call.{Enter, Leave, Begin_wait, End_wait, Linger, Limit, Retune, Ask}
 
 -- the export's flow, and its virtual time
 abbrev pub IsFlow : ℕ → Flow → Order → Type 0
@@ -28,6 +28,7 @@ IsContendingAt e (Leave x) o = Unit {0}
 IsContendingAt e (Begin_wait x) o = Unit {0}
 IsContendingAt e (End_wait x) o = Unit {0}
 IsContendingAt e (Linger x until) o = Unit {0}
+IsContendingAt e (Limit x until) o = Unit {0}
 IsContendingAt e (Retune x rates) o = x ≡ e → ⊥
 IsContendingAt e (Ask x now cost) o = IsContending e now o
 

@@ -36,6 +36,10 @@ left e o = when_some (slice_get o.flows e) (λ f. placed e (record f { sessions 
 abbrev pub lingering : ℕ → ℕ → Order → Order
 lingering e until o = when_some (slice_get o.flows e) (λ f. placed e (record f { lingers_until = max f.lingers_until until }) o) o
 
+-- it is past its limit until a moment
+abbrev pub limited : ℕ → ℕ → Order → Order
+limited e until o = when_some (slice_get o.flows e) (λ f. placed e (record f { limited_until = max f.limited_until until }) o) o
+
 -- it has other rates
 abbrev pub retuned : ℕ → Rates → Order → Order
 retuned e rates o = when_some (slice_get o.flows e) (λ f. placed e (tuned rates o.clock f) o) o

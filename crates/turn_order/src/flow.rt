@@ -1,6 +1,6 @@
 //! One export: what it may have, what it had, and what it has at hand.
 ghost use Rattle.std.specs.Prelude.{◌≡◌, ◌*◌};
-ghost use Rattle.turn_order.specs.Flows.{later_by, interval_of, flow_of, contends_at, due_at, late_at, one_more, wait_of, reserved_after, limited_after, tuned};
+ghost use Rattle.turn_order.specs.Flows.{later_by, interval_of, flow_of, contends_at, due_at, late_at, one_more, wait_of, reserved_after, tuned};
 ghost use Rattle.turn_order.specs.Contenders.{slack_of, resume_of, goes_on, credit_of, turn_of, time_after, charged};
 
 use crate::contenders::Contenders;
@@ -14,13 +14,12 @@ const SECOND: u64 = 1_000_000_000;
 pub struct Flow {
     /// How far its virtual time goes by one unit.
     pub step: u64,
-    /// Nanoseconds between two units of its reservation, and of its limit; 0 where it has none.
+    /// Nanoseconds between two units of its reservation; 0 where it has none.
     pub reservation_interval: u64,
-    pub limit_interval: u64,
     pub virtual_time: u128,
     /// When its reservation is due next.
     pub reserved_at: u128,
-    /// When it is within its limit again.
+    /// When it isn't past its limit any more.
     pub limited_until: u128,
     /// When one of its sessions asked or came last.
     pub seen: u128,
@@ -71,7 +70,6 @@ impl Flow {
         Flow {
             step: SCALE / u64::from(rates.weight.max(1)),
             reservation_interval: interval(rates.reservation),
-            limit_interval: interval(rates.limit),
             virtual_time: 0,
             reserved_at: 0,
             limited_until: 0,
@@ -83,8 +81,8 @@ impl Flow {
         }
     }
 
-    /// At other rates from now on: its reservation and its limit begin anew, and it isn't ahead of the clock by more than a slack
-    /// of its own units.
+    /// At other rates from now on: its reservation begins anew, it isn't past its limit, and isn't ahead of the clock by more than a
+    /// slack of its own units.
     pub fn tuned(&self, rates: Rates, clock: u128) -> Flow
         ensures { result ≡ tuned rates clock self.now }
     {
@@ -93,7 +91,6 @@ impl Flow {
         Flow {
             step: fresh.step,
             reservation_interval: fresh.reservation_interval,
-            limit_interval: fresh.limit_interval,
             virtual_time: self.virtual_time.min(most),
             reserved_at: fresh.reserved_at,
             limited_until: fresh.limited_until,
@@ -101,7 +98,7 @@ impl Flow {
         }
     }
 
-    /// Whether others wait for it: it has something at hand, is within its limit, and was seen lately.
+    /// Whether others wait for it: it has something at hand, isn't past its limit, and was seen lately.
     pub fn contends(&self, now: u128) -> bool
         ensures { result ≡ contends_at now self.now }
     {
@@ -224,17 +221,6 @@ impl Flow {
         }
     }
 
-    /// When it is within its limit after a turn.
-    fn limited_after(&self, now: u128, cost: u32) -> u128
-        ensures { result ≡ limited_after now cost self.now }
-    {
-        if self.limit_interval > 0 {
-            go_on(self.limited_until.max(now), cost, self.limit_interval)
-        } else {
-            self.limited_until
-        }
-    }
-
     /// After a turn.
     pub fn charged(&self, all: &Contenders, now: u128, cost: u32) -> Flow
         ensures { result ≡ charged now cost all.now self.now }
@@ -242,7 +228,6 @@ impl Flow {
         Flow {
             virtual_time: self.time_after(all, now, cost),
             reserved_at: self.reserved_after(now, cost),
-            limited_until: self.limited_after(now, cost),
             stopped: self.stopped && self.is_due(now),
             ..*self
         }

@@ -2,7 +2,8 @@
 //!
 //! Each export is a flow with a virtual time, which a turn moves on by what it costs over the export's weight. A turn is
 //! had by whom a reservation is due, or else by who isn't ahead of the others by more than a slack; who is ahead waits. An
-//! export that has nothing at hand, wasn't seen lately or is over its limit is waited for by nobody.
+//! export that has nothing at hand, wasn't seen lately or is past its limit is waited for by nobody. Who keeps the limits says when
+//! one is past its own.
 //!
 //! An export that had to wait is stopped, and goes on once it is ahead by little.
 //!
@@ -50,7 +51,7 @@ pub const PATIENCE: u64 = 1_000_000;
 pub struct Rates {
     /// Units a second that it is to have; 0 for none.
     pub reservation: u32,
-    /// Units a second that it may have before others no longer wait for it; 0 for any.
+    /// Requests a second that it may have; 0 for any. The order of turns doesn't count them.
     pub limit: u32,
     /// Its part, against the weights of the others. 0 counts as 1.
     pub weight: u32,

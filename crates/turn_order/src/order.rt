@@ -1,7 +1,7 @@
 //! The flows of all exports.
 ghost use Rattle.std.specs.Prelude.{◌≡◌, ◌<◌, ◌^◌, ◌&&◌, nat_le, length, map, slice_get, IfOk};
 ghost use Rattle.turn_order.specs.Flows.{flow_of};
-ghost use Rattle.turn_order.specs.Orders.{placed, back, entered, left, lingering, retuned, wait_begun, wait_ended, answer, asked, turned, answered, first_waking, wakes};
+ghost use Rattle.turn_order.specs.Orders.{placed, back, entered, left, lingering, limited, retuned, wait_begun, wait_ended, answer, asked, turned, answered, first_waking, wakes};
 
 use crate::contenders::gather;
 use crate::flow::{Flow, add_one};
@@ -89,6 +89,23 @@ impl<A: Allocator> TurnOrder<A> {
             export,
             Flow {
                 lingers_until: flow.lingers_until.max(until),
+                ..flow
+            },
+        );
+    }
+
+    /// The export is past its limit until a moment: nobody waits for it meanwhile.
+    pub fn limit(&mut self, export: u32, until: Moment)
+        ensures { self.new ≡ limited export until self.old }
+    {
+        let Some(flow) = self.flow(export) else {
+            return;
+        };
+        let until = u128::from(until.nanoseconds());
+        self.put(
+            export,
+            Flow {
+                limited_until: flow.limited_until.max(until),
                 ..flow
             },
         );

@@ -18,6 +18,8 @@ enum Call {
     Enter(u32, u32),
     Leave(u32),
     Linger(u32, u32),
+    // It is past its limit until a moment.
+    Limit(u32, u32),
     Retune(u32, Rates),
     BeginWait(u32),
     EndWait(u32),
@@ -70,6 +72,14 @@ fn lingers<A: Allocator>(order: &mut TurnOrder<A>, export: u32, until: u32) -> b
     true
 }
 
+fn limits<A: Allocator>(order: &mut TurnOrder<A>, export: u32, until: u32) -> bool {
+    let Some(until) = at(until) else {
+        return false;
+    };
+    order.limit(export, until);
+    true
+}
+
 fn wakes<A: Allocator>(order: &TurnOrder<A>, from: u32, now: u32, next: Option<u32>) -> bool {
     let Some(now) = at(now) else {
         return false;
@@ -96,6 +106,7 @@ fn is_so<A: Allocator>(order: &mut TurnOrder<A>, call: &Call) -> bool {
             true
         }
         Call::Linger(export, until) => lingers(order, export, until),
+        Call::Limit(export, until) => limits(order, export, until),
         Call::Retune(export, rates) => {
             order.retune(export, rates);
             true

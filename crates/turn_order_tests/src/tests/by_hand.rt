@@ -82,16 +82,33 @@ fn a_late_reservation_goes_first(rt: HostRuntime) {
     assert!(rt; wrong == 0, "call {wrong}");
 }
 
-// One a millisecond at most: until then nobody waits for it.
+// Past its limit until 1 ms, it isn't waited for until then.
 #[test]
 fn a_limited_export_is_not_waited_for(rt: HostRuntime) {
     let calls = [
         Enter(0, 0),
         Enter(1, 0),
+        Limit(1, 1_000),
+        Limit(1, 500),
+        Limit(7, 2_000),
         Goes(1, 0, 1),
         Goes(0, 999, 10_000),
         Goes(0, 999, 10_000),
         Waits(0, 1_000, 1),
+    ];
+    let wrong = first_wrong(rt.alloc(), rates(0, 0, 1), rates(0, 1_000, 1), &calls);
+    assert!(rt; wrong == 0, "call {wrong}");
+}
+
+// Far below its limit it is waited for as one that has none.
+#[test]
+fn a_limit_that_is_not_reached(rt: HostRuntime) {
+    let calls = [
+        Enter(0, 0),
+        Enter(1, 0),
+        Goes(1, 0, 64),
+        Goes(0, 0, 8_257),
+        Waits(0, 0, 1),
     ];
     let wrong = first_wrong(rt.alloc(), rates(0, 0, 1), rates(0, 1_000, 1), &calls);
     assert!(rt; wrong == 0, "call {wrong}");
@@ -115,12 +132,13 @@ fn another_weight(rt: HostRuntime) {
     assert!(rt; wrong == 0, "call {wrong}");
 }
 
-// Over its limit until 1 ms nobody waits for it; without a limit it is waited for at once.
+// Past its limit until 1 ms it isn't waited for; at other rates it is at once.
 #[test]
 fn no_limit_any_more(rt: HostRuntime) {
     let calls = [
         Enter(0, 0),
         Enter(1, 0),
+        Limit(1, 1_000),
         Goes(1, 0, 1),
         Goes(0, 0, 10_000),
         Goes(0, 0, 1),
