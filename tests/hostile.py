@@ -356,6 +356,39 @@ def shares_of_unequal_requests():
         yield 0.5 < first / max(other, 1) < 2, "4 KiB READs beside TRIMs of 2 MiB, of one unit each: %.2f (1)" % (first / max(other, 1))
 
 
+def weights_of_long_writes():
+    """Clients that send several long WRITEs at a time are waited for, so these come to the weights."""
+    with two_disks(config=exports_of(["weight = 1", "weight = 3"])) as server:
+        clients = [server.clients(i, connections=4, operation="write", bytes=131072, depth=8) for i in (0, 1)]
+        first, other = (it["a_second"] for it in load(2, clients, warm=0.5))
+        yield 2 < other / max(first, 1) < 4, "128 KiB WRITEs by weights 1:3 come to 1:%.2f" % (other / max(first, 1))
+
+
+def weight_and_limit():
+    """A weight holds for an export with a limit as long as that isn't reached. Where it is, nobody waits for the export."""
+    short = dict(connections=4, bytes=4096, depth=32)
+    with two_disks(config=exports_of(["weight = 1", "weight = 9\nlimit = 40000"])) as server:
+        clients = [server.clients(0, **short), server.clients(1, connections=4, bytes=MIB, depth=8)]
+        first, other = (it["a_second"] for it in load(2, clients, warm=0.5))
+        part = 64 * other / max(first, 1)
+        yield part > 4, "1 MiB READs of weight 9, far below their limit, beside 4 KiB READs of weight 1: %.1f times their units (9)" % part
+    with two_disks(config=exports_of(["weight = 1", "weight = 9\nlimit = 1000"])) as server:
+        first, other = (it["a_second"] for it in load(2, [server.clients(i, **short) for i in (0, 1)], warm=0.5))
+        yield first > 20 * other, "4 KiB READs of weight 1 beside those of weight 9 at a limit of 1,000: %d and %d a second" % (first, other)
+
+
+def one_write_at_a_time():
+    """WRITEs of 64 KiB, one at a time at a client's own pace, beside long ones: others don't stop for each of them."""
+    with two_disks(config=exports_of(["weight = 1"] * 2)) as server:
+        flood = server.clients(0, connections=4, operation="write", bytes=MIB, depth=4)
+        paced = server.clients(1, operation="write", bytes=65536, rate=2000)
+        alone = load(1, [flood], warm=0.5)[0]["a_second"]
+        beside, one = load(1.5, [flood, paced], warm=0.5)
+        part = beside["a_second"] / max(alone, 1)
+        yield part > 0.6, "WRITEs of 1 MiB beside 2,000 of 64 KiB a second, one at a time: %.2f of what they are alone (0.6)" % part
+        yield one["p50_us"] < 1000, "these take %.0f us, the median (1,000)" % one["p50_us"]
+
+
 def writes_of_clients_that_leave():
     """WRITEs that wait for a limit behind clients that come, send and go: 256 MiB of them, and one for each session."""
     with two_disks(config=exports_of(["limit = 1", "weight = 1"], mib=32)) as server:
@@ -688,6 +721,9 @@ TESTS = [
     sessions_not_waited_for,
     long_reads_beside_stuck_sessions,
     shares_of_unequal_requests,
+    weights_of_long_writes,
+    weight_and_limit,
+    one_write_at_a_time,
     writes_of_clients_that_leave,
     orderly_ends,
     retune_beside_a_slow_reader,

@@ -2,12 +2,13 @@
 
 use crate::heap_room::HeapRoom;
 use export_cell::Outdated;
+use lone_export::Arrived;
 use nbd_base::NoMemory;
 use nbd_link::rules::joined_size;
 use nbd_link::{Admitted, Feed, Outlet, ReadAhead, SessionLink};
 use nbd_policy::{
     OUTDATED_PAGES, QUEUED_WORK, RequestSize, SPARES_OF_A_SESSION, Waiting, brought_by, cost_of,
-    ends_hold, performs_itself, size_of, waiting_until,
+    ends_hold, limited_until, performs_itself, size_of, waiting_until,
 };
 use nbd_service::{Asked, Disks, Service, Wakeups, prefetch};
 use nbd_stream::{Counted, Frame, FrameReader};
@@ -20,7 +21,7 @@ use std::alloc::Global;
 use std::sync::ledger::Ledger;
 use std::sync::{MutexGuard, Wait};
 use std::time;
-use tag_clock::Clock;
+use tag_clock::{Clock, Moment};
 
 /// Where a reader gets its requests, and what it keeps from hold to hold.
 #[derive(Drop)]
@@ -83,6 +84,8 @@ pub struct BatchOutcome {
     pub arrived: u64,
     /// What those behind the first cost in the order of turns, in units.
     pub cost: u32,
+    /// Until when the last of them waits for its limit.
+    pub limited: Option<Moment>,
     /// What prefetching for these requests came to.
     pub prefetched: u64,
 }
@@ -131,6 +134,20 @@ impl Admission {
         match &self.arrival {
             Some(arrival) => cost_of(arrival.head),
             None => 0,
+        }
+    }
+
+    /// Until when it waits for its export's limit, where it wasn't served and that is later than now.
+    fn limited(&self, served: bool, now: Moment) -> Option<Moment> {
+        match &self.arrival {
+            Some(arrival) if !served => match arrival.answer {
+                Arrived::Accepted {
+                    number: _,
+                    limit_tag,
+                } => limited_until(limit_tag, now),
+                Arrived::Answered(_) => None,
+            },
+            _ => None,
         }
     }
 
@@ -198,7 +215,7 @@ impl<'a, 'b, R: Wait + time::Clock> RequestSource<'a, 'b, R> {
         let mut admitted = Admitted::NOTHING;
         let served = self.follow(disks, service, link, pass, outlet, admission, clock);
         admitted = admission.added_to(admitted, served);
-        let mut batch = BatchOutcome::first(turn, admission, served, prefetched);
+        let mut batch = BatchOutcome::first(turn, admission, served, prefetched, clock.now());
         for _ in 1..most {
             let full = ends_hold(batch.size) || link.bytes.ends_batch(admitted);
             if full || self.wakeups.served_others() {
@@ -210,7 +227,7 @@ impl<'a, 'b, R: Wait + time::Clock> RequestSource<'a, 'b, R> {
             let admission = Admission::of(&turn);
             let served = self.follow(disks, service, link, pass, outlet, admission, clock);
             admitted = admission.added_to(admitted, served);
-            batch.add(turn, admission, served);
+            batch.add(turn, admission, served, clock.now());
         }
         // First, so that who finds nothing under way finds no bytes of these.
         link.note_arrived(batch.arrived);
@@ -307,6 +324,7 @@ impl BatchOutcome {
         admission: Admission,
         served: bool,
         prefetched: u64,
+        now: Moment,
     ) -> BatchOutcome {
         BatchOutcome {
             turn,
@@ -318,18 +336,23 @@ impl BatchOutcome {
             brought: admission.brought(),
             arrived: admission.arrival.is_some() as u64,
             cost: 0,
+            limited: admission.limited(served, now),
             prefetched,
         }
     }
 
     /// One more turn was made.
-    fn add(&mut self, turn: Turn<Global>, admission: Admission, served: bool) {
+    fn add(&mut self, turn: Turn<Global>, admission: Admission, served: bool, now: Moment) {
         self.turn = turn;
         self.brought = self.brought.saturating_add(admission.brought());
         self.arrived = self
             .arrived
             .saturating_add(admission.arrival.is_some() as u64);
         self.cost = self.cost.saturating_add(admission.cost());
+        let limited = admission.limited(served, now);
+        if limited.is_some() {
+            self.limited = limited;
+        }
         self.writes_long = self.writes_long || admission.size == RequestSize::LongWrite;
         self.reads_long = self.reads_long || admission.is_left(served);
         self.size = joined_size(self.size, admission.size);

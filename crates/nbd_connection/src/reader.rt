@@ -171,13 +171,16 @@ fn read_on<L: Ledger, R: Wait + time::Clock>(
     offer: Offer,
 ) -> (Turn<Global>, bool) {
     if let Some(head) = offer.head() {
-        link.seat
-            .wait_for_turn(rt, head, source.frames.is_ready(), link.under_way());
+        let behind = source.frames.is_ready() || link.has_more_behind(rt, size_of(head));
+        link.seat.wait_for_turn(rt, head, behind, link.under_way());
     }
     let mut outlet = link.outlet.try_lock();
     let before = make_room(rt, link, &mut outlet, source.answers);
     let batch = hold_once(rt, service, link, source, pass, &mut outlet, offer);
     link.seat.owe(batch.cost);
+    if let Some(until) = batch.limited {
+        link.seat.note_limit(rt, until, service.clock(rt).now());
+    }
     let busy = outlet.is_none();
     let written = write_taken(rt, service, link, outlet, pass, &batch, before);
     if wakes_writer(batch.reads_long, written) {
@@ -268,7 +271,8 @@ fn note_load<L: Ledger>(
     let Some(head) = offer.head() else {
         return;
     };
-    let load = load_of(size_of(head), more);
+    let several = link.seat.has_several() || link.under_way() > 0;
+    let load = load_of(head, more, several);
     link.note_load(load);
     service.interactive.note(load, now);
 }

@@ -94,11 +94,7 @@ impl<'a, 'b, R: Wait + time::Clock> Feed<'a, 'b, R> {
         if self.link.is_bulk() {
             return None;
         }
-        let came = self.soon.read(self.link.peer, buf, self.link.interactive)?;
-        if self.is_between {
-            self.link.seat.note_input();
-        }
-        Some(came)
+        self.soon.read(self.link.peer, buf, self.link.interactive)
     }
 
     // What comes from the socket.

@@ -6,8 +6,8 @@ use crate::ready_replies::ReadyReplies;
 use crate::rules::waits_for_retune;
 use crate::under_way::BytesUnderWay;
 use nbd_base::NoMemory;
-use nbd_policy::{Load, patience};
-use nbd_threads::{InteractiveLoad, RetuneGate, Traffic, TurnSeat};
+use nbd_policy::{Load, RequestSize, patience};
+use nbd_threads::{InteractiveLoad, RetuneGate, Traffic, TurnSeat, has_input};
 use nbd_workers::Bell;
 use server_core::SessionId;
 use std::alloc::Global;
@@ -94,6 +94,11 @@ impl<'a> SessionLink<'a> {
                 .arrived
                 .fetch_add(count, Ordering::SeqCst);
         }
+    }
+
+    /// Whether more has come behind a request of this size that was read, where it is looked for that.
+    pub fn has_more_behind<R: Wait>(&self, rt: &R, size: RequestSize) -> bool {
+        self.seat.looks_behind(size) && (self.ahead.has_more(rt) || has_input(self.peer))
     }
 
     /// Notes how much the session asks for.

@@ -1,5 +1,5 @@
 -- The rules over values that the threads of a server follow. Data are counted in bytes, times in nanoseconds.
-use Rattle.std.specs.Prelude.{ℕ, ◌+◌, ◌-◌, ◌*◌, ◌/◌, ◌%◌, min, Bool, true, false, ◌&&◌, ◌||◌, ◌==◌, not, nat_lt, nat_le, if◌then◌else◌, Option, Some, None}
+use Rattle.std.specs.Prelude.{ℕ, ◌+◌, ◌-◌, ◌*◌, ◌/◌, ◌%◌, ◌^◌, min, ℤ, pos, int_le, int_lt, unsigned_abs, Bool, true, false, ◌&&◌, ◌||◌, ◌==◌, not, nat_lt, nat_le, if◌then◌else◌, Option, Some, None}
 use Rattle.turn_order.specs.Flows.{units_of}
 use Rattle.nbd_policy.specs.declared.request_size.RequestSize.{RequestSize}
 use Rattle.nbd_policy.specs.declared.request_size.RequestSize.TheVariants as sizes
@@ -23,16 +23,21 @@ size_by kind length =
     else (if (kind == 1) && nat_lt 65535 length then sizes.LongWrite
     else (if is_zero_by kind && nat_lt 1048576 length then sizes.LongZero else sizes.Short))
 
-abbrev pub is_long : RequestSize → Bool
-is_long sizes.Nothing = false
-is_long sizes.Short = false
-is_long sizes.LongRead = true
-is_long sizes.LongWrite = true
-is_long sizes.LongZero = true
+-- of a READ or WRITE of long data: several at a time, or 256 KiB or more
+abbrev pub load_of_data_by : ℕ → Bool → Load
+load_of_data_by length several = if several || nat_le 262144 length then loads.Bulk else loads.Interactive
 
--- long data, or several requests at a time
-abbrev pub load_by : RequestSize → Bool → Load
-load_by next more = if more then loads.Bulk else (if is_long next then loads.Bulk else loads.Interactive)
+-- little where it is short, and much where it is a long range of zeros
+abbrev pub load_of_size : RequestSize → Load → Load
+load_of_size sizes.Nothing load = loads.Interactive
+load_of_size sizes.Short load = loads.Interactive
+load_of_size sizes.LongRead load = load
+load_of_size sizes.LongWrite load = load
+load_of_size sizes.LongZero load = loads.Bulk
+
+-- much where others are ready behind it, else by its size
+abbrev pub load_by : ℕ → ℕ → Bool → Bool → Load
+load_by kind length more several = if more then loads.Bulk else load_of_size (size_by kind length) (load_of_data_by length several)
 
 -- a reader performs all but READs of long data
 abbrev pub performs_by : RequestSize → Bool
@@ -130,13 +135,26 @@ makes_room_by taken = nat_le 4194304 taken
 abbrev pub cost_by : ℕ → ℕ → ℕ
 cost_by kind length = if (kind == 0) || (kind == 1) then units_of length else 1
 
+-- until its limit tag, where that is later than now
+abbrev pub limited_by : ℤ → ℕ → Option ℕ
+limited_by tag now =
+    if int_le tag (pos now) then None else (if int_lt tag (pos (2 ^ 62)) then Some (unsigned_abs tag) else None)
+
 -- 16 holds more, or one fewer
 abbrev pub backlog_by : ℕ → Bool → ℕ
 backlog_by before more = if more then 16 else before - 1
 
--- ready behind it, behind the long WRITE before this one, or under way, where the client keeps up
-abbrev pub has_more_by : Bool → ℕ → Bool → Bool → Bool
-has_more_by ready under_way behind keeps_up = ready || behind || (nat_lt 0 under_way && keeps_up)
+-- behind it, or under way, where the client keeps up
+abbrev pub has_more_by : Bool → ℕ → Bool → Bool
+has_more_by behind under_way keeps_up = behind || (nat_lt 0 under_way && keeps_up)
+
+-- behind a long WRITE, with 8 holds left at most
+abbrev pub looks_behind_by : RequestSize → ℕ → Bool
+looks_behind_by sizes.Nothing backlog = false
+looks_behind_by sizes.Short backlog = false
+looks_behind_by sizes.LongRead backlog = false
+looks_behind_by sizes.LongWrite backlog = nat_le backlog 8
+looks_behind_by sizes.LongZero backlog = false
 
 -- what the writes took beyond a nanosecond a byte isn't more than what lay between them
 abbrev pub keeps_up_by : ℕ → ℕ → ℕ → Bool

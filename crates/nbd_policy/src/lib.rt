@@ -3,7 +3,7 @@
 
 ghost use Rattle.std.specs.Prelude.{◌≡◌, ◌+◌, ◌-◌, ◌*◌, ◌<◌, ◌≤◌, ◌^◌, min, option_map};
 ghost use Rattle.std.specs.Duration.{as_nanos};
-ghost use Rattle.nbd_policy.specs.Policy.{accept_may_pass_by, answers_read_by, asks_for_turn_by, backlog_by, batch_by, bell_by, cost_by, data_by, ends_hold_by, handed_in_by, handshake_wait_by, has_more_by, holds_back_by, is_alone_by, is_due_by, is_forgotten_by, is_network_fault_by, is_shortage_by, is_stalled_by, is_uneven_by, is_zero_by, keeps_by, keeps_up_by, load_by, looks_in_a_row_by, makes_ready_by, makes_room_by, next_skip_by, patience_by, performs_by, reads_ahead_by, short_pieces_by, size_by, span_by, spares_by, still_defers_by, still_retunes_by, still_waits_for_line_by, suits_reader_by, waiting_by, wakes_worker_by, carried_by, yields_by, yields_behind_look_by};
+ghost use Rattle.nbd_policy.specs.Policy.{accept_may_pass_by, answers_read_by, asks_for_turn_by, backlog_by, batch_by, bell_by, cost_by, data_by, ends_hold_by, handed_in_by, handshake_wait_by, has_more_by, holds_back_by, is_alone_by, is_due_by, is_forgotten_by, is_network_fault_by, is_shortage_by, is_stalled_by, is_uneven_by, is_zero_by, keeps_by, keeps_up_by, limited_by, load_by, load_of_data_by, looks_behind_by, looks_in_a_row_by, makes_ready_by, makes_room_by, next_skip_by, patience_by, performs_by, reads_ahead_by, short_pieces_by, size_by, span_by, spares_by, still_defers_by, still_retunes_by, still_waits_for_line_by, suits_reader_by, waiting_by, wakes_worker_by, carried_by, yields_by, yields_behind_look_by};
 
 mod long_readers;
 mod request_size;
@@ -107,6 +107,9 @@ pub const SHORT_WRITE_BYTES: u32 = 65_535;
 /// The longest range, in bytes, of a TRIM or WRITE_ZEROES that isn't long. A TRIM with 256 MiB of pages in its range took
 /// a millisecond in all (docs/PERFORMANCE.md), and 1 MiB is 1/256 of that.
 pub const SHORT_ZERO_BYTES: u32 = 1_048_576;
+
+/// From how many bytes of data on a READ or WRITE is much by itself, also where its session has one request at a time.
+pub const BULK_BYTES: u32 = 262_144;
 
 /// How many requests a reader mostly hands in under one hold: they share what a hold costs, and whoever waits for the lock
 /// waits for no more than these.
@@ -310,6 +313,20 @@ pub fn cost_of(head: RequestHead) -> u32
     }
 }
 
+/// Until when a request waits for its export's limit, by its limit tag. None where the limit allows it now.
+pub fn limited_until(limit_tag: i128, now: Moment) -> Option<Moment>
+    ensures { result ≡ limited_by limit_tag now }
+{
+    let now = now.tag();
+    if limit_tag <= now {
+        None
+    } else if limit_tag < 1 << 62 {
+        Moment::new(limit_tag as u64)
+    } else {
+        None
+    }
+}
+
 /// For how many more holds a session counts as one that mostly has several requests, which has more at hand at this one or not.
 pub fn backlog_after(before: u32, has_more: bool) -> u32
     ensures { result ≡ backlog_by before has_more }
@@ -329,13 +346,24 @@ pub fn asks_for_turn(units: u32, passed: u64) -> bool
     units >= UNITS_A_TURN || passed >= TURN_NS
 }
 
-/// Whether a session has more at hand than its next request: others are ready behind it, more had come behind the long WRITE
-/// before this one, or so many are under way, and its client keeps up. Where it doesn't, these wait for the client and not for the
-/// server.
-pub fn has_more(ready: bool, under_way: u64, behind: bool, keeps_up: bool) -> bool
-    ensures { result ≡ has_more_by ready under_way behind keeps_up }
+/// Whether a session has more at hand than its next request: more has come behind it, or so many are under way, and its client keeps
+/// up. Where it doesn't, these wait for the client and not for the server.
+pub fn has_more(behind: bool, under_way: u64, keeps_up: bool) -> bool
+    ensures { result ≡ has_more_by behind under_way keeps_up }
 {
-    ready || behind || (under_way > 0 && keeps_up)
+    behind || (under_way > 0 && keeps_up)
+}
+
+/// Whether it is looked if more has come behind a request, in a session that counts for so many more holds as one that mostly has
+/// several: behind a long WRITE, whose bytes are read apart from what follows them, and not at each hold.
+pub fn looks_behind(size: RequestSize, backlog: u32) -> bool
+    ensures { result ≡ looks_behind_by size backlog }
+{
+    match size {
+        RequestSize::LongWrite => backlog <= BACKLOG_HOLDS / 2,
+        RequestSize::Nothing | RequestSize::Short | RequestSize::LongRead | RequestSize::LongZero =>
+            false,
+    }
 }
 
 /// Whether a client keeps up with its replies, to which so many bytes were written in so many nanoseconds, with so many in between
@@ -499,16 +527,28 @@ pub fn connections_for(descriptors: u64) -> u64
     descriptors.saturating_sub(OWN_DESCRIPTORS)
 }
 
-/// How much a session asks for whose next request is this long, with others ready behind it or none.
-pub fn load_of(next: RequestSize, more: bool) -> Load
-    ensures { result ≡ load_by next more }
+/// How much a session asks for with its next request, behind which others are ready or none, and which has several at a time or one.
+pub fn load_of(next: RequestHead, more: bool, several: bool) -> Load
+    ensures { result ≡ load_by next.kind next.length more several }
 {
     if more {
         return Load::Bulk;
     }
-    match next {
-        RequestSize::LongRead | RequestSize::LongWrite | RequestSize::LongZero => Load::Bulk,
+    match size_of(next) {
         RequestSize::Nothing | RequestSize::Short => Load::Interactive,
+        RequestSize::LongRead | RequestSize::LongWrite => load_of_data(next.length, several),
+        RequestSize::LongZero => Load::Bulk,
+    }
+}
+
+/// The same of a READ or WRITE of so many bytes of data, which are long.
+fn load_of_data(length: u32, several: bool) -> Load
+    ensures { result ≡ load_of_data_by length several }
+{
+    if several || length >= BULK_BYTES {
+        Load::Bulk
+    } else {
+        Load::Interactive
     }
 }
 

@@ -5,14 +5,16 @@ use crate::connections::Traffic;
 use crate::running_clock::RunningClock;
 use crate::spin_read::{has_input, read_now};
 use crate::turns::Turns;
-use nbd_policy::{RequestSize, asks_for_turn, backlog_after, cost_of, has_more, size_of};
+use nbd_policy::{
+    RequestSize, asks_for_turn, backlog_after, cost_of, has_more, looks_behind, size_of,
+};
 use nbd_wire::RequestHead;
 use std::net::TcpStream;
 use std::sync::Wait;
 use std::sync::atomic::{AtomicBool, AtomicU32, AtomicU64, Ordering};
 use std::time;
 use std::time::Instant;
-use tag_clock::Clock;
+use tag_clock::{Clock, Moment};
 
 /// A session's place in the order of turns. Its reader waits there before it hands requests in, and has no lock meanwhile.
 #[derive(Drop)]
@@ -24,9 +26,7 @@ pub struct TurnSeat<'a> {
     at_hand: AtomicBool,
     // Whether its reader waits for the client, and its writer has something to do.
     reader_waits: AtomicBool,
-    // Whether more had come behind the latest request.
-    had_input: AtomicBool,
-    // Whether that was a long WRITE.
+    // Whether the latest request was a long WRITE.
     writes_long: AtomicBool,
     // Whether its client keeps up with its replies.
     keeps_up: AtomicBool,
@@ -46,7 +46,6 @@ impl<'a> TurnSeat<'a> {
             export,
             at_hand: AtomicBool::new(false),
             reader_waits: AtomicBool::new(false),
-            had_input: AtomicBool::new(false),
             writes_long: AtomicBool::new(false),
             keeps_up: AtomicBool::new(true),
             backlog: AtomicU32::new(0),
@@ -55,20 +54,18 @@ impl<'a> TurnSeat<'a> {
         }
     }
 
-    /// Waits for the turn of a request, behind which others are ready or none, while `under_way` of the session are under way. Some
-    /// requests go on without asking; the next that asks is charged with them. A session that mostly
-    /// has one request at a time doesn't count as one that has something at hand, unless that is a long WRITE: others would stop
-    /// for it, and it would have to wake them behind each of its requests. A client of long READs mostly sends one behind each
-    /// reply, so those that are under way count.
+    /// Waits for the turn of a request, behind which more has come or nothing, while `under_way` of the session are under way. Some
+    /// requests go on without asking; the next that asks is charged with them. A session that mostly has one request at a time doesn't
+    /// count as one that has something at hand: others would stop for it, and it would have to wake them behind each of its requests.
+    /// A client of long READs mostly sends one behind each reply, so those that are under way count.
     pub fn wait_for_turn<R: Wait + time::Clock>(
         &self,
         rt: &R,
         head: RequestHead,
-        ready: bool,
+        behind: bool,
         under_way: u64,
     ) {
-        let long = size_of(head) == RequestSize::LongWrite;
-        let backlog = self.note_at_hand(long, ready, under_way);
+        let backlog = self.note_at_hand(size_of(head), behind, under_way);
         if self.turns.is_alone(self.export) {
             self.owed.store(0, Ordering::SeqCst);
             return;
@@ -77,7 +74,7 @@ impl<'a> TurnSeat<'a> {
             .owed
             .load(Ordering::SeqCst)
             .saturating_add(cost_of(head));
-        let enters = (backlog > 0 || long) && !self.at_hand.load(Ordering::SeqCst);
+        let enters = backlog > 0 && !self.is_at_hand();
         let clock = RunningClock::since(rt, self.start);
         let now = clock.now().nanoseconds();
         if !enters
@@ -107,24 +104,29 @@ impl<'a> TurnSeat<'a> {
         }
     }
 
-    /// Notes whether the next request is a long WRITE, whether others are ready behind it, and how many are under way. Tells for how
-    /// many more holds the session counts as one that mostly has several.
-    fn note_at_hand(&self, long_write: bool, ready: bool, under_way: u64) -> u32 {
-        let behind = long_write && self.had_input.load(Ordering::SeqCst);
+    /// What was handed in waits for the export's limit until a moment: others don't wait for it until then.
+    pub fn note_limit<R: Wait>(&self, rt: &R, until: Moment, now: Moment) {
+        if !self.turns.is_alone(self.export) {
+            self.turns.limit(rt, self.export, until, now);
+        }
+    }
+
+    /// Notes how long the next request is, whether more has come behind it, and how many are under way. Tells for how many more holds
+    /// the session counts as one that mostly has several.
+    fn note_at_hand(&self, size: RequestSize, behind: bool, under_way: u64) -> u32 {
         let keeps_up = self.keeps_up.load(Ordering::SeqCst);
         let before = self.backlog.load(Ordering::SeqCst);
-        let backlog = backlog_after(before, has_more(ready, under_way, behind, keeps_up));
+        let backlog = backlog_after(before, has_more(behind, under_way, keeps_up));
         if backlog != before {
             self.backlog.store(backlog, Ordering::SeqCst);
         }
-        set(&self.writes_long, long_write);
+        set(&self.writes_long, size == RequestSize::LongWrite);
         backlog
     }
 
     /// After a hold: a session that mostly has one request at a time counts as one that has nothing at hand.
     pub fn end_turn<R: Wait + time::Clock>(&self, rt: &R) {
-        let more = self.backlog.load(Ordering::SeqCst) > 0;
-        if !more && !self.writes_long.load(Ordering::SeqCst) {
+        if !self.has_several() {
             self.leave(rt, false);
         }
     }
@@ -136,12 +138,7 @@ impl<'a> TurnSeat<'a> {
         peer: &TcpStream,
         traffic: &Traffic,
     ) {
-        if !self.is_at_hand() {
-            return;
-        }
-        let has = has_input(peer);
-        set(&self.had_input, has);
-        if !has {
+        if self.is_at_hand() && !has_input(peer) {
             self.wait_for_pieces(rt, traffic);
         }
     }
@@ -158,8 +155,10 @@ impl<'a> TurnSeat<'a> {
                 return;
             }
         }
-        let much = self.backlog.load(Ordering::SeqCst) > 0;
-        self.leave(rt, much && self.writes_long.load(Ordering::SeqCst));
+        self.leave(
+            rt,
+            self.has_several() && self.writes_long.load(Ordering::SeqCst),
+        );
     }
 
     /// What has come of the rest of a request, where the session counts as one that has something at hand. Where nothing has, it doesn't
@@ -182,11 +181,14 @@ impl<'a> TurnSeat<'a> {
         came
     }
 
-    /// The reader got bytes without a wait: more had come behind the latest request.
-    pub fn note_input(&self) {
-        if self.is_at_hand() {
-            set(&self.had_input, true);
-        }
+    /// Whether it is looked if more has come behind a request of this size.
+    pub fn looks_behind(&self, size: RequestSize) -> bool {
+        looks_behind(size, self.backlog.load(Ordering::SeqCst))
+    }
+
+    /// Whether it counts as a session that mostly has several requests.
+    pub fn has_several(&self) -> bool {
+        self.backlog.load(Ordering::SeqCst) > 0
     }
 
     /// The client keeps up with what is written to it, or doesn't.

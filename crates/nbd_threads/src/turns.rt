@@ -167,6 +167,15 @@ impl Turns {
         }
     }
 
+    /// The export is past its limit until a moment, so others don't wait for it. Wakes those whose turn has come by that.
+    pub fn limit<R: Wait>(&self, rt: &R, export: u32, until: Moment, now: Moment) {
+        let mut order = self.order.lock(rt);
+        order.limit(export, until);
+        let wakes = self.to_wake(&*order, now);
+        drop(order);
+        self.ring(wakes);
+    }
+
     /// The export has other rates from now on. Wakes those whose turn has come by that.
     pub fn retune<R: Wait>(&self, rt: &R, export: u32, rates: Rates, now: Moment) {
         let mut order = self.order.lock(rt);

@@ -5,10 +5,11 @@ use nbd_policy::{
     Load, LongReaders, RequestSize, Waiting, WritePace, accept_may_pass, answers_read,
     asks_for_turn, backlog_after, batch_after, bell_of, brought_by, connections_for, cost_of,
     data_of, ends_hold, handed_in, handshake_wait_ms, has_more, holds_back, is_alone, is_due,
-    is_stalled, keeps_up, load_of, looks_in_a_row, makes_ready, makes_room, may_keep,
-    may_read_ahead, moment_after, next_skip, passes_for, patience, performs_itself, short_pieces,
-    size_of, span_of, still_defers, still_retunes, still_waits_for_line, suits_reader,
-    waiting_until, wakes_worker, yields_behind, yields_behind_look,
+    is_stalled, keeps_up, limited_until, load_of, looks_behind, looks_in_a_row, makes_ready,
+    makes_room, may_keep, may_read_ahead, moment_after, next_skip, passes_for, patience,
+    performs_itself, short_pieces, size_of, span_of, still_defers, still_retunes,
+    still_waits_for_line, suits_reader, waiting_until, wakes_worker, yields_behind,
+    yields_behind_look,
 };
 use nbd_threads::{BusyWriters, InteractiveLoad, RunningClock, SpinRead, Traffic, TurnSeat, Turns};
 use nbd_wire::RequestHead;
@@ -70,17 +71,11 @@ fn readers_of_long_data_are_counted(rt: HostRuntime) {
 
 /// How much data a request has that asks for so many bytes, or brings them.
 fn size(kind: u16, length: u32) -> RequestSize {
-    size_of(RequestHead {
-        flags: 0,
-        kind,
-        cookie: 1,
-        offset: 0,
-        length,
-    })
+    size_of(head(kind, length))
 }
 
 #[test]
-fn how_much_a_session_asks_for(rt: HostRuntime) {
+fn how_long_a_request_is(rt: HostRuntime) {
     assert!(rt; size(READ, 16_384) == RequestSize::Short);
     assert!(rt; size(READ, 16_385) == RequestSize::LongRead);
     assert!(rt; size(WRITE, 65_535) == RequestSize::Short);
@@ -89,11 +84,22 @@ fn how_much_a_session_asks_for(rt: HostRuntime) {
     assert!(rt; size(TRIM, 1_048_577) == RequestSize::LongZero);
     assert!(rt; size(WRITE_ZEROES, 4_294_967_295) == RequestSize::LongZero);
     assert!(rt; size(CACHE, 4_294_967_295) == RequestSize::Short);
-    assert!(rt; load_of(RequestSize::Short, false) == Load::Interactive);
-    assert!(rt; load_of(RequestSize::Short, true) == Load::Bulk);
-    assert!(rt; load_of(RequestSize::LongRead, false) == Load::Bulk);
-    assert!(rt; load_of(RequestSize::LongWrite, false) == Load::Bulk);
-    assert!(rt; load_of(RequestSize::LongZero, false) == Load::Bulk);
+}
+
+#[test]
+fn who_goes_first_to_the_server(rt: HostRuntime) {
+    let short = head(WRITE, 65_535);
+    assert!(rt; load_of(short, false, false) == Load::Interactive);
+    assert!(rt; load_of(short, false, true) == Load::Interactive);
+    assert!(rt; load_of(short, true, false) == Load::Bulk);
+    let long = head(WRITE, 262_143);
+    assert!(rt; load_of(long, false, false) == Load::Interactive);
+    assert!(rt; load_of(long, false, true) == Load::Bulk);
+    assert!(rt; load_of(long, true, false) == Load::Bulk);
+    assert!(rt; load_of(head(READ, 262_143), false, false) == Load::Interactive);
+    assert!(rt; load_of(head(READ, 16_385), false, true) == Load::Bulk);
+    assert!(rt; load_of(head(WRITE, 262_144), false, false) == Load::Bulk);
+    assert!(rt; load_of(head(TRIM, 1_048_577), false, false) == Load::Bulk);
 }
 
 #[test]
@@ -170,9 +176,10 @@ fn who_is_woken_for_what_waits(rt: HostRuntime) {
 #[test]
 fn what_a_request_counts(rt: HostRuntime) {
     assert!(rt; cost_of(head(READ, 0)) == 1 && cost_of(head(READ, 16_384)) == 1);
-    assert!(rt; cost_of(head(WRITE, 16_385)) == 2 && cost_of(head(WRITE, 1_048_576)) == 64);
-    assert!(rt; cost_of(head(TRIM, 1_048_576)) == 1);
-    assert!(rt; cost_of(head(CACHE, 4_294_967_295)) == 1 && cost_of(head(FLUSH, 0)) == 1);
+    assert!(rt; cost_of(head(WRITE, 16_385)) == 2);
+    assert!(rt; cost_of(head(WRITE, 1_048_576)) == 64);
+    assert!(rt; cost_of(head(TRIM, 1_048_576)) == 1 && cost_of(head(FLUSH, 0)) == 1);
+    assert!(rt; cost_of(head(CACHE, 4_294_967_295)) == 1);
     assert!(rt; data_of(head(WRITE, 5)) == 5 && data_of(head(TRIM, 5)) == 0);
     assert!(rt; data_of(head(CACHE, 5)) == 0 && data_of(head(FLUSH, 0)) == 0);
     assert!(rt; brought_by(head(WRITE, 5)) == 5 && brought_by(head(READ, 5)) == 0);
@@ -186,11 +193,22 @@ fn what_a_request_counts(rt: HostRuntime) {
 }
 
 #[test]
+fn until_when_a_limit_holds(rt: HostRuntime) {
+    let now = Moment::new(5).expect(&rt, "a moment");
+    assert!(rt; limited_until(5, now).is_none() && limited_until(-1, now).is_none());
+    assert!(rt; limited_until(6, now) == Moment::new(6));
+    assert!(rt; limited_until(1 << 62, now).is_none());
+}
+
+#[test]
 fn whose_requests_wait_for_the_server(rt: HostRuntime) {
-    assert!(rt; has_more(true, 0, false, true) && has_more(false, 1, false, true));
-    assert!(rt; has_more(false, 0, true, true) && !has_more(false, 0, false, true));
-    assert!(rt; has_more(true, 0, false, false) && has_more(false, 0, true, false));
-    assert!(rt; !has_more(false, 8, false, false));
+    assert!(rt; has_more(true, 0, true) && has_more(false, 1, true));
+    assert!(rt; !has_more(false, 0, true) && has_more(true, 0, false));
+    assert!(rt; !has_more(false, 8, false));
+    assert!(rt;
+        looks_behind(RequestSize::LongWrite, 8) && !looks_behind(RequestSize::LongWrite, 9)
+    );
+    assert!(rt; !looks_behind(RequestSize::Short, 0) && !looks_behind(RequestSize::LongRead, 0));
     assert!(rt; keeps_up(1_000, 1_500, 500) && !keeps_up(1_000, 1_501, 500));
     assert!(rt; keeps_up(1_000, 1_000, 0) && WritePace::NOTHING.keeps_up());
     let slow = WritePace::NOTHING.with(8_388_608, 20_000_000, 10);
@@ -261,7 +279,7 @@ fn came_within<R: Wait + time::Clock>(
 ) -> io::Result<(Option<usize>, Option<usize>, Option<usize>)> {
     let seat = TurnSeat::new(turns, Instant::now(rt).ok(), 0);
     let _ = turns.is_alone(1);
-    seat.wait_for_turn(rt, LONG_WRITE, false, 0);
+    seat.wait_for_turn(rt, LONG_WRITE, true, 0);
     seat.owe(8);
     let mut bytes = [0u8; 8];
     there.write_all(b"abc")?;
@@ -281,13 +299,30 @@ fn comes_within<R: Wait + time::Clock>(
     peer: &TcpStream,
     there: &UnixStream,
 ) -> Option<(Option<usize>, Option<usize>, Option<usize>)> {
-    let rates = [Rates {
-        reservation: 0,
-        limit: 0,
-        weight: 1,
-    }; 2];
-    let turns = Turns::of(alloc, &rates).ok()?;
+    let turns = two_turns(alloc)?;
     came_within(rt, &turns, peer, there).ok()
+}
+
+/// Whether a session counts as one that mostly has several requests, and looks behind its long WRITEs, before one behind which more has
+/// come and after it.
+fn sends_several<R: Wait + time::Clock>(rt: &R, alloc: Global) -> Option<[bool; 4]> {
+    let turns = Turns::of(alloc, &[]).ok()?;
+    let seat = TurnSeat::new(&turns, Instant::now(rt).ok(), 0);
+    let before = (
+        seat.has_several(),
+        seat.looks_behind(RequestSize::LongWrite),
+    );
+    seat.wait_for_turn(rt, LONG_WRITE, true, 0);
+    let after = (
+        seat.has_several(),
+        seat.looks_behind(RequestSize::LongWrite),
+    );
+    Some([before.0, before.1, after.0, after.1])
+}
+
+#[test]
+fn a_client_that_sends_several(rt: HostRuntime) {
+    assert!(rt; sends_several(&rt, rt.alloc()) == Some([false, true, true, false]));
 }
 
 #[test]
@@ -308,33 +343,62 @@ fn waited<R: Wait + time::Clock>(rt: &R, turns: &Turns, start: Instant) -> Optio
     began.elapsed(rt).ok()
 }
 
-/// Whether one export is alone, until another asks, and then waits at one of some turns.
-fn waits_beside_another<R: Wait + time::Clock>(rt: &R, alloc: Global) -> Option<bool> {
+/// Whether the first export, which is ahead, waits at one of some turns, or goes on at one.
+fn ever<R: Wait + time::Clock>(rt: &R, turns: &Turns, start: Instant, waits: bool) -> Option<bool> {
+    // The other is waited for as long as it was seen lately, 5 milliseconds: a test that is stopped for longer waits for nobody.
+    let mut found = false;
+    for _ in 0..50 {
+        let waited = waited(rt, turns, start)? >= Duration::from_micros(500);
+        found = found || waited == waits;
+    }
+    Some(found)
+}
+
+/// The order of turns of two exports alike.
+fn two_turns(alloc: Global) -> Option<Turns> {
     let rates = [Rates {
         reservation: 0,
         limit: 0,
         weight: 1,
     }; 2];
-    let turns = Turns::of(alloc, &rates).ok()?;
+    Turns::of(alloc, &rates).ok()
+}
+
+/// Whether one export is alone, until another asks, and then waits at one of some turns.
+fn waits_beside_another<R: Wait + time::Clock>(rt: &R, alloc: Global) -> Option<bool> {
+    let turns = two_turns(alloc)?;
     let start = Instant::now(rt).ok()?;
     let clock = RunningClock::since(rt, Some(start));
     let before = turns.is_alone(0) && turns.is_alone(0);
     turns.wait_for_turn(rt, 0, 1, true, &clock);
     turns.wait_for_turn(rt, 1, 1, true, &clock);
     let beside = !turns.is_alone(1) && !turns.is_alone(0);
-    // The other is waited for as long as it was seen lately, 5 milliseconds: a test that is stopped for longer waits for nobody.
-    let mut waits = false;
-    for _ in 0..50 {
-        waits = waits || waited(rt, &turns, start)? >= Duration::from_micros(500);
-    }
+    let waits = ever(rt, &turns, start, true)?;
     // Once it left, whoever is ahead goes on.
     turns.leave_later(1);
-    let mut goes_on = false;
-    for _ in 0..50 {
-        goes_on = goes_on || waited(rt, &turns, start)? < Duration::from_micros(500);
-    }
+    let goes_on = ever(rt, &turns, start, false)?;
     turns.leave(rt, 0, Moment::zero(), false);
     Some(before && beside && waits && goes_on)
+}
+
+/// Whether an export that is ahead waits at one of some turns, and goes on at one once the other's requests wait for its limit.
+fn goes_on_beside_a_limit<R: Wait + time::Clock>(rt: &R, alloc: Global) -> Option<(bool, bool)> {
+    let turns = two_turns(alloc)?;
+    let start = Instant::now(rt).ok()?;
+    let clock = RunningClock::since(rt, Some(start));
+    turns.wait_for_turn(rt, 0, 1, true, &clock);
+    turns.wait_for_turn(rt, 1, 1, true, &clock);
+    let waits = ever(rt, &turns, start, true)?;
+    let _ = turns.is_alone(0);
+    let seat = TurnSeat::new(&turns, Some(start), 1);
+    seat.note_limit(rt, moment_after(Duration::from_secs(3_600)), Moment::zero());
+    let goes_on = ever(rt, &turns, start, false)?;
+    Some((waits, goes_on))
+}
+
+#[test]
+fn who_is_past_its_limit_is_not_waited_for(rt: HostRuntime) {
+    assert!(rt; goes_on_beside_a_limit(&rt, rt.alloc()) == Some((true, true)));
 }
 
 #[test]
