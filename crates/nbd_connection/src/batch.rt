@@ -35,6 +35,8 @@ pub struct RequestSource<'a, 'b, R: Wait + time::Clock> {
     pub spares: Spares<Global>,
     /// Whether the reader answers itself what it hands in next: one READ of long data.
     pub answers: bool,
+    /// Whether what it handed in last waits for its export's limit.
+    pub limited: bool,
 }
 
 /// What a reader offers first under a hold.
@@ -190,6 +192,7 @@ impl<'a, 'b, R: Wait + time::Clock> RequestSource<'a, 'b, R> {
             room: HeapRoom::new(),
             spares,
             answers: false,
+            limited: false,
         })
     }
 

@@ -178,6 +178,7 @@ fn read_on<L: Ledger, R: Wait + time::Clock>(
     let before = make_room(rt, link, &mut outlet, source.answers);
     let batch = hold_once(rt, service, link, source, pass, &mut outlet, offer);
     link.seat.owe(batch.cost);
+    source.limited = batch.limited.is_some();
     if let Some(until) = batch.limited {
         link.seat.note_limit(rt, until, service.clock(rt).now());
     }
@@ -247,7 +248,7 @@ fn hold_once<L: Ledger, R: Wait + time::Clock>(
 ) -> BatchOutcome {
     let clock = service.clock(rt);
     let asked = clock.now();
-    note_load(service, link, &offer, source.frames.is_ready(), asked);
+    note_load(service, link, source, &offer, asked);
     let mut disks = service.hold(rt, link.is_bulk());
     let held = HoldClock::at(clock.now());
     let most = handed_in(source.answers, batch_after(until(asked, held.now())));
@@ -261,18 +262,18 @@ fn hold_once<L: Ledger, R: Wait + time::Clock>(
 }
 
 /// Notes how much the session asks for at this moment.
-fn note_load<L: Ledger>(
+fn note_load<L: Ledger, R: Wait + time::Clock>(
     service: &Service<L>,
     link: &SessionLink<'_>,
+    source: &RequestSource<'_, '_, R>,
     offer: &Offer,
-    more: bool,
     now: Moment,
 ) {
     let Some(head) = offer.head() else {
         return;
     };
     let several = link.seat.has_several() || link.under_way() > 0;
-    let load = load_of(head, more, several);
+    let load = load_of(head, source.frames.is_ready(), several, source.limited);
     link.note_load(load);
     service.interactive.note(load, now);
 }

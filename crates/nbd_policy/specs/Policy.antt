@@ -35,9 +35,10 @@ load_of_size sizes.LongRead load = load
 load_of_size sizes.LongWrite load = load
 load_of_size sizes.LongZero load = loads.Bulk
 
--- much where others are ready behind it, else by its size
-abbrev pub load_by : ℕ → ℕ → Bool → Bool → Load
-load_by kind length more several = if more then loads.Bulk else load_of_size (size_by kind length) (load_of_data_by length several)
+-- much where others are ready behind it, or several wait for their limit, else by its size
+abbrev pub load_by : ℕ → ℕ → Bool → Bool → Bool → Load
+load_by kind length more several limited =
+    if more || (several && limited) then loads.Bulk else load_of_size (size_by kind length) (load_of_data_by length several)
 
 -- a reader performs all but READs of long data
 abbrev pub performs_by : RequestSize → Bool

@@ -527,11 +527,12 @@ pub fn connections_for(descriptors: u64) -> u64
     descriptors.saturating_sub(OWN_DESCRIPTORS)
 }
 
-/// How much a session asks for with its next request, behind which others are ready or none, and which has several at a time or one.
-pub fn load_of(next: RequestHead, more: bool, several: bool) -> Load
-    ensures { result ≡ load_by next.kind next.length more several }
+/// How much a session asks for with its next request, behind which others are ready or none, and which has several at a time or one;
+/// its latest ones wait for their limit, or don't. Several that wait for that gain nothing by the lock.
+pub fn load_of(next: RequestHead, more: bool, several: bool, limited: bool) -> Load
+    ensures { result ≡ load_by next.kind next.length more several limited }
 {
-    if more {
+    if more || (several && limited) {
         return Load::Bulk;
     }
     match size_of(next) {

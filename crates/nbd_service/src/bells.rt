@@ -2,12 +2,12 @@
 
 use nbd_base::NoMemory;
 use nbd_commands::{Config, ExportConfig};
-use nbd_policy::{LAST_MOMENT_NS, SESSION_BELLS, Waiting, bell_of, wakes_worker};
+use nbd_policy::{SESSION_BELLS, Waiting, bell_of};
+use nbd_threads::Timekeeper;
 use nbd_workers::Bell;
 use server_core::{SessionId, Ticket};
 use std::alloc::Global;
 use std::sync::atomic::{AtomicBool, AtomicU64, Ordering};
-use tag_clock::Moment;
 
 /// The bells of a server.
 #[derive(Drop)]
@@ -16,8 +16,8 @@ pub struct Bells {
     pub work: Bell,
     // Whether something waits until fewer are in service.
     crowded: AtomicBool,
-    // When a worker looks for work by itself, in nanoseconds. The last moment that there is where none sleeps until one.
-    looks_at: AtomicU64,
+    /// When a worker looks by itself.
+    pub time: Timekeeper,
     desks: Vec<Desk>,
 }
 
@@ -40,32 +40,14 @@ impl Bells {
         Ok(Bells {
             work: Bell::new(),
             crowded: AtomicBool::new(false),
-            looks_at: AtomicU64::new(LAST_MOMENT_NS),
+            time: Timekeeper::new(),
             desks,
         })
     }
 
-    /// A worker looks for work from now on. A ring meanwhile has it look once more.
-    pub fn note_looking(&self) {
-        self.looks_at.store(LAST_MOMENT_NS, Ordering::SeqCst);
-    }
-
-    /// A worker that found nothing to do sleeps until something is due, or until it is woken.
-    pub fn note_asleep(&self, due: &Option<Moment>) {
-        let until = match due {
-            Some(due) => due.nanoseconds(),
-            None => LAST_MOMENT_NS,
-        };
-        self.looks_at.store(until, Ordering::SeqCst);
-    }
-
-    /// Wakes a worker for what waits, unless a worker looks by the time that it is due, or a writer chooses it.
+    /// Wakes a worker for what waits, unless one looks by the time that it is due, or a writer chooses it.
     pub fn ring_for(&self, waiting: Waiting, writer_chooses: bool) {
-        if wakes_worker(
-            waiting,
-            writer_chooses,
-            self.looks_at.load(Ordering::SeqCst),
-        ) {
+        if self.time.tell(waiting, writer_chooses) {
             self.work.ring_one();
         }
     }

@@ -1,6 +1,7 @@
 //! The gate of a server's workers.
 
 use crate::service::Service;
+use nbd_threads::Rest;
 use nbd_workers::{Gate, until};
 use server_core::Ticket;
 use std::cell::Cell;
@@ -10,7 +11,7 @@ use std::time;
 use tag_clock::{Clock, Moment};
 
 /// A worker's gate. It holds up no request, wakes the session whose request was performed, and where there is nothing to do
-/// sleeps until something is due, or the bell for work rings.
+/// sleeps until something is due, where no other worker does, or the bell for work rings.
 #[derive(Drop)]
 pub struct WorkerGate<'a, L: Ledger, R: Wait + time::Clock> {
     rt: &'a R,
@@ -20,7 +21,9 @@ pub struct WorkerGate<'a, L: Ledger, R: Wait + time::Clock> {
 }
 
 impl<'a, L: Ledger, R: Wait + time::Clock> WorkerGate<'a, L, R> {
+    /// The gate of a worker that begins, until `end`.
     pub fn new(rt: &'a R, service: &'a Service<L>) -> WorkerGate<'a, L, R> {
+        service.bells.time.begin();
         WorkerGate {
             rt,
             service,
@@ -41,22 +44,24 @@ impl<'a, L: Ledger, R: Wait + time::Clock> WorkerGate<'a, L, R> {
 
     /// Sleeps until a moment, and without end where there is none, but no longer than until the bell for work rings.
     fn sleep_until(&self, due: Option<Moment>) {
-        self.service.bells.note_asleep(&due);
-        let at_most = match due {
-            Some(due) => Some(until(self.service.clock(self.rt).now(), due)),
-            None => None,
-        };
+        let now = self.service.clock(self.rt).now();
+        let at_most = due.map(|due| until(now, due));
         self.service
             .bells
             .work
             .wait(self.rt, self.heard.get(), at_most);
+    }
+
+    /// The worker ends.
+    pub fn end(self) {
+        self.service.bells.time.end();
     }
 }
 
 impl<'a, L: Ledger, R: Wait + time::Clock> Clock for WorkerGate<'a, L, R> {
     fn now(&self) -> Moment {
         self.heard.set(self.service.bells.work.heard());
-        self.service.bells.note_looking();
+        self.service.bells.time.begin_look();
         self.service.clock(self.rt).now()
     }
 }
@@ -73,7 +78,13 @@ impl<'a, L: Ledger, R: Wait + time::Clock> Gate for WorkerGate<'a, L, R> {
             Some(due) => Some(due),
             None => self.due_after_all(),
         };
-        self.sleep_until(due);
+        let time = &self.service.bells.time;
+        match time.rest_until(due) {
+            Rest::No => return true,
+            Rest::UntilDue => self.sleep_until(due),
+            Rest::UntilWoken => self.sleep_until(None),
+        }
+        time.end_rest(due);
         true
     }
 }

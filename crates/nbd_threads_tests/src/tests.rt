@@ -1,5 +1,6 @@
 mod rates_in_force;
 mod spare_pages;
+mod timekeeping;
 
 use nbd_policy::{
     Load, LongReaders, RequestSize, Waiting, WritePace, accept_may_pass, answers_read,
@@ -89,17 +90,22 @@ fn how_long_a_request_is(rt: HostRuntime) {
 #[test]
 fn who_goes_first_to_the_server(rt: HostRuntime) {
     let short = head(WRITE, 65_535);
-    assert!(rt; load_of(short, false, false) == Load::Interactive);
-    assert!(rt; load_of(short, false, true) == Load::Interactive);
-    assert!(rt; load_of(short, true, false) == Load::Bulk);
+    assert!(rt; load_of(short, false, false, false) == Load::Interactive);
+    assert!(rt; load_of(short, false, true, false) == Load::Interactive);
+    assert!(rt; load_of(short, true, false, false) == Load::Bulk);
+    assert!(rt;
+        load_of(short, false, true, true) == Load::Bulk,
+        "several wait for their limit"
+    );
+    assert!(rt; load_of(short, false, false, true) == Load::Interactive);
     let long = head(WRITE, 262_143);
-    assert!(rt; load_of(long, false, false) == Load::Interactive);
-    assert!(rt; load_of(long, false, true) == Load::Bulk);
-    assert!(rt; load_of(long, true, false) == Load::Bulk);
-    assert!(rt; load_of(head(READ, 262_143), false, false) == Load::Interactive);
-    assert!(rt; load_of(head(READ, 16_385), false, true) == Load::Bulk);
-    assert!(rt; load_of(head(WRITE, 262_144), false, false) == Load::Bulk);
-    assert!(rt; load_of(head(TRIM, 1_048_577), false, false) == Load::Bulk);
+    assert!(rt; load_of(long, false, false, false) == Load::Interactive);
+    assert!(rt; load_of(long, false, true, false) == Load::Bulk);
+    assert!(rt; load_of(long, true, false, false) == Load::Bulk);
+    assert!(rt; load_of(head(READ, 262_143), false, false, false) == Load::Interactive);
+    assert!(rt; load_of(head(READ, 16_385), false, true, false) == Load::Bulk);
+    assert!(rt; load_of(head(WRITE, 262_144), false, false, false) == Load::Bulk);
+    assert!(rt; load_of(head(TRIM, 1_048_577), false, false, false) == Load::Bulk);
 }
 
 #[test]

@@ -139,6 +139,7 @@ fn run_worker<L: Ledger, R: Wait + time::Clock>(rt: &R, service: &Service<L>) {
     if let Some(pass) = service.passes.borrow(rt) {
         let gate = WorkerGate::new(rt, service);
         let pass = work(rt, &service.shared, &gate, pass);
+        gate.end();
         service.passes.give_back(rt, pass);
         // Another may sleep since as many requests were in service as may be.
         service.bells.work.ring();
