@@ -527,8 +527,8 @@ pub fn connections_for(descriptors: u64) -> u64
     descriptors.saturating_sub(OWN_DESCRIPTORS)
 }
 
-/// How much a session asks for with its next request, behind which others are ready or none, and which has several at a time or one;
-/// its latest ones wait for their limit, or don't. Several that wait for that gain nothing by the lock.
+/// How much a session asks for with its next request, behind which `more` are ready, where it mostly has `several` at a time, and its
+/// latest ones wait for their limit (`limited`): where several do, it gains nothing by the lock.
 pub fn load_of(next: RequestHead, more: bool, several: bool, limited: bool) -> Load
     ensures { result ≡ load_by next.kind next.length more several limited }
 {

@@ -18,8 +18,8 @@ pub enum RequestSize {
 /// How much a session asks for at a moment.
 #[derive(Clone, Copy, Debug, PartialEq, Eq, Drop)]
 pub enum Load {
-    /// A short request, behind which no other is ready.
+    /// Little: a short request behind which no other is ready, or a long one of less than 256 KiB at a time.
     Interactive,
-    /// A long request, or several at a time.
+    /// Much: others behind it, a longer one, several long ones at a time, or several that wait for their limit.
     Bulk,
 }

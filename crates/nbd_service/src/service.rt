@@ -87,6 +87,20 @@ pub struct Service<L: Ledger> {
     pub processors: usize,
 }
 
+/// What waits of each export's WRITEs, and what ended sessions left of them: nothing.
+fn no_writes(
+    alloc: Global,
+    config: &Config<Global>,
+) -> Result<(Vec<AtomicU64>, Vec<Mutex<LeftWrites>>), NoMemory> {
+    let mut waiting = Vec::new(alloc);
+    let mut left = Vec::new(alloc);
+    for _ in config.exports() {
+        waiting.push(AtomicU64::new(0))?;
+        left.push(Mutex::new(LeftWrites::NONE))?;
+    }
+    Ok((waiting, left))
+}
+
 impl<L: Ledger> Service<L> {
     /// What the threads of this server share. Its time begins now. The table is what clients are told of the exports.
     pub fn new<R: Wait + Threads + time::Clock>(
@@ -97,12 +111,7 @@ impl<L: Ledger> Service<L> {
         shared: Shared<L, Paged<Global>, Heaped<Global>>,
         passes: PassPool<L>,
     ) -> Result<Service<L>, NoMemory> {
-        let mut waiting_writes = Vec::new(alloc);
-        let mut left_writes = Vec::new(alloc);
-        for _ in config.exports() {
-            waiting_writes.push(AtomicU64::new(0))?;
-            left_writes.push(Mutex::new(LeftWrites::NONE))?;
-        }
+        let (waiting_writes, left_writes) = no_writes(alloc, config)?;
         let tally = tally_of(alloc, config)?;
         shared.hold(rt).set_tally(tally);
         // The C library gives no block of this size back to the system from now on, which would cost more than the copies.
