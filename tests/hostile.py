@@ -377,6 +377,26 @@ def weight_and_limit():
         yield first > 20 * other, "4 KiB READs of weight 1 beside those of weight 9 at a limit of 1,000: %d and %d a second" % (first, other)
 
 
+def switches(server):
+    """How often the server's threads went to sleep so far."""
+    total = 0
+    for pid in server.everyone():
+        for task in os.listdir("/proc/%d/task" % pid):
+            with open("/proc/%d/task/%s/status" % (pid, task)) as it:
+                total += int(it.read().split("\nvoluntary_ctxt_switches:")[1].split()[0])
+    return total
+
+
+def wakeups_at_a_limit():
+    """Where requests wait for their limit, one worker wakes for each that comes due, and no other."""
+    with two_disks(config=exports_of(["limit = 1000", "weight = 1"])) as server:
+        before = switches(server)
+        ran = load(2, [server.clients(0, depth=4)], warm=0)[0]["a_second"]
+        each = (switches(server) - before) / max(2 * ran, 1)
+        yield ran > 950, "4 KiB READs, four at a time, at a limit of 1,000: %d a second (more than 950)" % ran
+        yield each < 3.7, "the server's threads slept %.1f times for each (3.7)" % each
+
+
 def one_write_at_a_time():
     """WRITEs of 64 KiB, one at a time at a client's own pace, beside long ones: others don't stop for each of them."""
     with two_disks(config=exports_of(["weight = 1"] * 2)) as server:
@@ -723,6 +743,7 @@ TESTS = [
     shares_of_unequal_requests,
     weights_of_long_writes,
     weight_and_limit,
+    wakeups_at_a_limit,
     one_write_at_a_time,
     writes_of_clients_that_leave,
     orderly_ends,
