@@ -43,9 +43,11 @@ impl<'a, L: Ledger, R: Wait + time::Clock> WorkerGate<'a, L, R> {
     }
 
     /// Sleeps until a moment, and without end where there is none, but no longer than until the bell for work rings.
-    fn sleep_until(&self, due: Option<Moment>) {
-        let now = self.service.clock(self.rt).now();
-        let at_most = due.map(|due| until(now, due));
+    fn sleep_until(&self, due: &Option<Moment>) {
+        let at_most = match due {
+            Some(due) => Some(until(self.service.clock(self.rt).now(), *due)),
+            None => None,
+        };
         self.service
             .bells
             .work
@@ -79,12 +81,12 @@ impl<'a, L: Ledger, R: Wait + time::Clock> Gate for WorkerGate<'a, L, R> {
             None => self.due_after_all(),
         };
         let time = &self.service.bells.time;
-        match time.rest_until(due) {
+        match time.rest_until(&due) {
             Rest::No => return true,
-            Rest::UntilDue => self.sleep_until(due),
-            Rest::UntilWoken => self.sleep_until(None),
+            Rest::UntilDue => self.sleep_until(&due),
+            Rest::UntilWoken => self.sleep_until(&None),
         }
-        time.end_rest(due);
+        time.end_rest(&due);
         true
     }
 }

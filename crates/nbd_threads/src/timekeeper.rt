@@ -71,14 +71,16 @@ impl Timekeeper {
     }
 
     /// How a worker sleeps that found something due at a moment, or nothing.
-    pub fn rest_until(&self, due: Option<Moment>) -> Rest {
+    pub fn rest_until(&self, due: &Option<Moment>) -> Rest {
         let until = nanoseconds_of(due);
         let kept = self.kept.fetch_min(until, Ordering::SeqCst);
         self.awake.fetch_sub(1, Ordering::SeqCst);
-        if self.told.load(Ordering::SeqCst) < until.min(kept) {
+        let told = self.told.load(Ordering::SeqCst);
+        if told < until && told < kept {
             self.end_rest(due);
-            Rest::No
-        } else if until < kept {
+            return Rest::No;
+        }
+        if until < kept {
             Rest::UntilDue
         } else {
             Rest::UntilWoken
@@ -86,7 +88,7 @@ impl Timekeeper {
     }
 
     /// A worker that slept, or was about to, and found something due at that moment, is awake.
-    pub fn end_rest(&self, due: Option<Moment>) {
+    pub fn end_rest(&self, due: &Option<Moment>) {
         self.awake.fetch_add(1, Ordering::SeqCst);
         let _ = self.kept.compare_exchange(
             nanoseconds_of(due),
@@ -98,6 +100,9 @@ impl Timekeeper {
 }
 
 /// The moment, or the last that there is where nothing is due.
-fn nanoseconds_of(due: Option<Moment>) -> u64 {
-    due.map_or(LAST_MOMENT_NS, |due| due.nanoseconds())
+fn nanoseconds_of(due: &Option<Moment>) -> u64 {
+    match due {
+        Some(due) => due.nanoseconds(),
+        None => LAST_MOMENT_NS,
+    }
 }

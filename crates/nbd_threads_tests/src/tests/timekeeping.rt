@@ -14,7 +14,7 @@ fn two_awake() -> Timekeeper {
 }
 
 fn rests(time: &Timekeeper, due: u64) -> Rest {
-    time.rest_until(Moment::new(due))
+    time.rest_until(&Moment::new(due))
 }
 
 /// Whether a worker is woken for what is due at a moment, in nanoseconds, and no writer chooses.
@@ -34,11 +34,11 @@ fn one_worker_keeps_the_time(rt: HostRuntime) {
         "a writer chooses"
     );
     assert!(rt; !time.tell(Waiting::Nothing, false));
-    time.end_rest(Moment::new(100));
+    time.end_rest(&Moment::new(100));
     time.begin_look();
     assert!(rt; !wakes(&time, 200), "one is awake");
     time.begin_look();
-    assert!(rt; time.rest_until(None) == Rest::UntilWoken);
+    assert!(rt; time.rest_until(&None) == Rest::UntilWoken);
     assert!(rt; wakes(&time, 1_000_000_000), "nobody looks by itself");
 }
 
@@ -46,10 +46,10 @@ fn one_worker_keeps_the_time(rt: HostRuntime) {
 fn what_was_told_while_a_worker_looked(rt: HostRuntime) {
     let time = two_awake();
     assert!(rt; !wakes(&time, 50));
-    assert!(rt; rests(&time, 60) == Rest::No && time.rest_until(None) == Rest::No);
+    assert!(rt; rests(&time, 60) == Rest::No && time.rest_until(&None) == Rest::No);
     assert!(rt; rests(&time, 50) == Rest::UntilDue, "it found that");
     assert!(rt; rests(&time, 60) == Rest::UntilWoken);
-    time.end_rest(Moment::new(60));
+    time.end_rest(&Moment::new(60));
     time.begin_look();
     assert!(rt;
         rests(&time, 40) == Rest::UntilDue,
