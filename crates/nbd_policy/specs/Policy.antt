@@ -5,6 +5,8 @@ use Rattle.nbd_policy.specs.declared.request_size.RequestSize.{RequestSize}
 use Rattle.nbd_policy.specs.declared.request_size.RequestSize.TheVariants as sizes
 use Rattle.nbd_policy.specs.declared.request_size.Load.{Load}
 use Rattle.nbd_policy.specs.declared.request_size.Load.TheVariants as loads
+use Rattle.nbd_policy.specs.declared.waiting.Rest.{Rest}
+use Rattle.nbd_policy.specs.declared.waiting.Rest.TheVariants as rests
 use Rattle.nbd_policy.specs.declared.waiting.Waiting.{Waiting}
 use Rattle.nbd_policy.specs.declared.waiting.Waiting.TheVariants as waits
 use Rattle.nbd_policy.specs.declared.write_pace.WritePace.{WritePace}
@@ -99,6 +101,12 @@ abbrev pub wakes_worker_by : Waiting → Bool → ℕ → Bool
 wakes_worker_by waits.Nothing chooses looks_at = false
 wakes_worker_by (waits.Until due) chooses looks_at = not chooses && nat_lt due looks_at
 wakes_worker_by waits.ForOthers chooses looks_at = not chooses
+
+-- not at all where something told is due before what it found and before others wake, else until that where it is the sooner
+abbrev pub rest_by : ℕ → ℕ → ℕ → Rest
+rest_by until kept told =
+    if nat_lt told until && nat_lt told kept then rests.No
+    else (if nat_lt until kept then rests.UntilDue else rests.UntilWoken)
 
 -- that moment has come
 abbrev pub is_due_by : Waiting → ℕ → Bool

@@ -3,7 +3,7 @@
 
 ghost use Rattle.std.specs.Prelude.{◌≡◌, ◌+◌, ◌-◌, ◌*◌, ◌<◌, ◌≤◌, ◌^◌, min, option_map};
 ghost use Rattle.std.specs.Duration.{as_nanos};
-ghost use Rattle.nbd_policy.specs.Policy.{accept_may_pass_by, answers_read_by, asks_for_turn_by, backlog_by, batch_by, bell_by, cost_by, data_by, ends_hold_by, handed_in_by, handshake_wait_by, has_more_by, holds_back_by, is_alone_by, is_due_by, is_forgotten_by, is_network_fault_by, is_shortage_by, is_stalled_by, is_uneven_by, is_zero_by, keeps_by, keeps_up_by, limited_by, load_by, load_of_data_by, looks_behind_by, looks_in_a_row_by, makes_ready_by, makes_room_by, next_skip_by, patience_by, performs_by, reads_ahead_by, short_pieces_by, size_by, span_by, spares_by, still_defers_by, still_retunes_by, still_waits_for_line_by, suits_reader_by, waiting_by, wakes_worker_by, carried_by, yields_by, yields_behind_look_by};
+ghost use Rattle.nbd_policy.specs.Policy.{accept_may_pass_by, answers_read_by, asks_for_turn_by, backlog_by, batch_by, bell_by, cost_by, data_by, ends_hold_by, handed_in_by, handshake_wait_by, has_more_by, holds_back_by, is_alone_by, is_due_by, is_forgotten_by, is_network_fault_by, is_shortage_by, is_stalled_by, is_uneven_by, is_zero_by, keeps_by, keeps_up_by, limited_by, load_by, load_of_data_by, looks_behind_by, looks_in_a_row_by, makes_ready_by, makes_room_by, next_skip_by, patience_by, performs_by, reads_ahead_by, rest_by, short_pieces_by, size_by, span_by, spares_by, still_defers_by, still_retunes_by, still_waits_for_line_by, suits_reader_by, waiting_by, wakes_worker_by, carried_by, yields_by, yields_behind_look_by};
 
 mod long_readers;
 mod request_size;
@@ -16,7 +16,7 @@ use nbd_wire::protocol::{READ, TRIM, WRITE, WRITE_ZEROES};
 pub use request_size::{Load, RequestSize};
 use std::time::Duration;
 use tag_clock::Moment;
-pub use waiting::Waiting;
+pub use waiting::{Rest, Waiting};
 pub use write_pace::WritePace;
 
 // ---- Connections, and the threads that serve them
@@ -395,6 +395,20 @@ pub fn wakes_worker(waiting: Waiting, writer_chooses: bool, looks_at: u64) -> bo
         Waiting::Nothing => false,
         Waiting::Until { nanoseconds } => !writer_chooses && nanoseconds < looks_at,
         Waiting::ForOthers => !writer_chooses,
+    }
+}
+
+/// How a worker rests that found something due at one moment, where others sleep until another, and what was told since it began to look
+/// is due at a third. All are in nanoseconds, and the last moment that there is where there is none.
+pub fn rest_of(until: u64, kept: u64, told: u64) -> Rest
+    ensures { result ≡ rest_by until kept told }
+{
+    if told < until && told < kept {
+        Rest::No
+    } else if until < kept {
+        Rest::UntilDue
+    } else {
+        Rest::UntilWoken
     }
 }
 

@@ -1,7 +1,7 @@
 //! The gate of a server's workers.
 
 use crate::service::Service;
-use nbd_threads::Rest;
+use nbd_policy::Rest;
 use nbd_workers::{Gate, until};
 use server_core::Ticket;
 use std::cell::Cell;
@@ -11,7 +11,7 @@ use std::time;
 use tag_clock::{Clock, Moment};
 
 /// A worker's gate. It holds up no request, wakes the session whose request was performed, and where there is nothing to do
-/// sleeps until something is due, where no other worker does, or the bell for work rings.
+/// sleeps until something is due, where no other worker does, or until the bell for work rings.
 #[derive(Drop)]
 pub struct WorkerGate<'a, L: Ledger, R: Wait + time::Clock> {
     rt: &'a R,

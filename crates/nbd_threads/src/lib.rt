@@ -1,7 +1,8 @@
 //! What the threads of a server know of each other and of its connections, beside the server itself: whose turn it is, who asks for
 //! little, which worker keeps the time, the rates in force, the open connections with their figures, spare pages, clocks, and how a
-//! thread looks for what it waits for. The rates in force and a read that doesn't wait have contracts. The rest has none and is tested instead, since it takes locks,
-//! wakes threads, looks at sockets and reads flags that others write. Numbers and rules over values are nbd_policy's.
+//! thread looks for what it waits for. The rates in force and a read that doesn't wait have contracts. The rest has none and is tested
+//! instead, since it takes locks, wakes threads, looks at sockets and reads flags that others write. Numbers and rules over values are
+//! nbd_policy's.
 #![tactic(auto)]
 
 mod busy_writers;
@@ -30,6 +31,6 @@ pub use running_clock::RunningClock;
 pub use spare_store::SpareStore;
 pub use spin::SpinLadder;
 pub use spin_read::{SpinRead, has_input};
-pub use timekeeper::{Rest, Timekeeper};
+pub use timekeeper::Timekeeper;
 pub use turn_seat::TurnSeat;
 pub use turns::Turns;

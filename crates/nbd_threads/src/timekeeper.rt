@@ -1,19 +1,8 @@
 //! Which worker looks for what comes due, and who is woken for what waits.
 
-use nbd_policy::{LAST_MOMENT_NS, Waiting, wakes_worker};
+use nbd_policy::{LAST_MOMENT_NS, Rest, Waiting, rest_of, wakes_worker};
 use std::sync::atomic::{AtomicU64, AtomicUsize, Ordering};
 use tag_clock::Moment;
-
-/// How a worker sleeps that found nothing to do.
-#[derive(Clone, Copy, Debug, PartialEq, Eq, Drop)]
-pub enum Rest {
-    /// It doesn't: something is due sooner than what it found, so it looks once more.
-    No,
-    /// Until something is due, or until it is woken: it keeps the time.
-    UntilDue,
-    /// Until it is woken: another keeps the time, or nothing is due.
-    UntilWoken,
-}
 
 /// When a worker looks for work by itself. Whoever leaves something waiting tells when that is due, and wakes a worker only where none
 /// looks by then.
@@ -75,16 +64,11 @@ impl Timekeeper {
         let until = nanoseconds_of(due);
         let kept = self.kept.fetch_min(until, Ordering::SeqCst);
         self.awake.fetch_sub(1, Ordering::SeqCst);
-        let told = self.told.load(Ordering::SeqCst);
-        if told < until && told < kept {
+        let rest = rest_of(until, kept, self.told.load(Ordering::SeqCst));
+        if rest == Rest::No {
             self.end_rest(due);
-            return Rest::No;
         }
-        if until < kept {
-            Rest::UntilDue
-        } else {
-            Rest::UntilWoken
-        }
+        rest
     }
 
     /// A worker that slept, or was about to, and found something due at that moment, is awake.

@@ -1,7 +1,7 @@
 //! Which worker keeps the time, and who is woken for what waits.
 
-use nbd_policy::Waiting;
-use nbd_threads::{Rest, Timekeeper};
+use nbd_policy::{LAST_MOMENT_NS, Rest, Waiting, rest_of};
+use nbd_threads::Timekeeper;
 use tag_clock::Moment;
 
 /// The time of two workers that look for work.
@@ -65,4 +65,13 @@ fn a_worker_that_ends(rt: HostRuntime) {
     assert!(rt; !wakes(&time, 5));
     time.end();
     assert!(rt; wakes(&time, 5));
+}
+
+#[test]
+fn how_a_worker_rests(rt: HostRuntime) {
+    assert!(rt; rest_of(60, 70, 59) == Rest::No);
+    assert!(rt; rest_of(60, 70, 60) == Rest::UntilDue);
+    assert!(rt; rest_of(60, 50, 55) == Rest::UntilWoken);
+    assert!(rt; rest_of(60, 60, 100) == Rest::UntilWoken);
+    assert!(rt; rest_of(LAST_MOMENT_NS, LAST_MOMENT_NS, LAST_MOMENT_NS) == Rest::UntilWoken);
 }
