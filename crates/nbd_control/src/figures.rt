@@ -153,48 +153,51 @@ impl ExportFigure {
     pub fn row(self) -> Row
         ensures { row_of result ≡ export_row self }
     {
+        let help = self.help();
         match self {
-            ExportFigure::Size => gauge("size_bytes", "Size of the disk."),
-            ExportFigure::HeldBytes => gauge(
-                "held_bytes",
-                "Bytes of pages that have memory or are kept as zeros.",
-            ),
-            ExportFigure::BaseBytes => gauge(
-                "base_bytes",
-                "Bytes of such pages of the disk before its latest steps.",
-            ),
-            ExportFigure::LogBytes => gauge("log_bytes", "Bytes of WRITEs in its latest steps."),
-            ExportFigure::Sessions => gauge("sessions", "Sessions that are open."),
-            ExportFigure::Waiting => gauge("requests_waiting", "Requests that wait."),
-            ExportFigure::Steps => counter("steps_total", "Steps of the export."),
-            ExportFigure::ByReservation => counter(
-                "chosen_by_reservation_total",
-                "Requests chosen by reservation.",
-            ),
-            ExportFigure::ByWeight => counter(
-                "chosen_by_weight_total",
-                "Requests chosen by weight.",
-            ),
-            ExportFigure::Errors => counter("errors_total", "Requests answered with an error."),
-            ExportFigure::ReadBytes => counter("read_bytes_total", "Bytes read."),
-            ExportFigure::WrittenBytes => counter("written_bytes_total", "Bytes written."),
-            ExportFigure::Reservation => gauge(
-                "reservation_per_second",
-                "Reserved requests a second, 0 for none.",
-            ),
-            ExportFigure::Limit => gauge(
-                "limit_per_second",
-                "Limit in requests a second, 0 for none.",
-            ),
-            ExportFigure::Weight => gauge("weight", "Weight among the exports."),
-            ExportFigure::MedianWait => gauge(
-                "wait_median_seconds",
-                "Median wait of the latest 1024 requests.",
-            ),
-            ExportFigure::LongWait => gauge(
-                "wait_p99_seconds",
+            ExportFigure::Size => gauge("size_bytes", help),
+            ExportFigure::HeldBytes => gauge("held_bytes", help),
+            ExportFigure::BaseBytes => gauge("base_bytes", help),
+            ExportFigure::LogBytes => gauge("log_bytes", help),
+            ExportFigure::Sessions => gauge("sessions", help),
+            ExportFigure::Waiting => gauge("requests_waiting", help),
+            ExportFigure::Steps => counter("steps_total", help),
+            ExportFigure::ByReservation => counter("chosen_by_reservation_total", help),
+            ExportFigure::ByWeight => counter("chosen_by_weight_total", help),
+            ExportFigure::Errors => counter("errors_total", help),
+            ExportFigure::ReadBytes => counter("read_bytes_total", help),
+            ExportFigure::WrittenBytes => counter("written_bytes_total", help),
+            ExportFigure::Reservation => gauge("reservation_per_second", help),
+            ExportFigure::Limit => gauge("limit_per_second", help),
+            ExportFigure::Weight => gauge("weight", help),
+            ExportFigure::MedianWait => gauge("wait_median_seconds", help),
+            ExportFigure::LongWait => gauge("wait_p99_seconds", help),
+        }
+    }
+
+    /// What it means.
+    fn help(self) -> &'static str
+        ensures { result.now ≡ (export_row self).help }
+    {
+        match self {
+            ExportFigure::Size => "Size of the disk.",
+            ExportFigure::HeldBytes => "Bytes of pages that have memory or are kept as zeros.",
+            ExportFigure::BaseBytes => "Bytes of such pages of the disk before its latest steps.",
+            ExportFigure::LogBytes => "Bytes of WRITEs in its latest steps.",
+            ExportFigure::Sessions => "Sessions that are open.",
+            ExportFigure::Waiting => "Requests that wait.",
+            ExportFigure::Steps => "Steps of the export.",
+            ExportFigure::ByReservation => "Requests chosen by reservation.",
+            ExportFigure::ByWeight => "Requests chosen by weight.",
+            ExportFigure::Errors => "Requests answered with an error.",
+            ExportFigure::ReadBytes => "Bytes read.",
+            ExportFigure::WrittenBytes => "Bytes written.",
+            ExportFigure::Reservation => "Reserved requests a second, 0 for none.",
+            ExportFigure::Limit => "Limit in requests a second, 0 for none.",
+            ExportFigure::Weight => "Weight among the exports.",
+            ExportFigure::MedianWait => "Median wait of the latest 1024 requests.",
+            ExportFigure::LongWait =>
                 "Wait that 99 of 100 of the latest 1024 requests didn't exceed.",
-            ),
         }
     }
 
