@@ -334,9 +334,11 @@ def sessions_not_waited_for():
 
 
 def long_reads_beside_stuck_sessions():
-    """READs of 1 MiB of one connection, beside three sessions of another export that don't read their replies."""
+    """READs of 1 MiB of one connection, beside three sessions of another export that don't read their replies, or late."""
     with two_disks() as server:
-        fill(server.places[0], server.exports[0])
+        for place, export in zip(server.places, server.exports):
+            fill(place, export)
+        _, _, block = Client(server.places[1], server.exports[1]).ask(READ, 0, MIB)
         reads = [server.clients(0, bytes=MIB, depth=8)]
         alone = load(2, reads)[0]["mib_a_second"]
         stuck = [Client(server.places[1], server.exports[1]) for _ in range(3)]
@@ -345,6 +347,11 @@ def long_reads_beside_stuck_sessions():
         time.sleep(0.5)
         beside = load(2, reads)[0]["mib_a_second"]
         yield beside > 0.75 * alone, "beside three sessions that don't read 1 MiB READs of another export come to %.2f of those without (0.75)" % (beside / alone)
+        for client in stuck:
+            client.send(WRITE, 0, 4 * MIB, bytes(4 * MIB))
+        late = [(client.reply(MIB), client.reply()) for client in stuck]
+        right = all((read[0], read[2], written[0]) == (0, block, 0) for read, written in late)
+        yield right, "these three send a WRITE of 4 MiB before they read, and get both replies"
 
 
 def shares_of_unequal_requests():

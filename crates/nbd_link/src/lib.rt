@@ -5,6 +5,7 @@
 #![tactic(auto)]
 
 mod discards;
+mod early_writer;
 mod feed;
 mod outlet;
 mod port;

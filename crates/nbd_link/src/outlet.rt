@@ -1,5 +1,6 @@
 //! Where a session's replies go out.
 
+use crate::early_writer::EarlyWriter;
 use crate::port::{Port, is_timeout};
 use crate::under_way::BytesUnderWay;
 use nbd_base::NoMemory;
@@ -18,7 +19,7 @@ use std::sync::atomic::{AtomicBool, Ordering};
 use std::sync::ledger::Ledger;
 
 /// Replies and the buffer that they are written to.
-type Replies<'a> = ReplyWriter<BufWriter<Port<'a>>, Global>;
+type Replies<'a> = ReplyWriter<EarlyWriter<'a>, Global>;
 
 /// Where a session's replies go out.
 #[derive(Drop)]
@@ -60,7 +61,7 @@ fn room_of(wide: bool) -> usize {
 
 fn replies_of<'a>(alloc: Global, port: Port<'a>, room: usize) -> Result<Replies<'a>, NoMemory> {
     match BufWriter::with_capacity(alloc, room, port) {
-        Ok(writer) => ReplyWriter::new(alloc, writer, TAKEN_REPLIES),
+        Ok(buffer) => ReplyWriter::new(alloc, EarlyWriter::new(buffer), TAKEN_REPLIES),
         Err(_) => Err(NoMemory),
     }
 }
@@ -191,6 +192,7 @@ impl<'a> Outlet<'a> {
 
     /// Writes the replies that were taken, which are brief, and sends them where that is asked for, unless the client doesn't read.
     pub fn write_briefly(&mut self, sends: bool) -> FlushOutcome {
+        self.patient.store(false, Ordering::SeqCst);
         if !self.put_taken() {
             return FlushOutcome::Failed;
         }

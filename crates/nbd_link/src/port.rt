@@ -1,7 +1,7 @@
 //! A client's socket, as replies go out to it.
 
 use crate::under_way::BytesUnderWay;
-use nbd_policy::{MUCH_WRITTEN_BYTES, is_stalled};
+use nbd_policy::{MUCH_WRITTEN_BYTES, is_stalled, sent_at_once};
 use nbd_threads::{InteractiveLoad, TurnSeat};
 use nbd_workers::Bell;
 use std::io;
@@ -41,17 +41,20 @@ impl<'a> Port<'a> {
             work,
         }
     }
+
+    /// Whether a write that waited for a client that doesn't read goes on.
+    pub fn is_patient(&self) -> bool {
+        self.patient.load(Ordering::SeqCst)
+    }
 }
 
 impl Write for Port<'_> {
     fn write(&mut self, buf: &[u8]) -> io::Result<usize> {
         let mut peer = self.peer;
+        let count = sent_at_once(buf.len(), self.interactive.is_expected());
         for waits in 1..u64::MAX {
-            match peer.write(buf) {
-                Err(error)
-                    if self.patient.load(Ordering::SeqCst)
-                        && is_timeout(&error)
-                        && !is_stalled(waits) => {
+            match peer.write(&buf[..count]) {
+                Err(error) if self.is_patient() && is_timeout(&error) && !is_stalled(waits) => {
                     self.under_way.note_unread(true);
                     self.seat.leave_later();
                     self.work.ring_one();

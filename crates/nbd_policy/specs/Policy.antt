@@ -255,6 +255,18 @@ makes_ready_by writers processors = nat_le writers (processors / 2)
 abbrev pub keeps_by : ℕ → Bool
 keeps_by unsent = nat_lt unsent 4
 
+-- 256 KiB, where the client reads
+abbrev pub sends_early_by : ℕ → Bool → Bool
+sends_early_by buffered stuck = nat_le 262144 buffered && not stuck
+
+-- more than 16 KiB, by a patient write
+abbrev pub goes_straight_by : ℕ → Bool → Bool
+goes_straight_by bytes patient = patient && nat_lt 16384 bytes
+
+-- of 192 KiB and more the first 128 beside interactive sessions, else all
+abbrev pub sent_by : ℕ → Bool → ℕ
+sent_by bytes interactive = if interactive && nat_le 196608 bytes then 131072 else bytes
+
 -- three quarters of the room, and within it together with what isn't sent
 abbrev pub suits_reader_by : ℕ → ℕ → ℕ → Bool
 suits_reader_by bytes unsent room = nat_le bytes (room - room / 4) && nat_lt unsent (room - bytes)

@@ -3,7 +3,7 @@
 
 ghost use Rattle.std.specs.Prelude.{◌≡◌, ◌+◌, ◌-◌, ◌*◌, ◌<◌, ◌≤◌, ◌^◌, min, option_map};
 ghost use Rattle.std.specs.Duration.{as_nanos};
-ghost use Rattle.nbd_policy.specs.Policy.{accept_may_pass_by, answers_read_by, asks_for_turn_by, backlog_by, batch_by, bell_by, cost_by, data_by, ends_hold_by, handed_in_by, handshake_wait_by, has_more_by, holds_back_by, is_alone_by, is_due_by, is_forgotten_by, is_network_fault_by, is_shortage_by, is_stalled_by, is_uneven_by, is_zero_by, keeps_by, keeps_up_by, limited_by, load_by, load_of_data_by, looks_behind_by, looks_in_a_row_by, makes_ready_by, makes_room_by, next_skip_by, patience_by, performs_by, reads_ahead_by, rest_by, short_pieces_by, size_by, span_by, spares_by, still_defers_by, still_retunes_by, still_waits_for_line_by, suits_reader_by, waiting_by, wakes_worker_by, carried_by, yields_by, yields_behind_look_by};
+ghost use Rattle.nbd_policy.specs.Policy.{accept_may_pass_by, answers_read_by, asks_for_turn_by, backlog_by, batch_by, bell_by, cost_by, data_by, ends_hold_by, handed_in_by, handshake_wait_by, has_more_by, goes_straight_by, holds_back_by, is_alone_by, is_due_by, is_forgotten_by, is_network_fault_by, is_shortage_by, is_stalled_by, is_uneven_by, is_zero_by, keeps_by, keeps_up_by, limited_by, load_by, load_of_data_by, looks_behind_by, looks_in_a_row_by, makes_ready_by, makes_room_by, next_skip_by, patience_by, performs_by, reads_ahead_by, rest_by, sends_early_by, sent_by, short_pieces_by, size_by, span_by, spares_by, still_defers_by, still_retunes_by, still_waits_for_line_by, suits_reader_by, waiting_by, wakes_worker_by, carried_by, yields_by, yields_behind_look_by};
 
 mod long_readers;
 mod request_size;
@@ -155,6 +155,9 @@ pub const MUCH_READ_BYTES: usize = 65_536;
 /// So many bytes of one write to a socket are many: behind it the thread lets others run.
 pub const MUCH_WRITTEN_BYTES: usize = 131_072;
 
+/// So many bytes go out by several writes beside interactive sessions, of `MUCH_WRITTEN_BYTES` but for the last.
+pub const DIVIDED_BYTES: usize = 196_608;
+
 /// How often a session's thread looks for the lock before it waits in `Shared::hold`, which tries the lock itself at each look; and
 /// how often in a row before other threads run.
 pub const LOCK_LOOKS: usize = 16_384;
@@ -208,8 +211,11 @@ pub const BACKLOG_HOLDS: u32 = 16;
 /// How many bytes of replies are kept before they are sent. A reply's data come to it page by page, so that it is to hold a long one.
 pub const OUTLET_BYTES: usize = 262_144;
 
-/// The same while a reader answers READs of long data.
+/// The same while a reader answers READs of long data, where the client doesn't read what is sent of them.
 pub const WIDE_OUTLET_BYTES: usize = 1_572_864;
+
+/// So many bytes of replies in a buffer go out before more are written: they are still in the processor's cache then.
+pub const EARLY_BYTES: usize = 262_144;
 
 /// How many replies are taken in a row: twice as many as a reader hands in requests at most, so that it mostly takes all.
 pub const TAKEN_REPLIES: usize = 32;
@@ -692,6 +698,32 @@ pub fn may_keep(unsent: usize) -> bool
     ensures { result ≡ keeps_by unsent }
 {
     unsent < KEPT_REPLIES
+}
+
+/// Whether so many bytes in a buffer go out before more are written, where the client read what was sent before in time or didn't.
+pub fn sends_early(buffered: usize, stuck: bool) -> bool
+    ensures { result ≡ sends_early_by buffered stuck }
+{
+    buffered >= EARLY_BYTES && !stuck
+}
+
+/// Whether a text of so many bytes goes straight out and isn't copied to the buffer, where a write waits for the client or doesn't.
+pub fn goes_straight(bytes: usize, patient: bool) -> bool
+    ensures { result ≡ goes_straight_by bytes patient }
+{
+    patient && bytes > SHORT_READ_BYTES as usize
+}
+
+/// How many of so many bytes are written to a socket at once, where an interactive session is expected or not. What is left isn't little.
+pub fn sent_at_once(bytes: usize, interactive: bool) -> usize
+    ensures count { result ≡ sent_by bytes interactive }
+    ensures within { result ≤ bytes }
+{
+    if interactive && bytes >= DIVIDED_BYTES {
+        MUCH_WRITTEN_BYTES
+    } else {
+        bytes
+    }
 }
 
 /// Whether a reader may write replies of so many bytes itself, heads included: they take three quarters of its room at most, and fit in

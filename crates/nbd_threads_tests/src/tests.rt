@@ -5,12 +5,12 @@ mod timekeeping;
 use nbd_policy::{
     Load, LongReaders, RequestSize, Waiting, WritePace, accept_may_pass, answers_read,
     asks_for_turn, backlog_after, batch_after, bell_of, brought_by, connections_for, cost_of,
-    data_of, ends_hold, handed_in, handshake_wait_ms, has_more, holds_back, is_alone, is_due,
-    is_stalled, keeps_up, limited_until, load_of, looks_behind, looks_in_a_row, makes_ready,
-    makes_room, may_keep, may_read_ahead, moment_after, next_skip, passes_for, patience,
-    performs_itself, short_pieces, size_of, span_of, still_defers, still_retunes,
-    still_waits_for_line, suits_reader, waiting_until, wakes_worker, yields_behind,
-    yields_behind_look,
+    data_of, ends_hold, goes_straight, handed_in, handshake_wait_ms, has_more, holds_back,
+    is_alone, is_due, is_stalled, keeps_up, limited_until, load_of, looks_behind, looks_in_a_row,
+    makes_ready, makes_room, may_keep, may_read_ahead, moment_after, next_skip, passes_for,
+    patience, performs_itself, sends_early, sent_at_once, short_pieces, size_of, span_of,
+    still_defers, still_retunes, still_waits_for_line, suits_reader, waiting_until, wakes_worker,
+    yields_behind, yields_behind_look,
 };
 use nbd_threads::{BusyWriters, InteractiveLoad, RunningClock, SpinRead, Traffic, TurnSeat, Turns};
 use nbd_wire::RequestHead;
@@ -152,6 +152,16 @@ fn what_is_read_ahead_and_kept(rt: HostRuntime) -> Result<(), Fail> {
     assert!(rt; patience(0) == None);
     assert!(rt; patience(1) == Some(Duration::from_secs(1)));
     Ok(())
+}
+
+#[test]
+fn what_goes_out_at_once(rt: HostRuntime) {
+    assert!(rt; sends_early(262_144, false) && !sends_early(262_143, false));
+    assert!(rt; !sends_early(262_144, true));
+    assert!(rt; goes_straight(16_385, true) && !goes_straight(16_384, true));
+    assert!(rt; !goes_straight(16_385, false));
+    assert!(rt; sent_at_once(196_608, true) == 131_072 && sent_at_once(196_607, true) == 196_607);
+    assert!(rt; sent_at_once(196_608, false) == 196_608);
 }
 
 /// The head of a request for so many bytes.
