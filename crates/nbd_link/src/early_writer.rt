@@ -7,7 +7,7 @@ use std::io::{BufWriter, ErrorKind, Write};
 
 /// A buffer whose bytes go out once they are many, unless the client doesn't read: then it keeps them, as far as it has room, until a
 /// patient write. So they are still in the cache of the processor that wrote them, and the next ones take their place there. A long text
-/// goes straight out behind them.
+/// goes straight out where it is empty: the data of a reply without pages stay with their head.
 #[derive(Drop)]
 pub struct EarlyWriter<'a> {
     buffer: BufWriter<Port<'a>>,
@@ -30,13 +30,13 @@ impl<'a> EarlyWriter<'a> {
 
 impl Write for EarlyWriter<'_> {
     fn write(&mut self, buf: &[u8]) -> io::Result<usize> {
-        if goes_straight(buf.len(), self.is_patient()) {
-            self.flush()?;
+        let buffered = self.buffer.buffer().len();
+        if buffered == 0 && goes_straight(buf.len(), self.is_patient()) {
             return self.buffer.get_mut().write(buf);
         }
-        if sends_early(self.buffer.buffer().len(), self.stuck) {
+        if sends_early(buffered, self.stuck) {
             match self.flush() {
-                Err(error) if !is_timeout(&error) => return Err(error),
+                Err(error) if self.is_patient() || !is_timeout(&error) => return Err(error),
                 _ => {}
             }
         }
