@@ -86,14 +86,22 @@ impl<R: time::Clock> Read for HandshakeSocket<'_, R> {
 
 impl<R: time::Clock> Write for HandshakeSocket<'_, R> {
     fn write(&mut self, buf: &[u8]) -> io::Result<usize> {
-        let Some(left) = self.clock.left() else {
-            return Err(io::Error::from(ErrorKind::TimedOut));
-        };
-        let _ = self.peer.set_write_timeout(Some(left));
         let mut peer = self.peer;
-        let written = peer.write(buf);
-        self.clock.note_answer();
-        written
+        for _ in 0..u64::MAX {
+            let Some(left) = self.clock.left() else {
+                break;
+            };
+            let _ = self.peer.set_write_timeout(Some(left));
+            match peer.write(buf) {
+                // A process that was stopped goes on.
+                Err(error) if error.kind() == ErrorKind::Interrupted => {}
+                written => {
+                    self.clock.note_answer();
+                    return written;
+                }
+            }
+        }
+        Err(io::Error::from(ErrorKind::TimedOut))
     }
 
     fn flush(&mut self) -> io::Result<()> {

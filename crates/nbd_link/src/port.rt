@@ -54,6 +54,8 @@ impl Write for Port<'_> {
         let count = sent_at_once(buf.len(), self.interactive.is_expected());
         for waits in 1..u64::MAX {
             match peer.write(&buf[..count]) {
+                // A process that was stopped goes on.
+                Err(error) if error.kind() == ErrorKind::Interrupted => {}
                 Err(error) if self.is_patient() && is_timeout(&error) && !is_stalled(waits) => {
                     self.under_way.note_unread(true);
                     self.seat.leave_later();
