@@ -1,7 +1,8 @@
 //! How many bytes of a session's requests are under way.
 
 use nbd_policy::{SESSION_BYTES, data_of, holds_back};
-use nbd_threads::{BusyWriters, Traffic};
+use nbd_service::BusyWriters;
+use nbd_threads::Traffic;
 use nbd_wire::RequestHead;
 use nbd_wire::protocol::WRITE;
 use std::sync::atomic::{AtomicBool, AtomicU64, Ordering};

@@ -1,8 +1,8 @@
 use export_cell::Outdated;
 use nbd_link::{BytesUnderWay, Discards, Feed, SessionLink};
-use nbd_service::LeftWrites;
+use nbd_service::{Askers, BusyWriters, LeftWrites};
 use nbd_stream::Buffered;
-use nbd_threads::{BusyWriters, InteractiveLoad, RetuneGate, Traffic, TurnSeat, Turns};
+use nbd_threads::{InteractiveLoad, RetuneGate, Traffic, TurnSeat, Turns};
 use nbd_workers::Bell;
 use payload::{Growing, Spares};
 use server_core::SessionId;
@@ -222,6 +222,31 @@ fn what_holds_took_out(rt: HostRuntime) -> Result<(), Fail> {
     let mut outdated = Outdated::with_room(alloc, 1).expect(rt, "memory");
     assert!(rt; is_left_in_turn(rt, alloc, &mut outdated));
     Ok(())
+}
+
+#[test]
+fn writers_that_are_at_work(rt: HostRuntime) {
+    let writers = BusyWriters::new();
+    writers.begin();
+    writers.begin();
+    assert!(rt; writers.count() == 2);
+    writers.end();
+    assert!(rt; writers.count() == 1);
+}
+
+/// Which sessions are known to have asked for the first three of an export's requests, of which so many may be there.
+fn known_askers(alloc: Global, requests: usize) -> Option<[Option<u64>; 3]> {
+    let askers = Askers::new(alloc, requests).ok()?;
+    askers.note(7, 0);
+    askers.note(8, 1);
+    askers.note(9, 2);
+    Some([askers.of(0), askers.of(1), askers.of(2)])
+}
+
+#[test]
+fn who_asked_for_the_latest_requests(rt: HostRuntime) {
+    assert!(rt; known_askers(rt.alloc(), 3) == Some([Some(7), Some(8), Some(9)]));
+    assert!(rt; known_askers(rt.alloc(), 2) == Some([None, Some(8), Some(9)]));
 }
 
 #[test]

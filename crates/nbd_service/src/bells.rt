@@ -1,5 +1,6 @@
 //! Where the threads of a server sleep, and who is woken by what.
 
+use crate::askers::Askers;
 use nbd_base::NoMemory;
 use nbd_commands::{Config, ExportConfig};
 use nbd_policy::{SESSION_BELLS, Waiting, bell_of};
@@ -7,7 +8,7 @@ use nbd_threads::Timekeeper;
 use nbd_workers::Bell;
 use server_core::{SessionId, Ticket};
 use std::alloc::Global;
-use std::sync::atomic::{AtomicBool, AtomicU64, Ordering};
+use std::sync::atomic::{AtomicBool, Ordering};
 
 /// The bells of a server.
 #[derive(Drop)]
@@ -26,9 +27,7 @@ pub struct Bells {
 struct Desk {
     // A session's bell is found by its number. Two sessions that share one wake each other for nothing.
     replies: Vec<Bell>,
-    // The number of the session that asked for a request, found by the request's number. There are as many as requests may
-    // wait or be in service.
-    askers: Vec<AtomicU64>,
+    askers: Askers,
 }
 
 impl Bells {
@@ -73,29 +72,30 @@ impl Bells {
         }
     }
 
-    /// Notes which session asked for a request. Who performs it wakes that session in time only where it looks for replies after this.
+    /// Notes which session asked for a request, under the hold in which it came.
     pub fn note_asker(&self, session: SessionId, request: u64) {
         if let Some(desk) = self.desks.get(session.export as usize) {
-            if let Some(asker) = desk.asker(request) {
-                asker.store(session.number, Ordering::SeqCst);
-            }
+            desk.askers.note(session.number, request);
         }
     }
 
-    /// The session that asked for a request in service.
+    /// The session that asked for a request, where that is still known.
     pub fn asker(&self, ticket: &Ticket) -> Option<SessionId> {
         let desk = self.desks.get(ticket.export() as usize)?;
-        let asker = desk.asker(ticket.number())?;
         Some(SessionId {
             export: ticket.export(),
-            number: asker.load(Ordering::SeqCst),
+            number: desk.askers.of(ticket.number())?,
         })
     }
 
-    /// Wakes who waits for the reply to a request that was performed.
+    /// Wakes who waits for the reply to a request that was performed: all sessions of its export, where it isn't known who asked.
     pub fn ring_asker(&self, ticket: &Ticket) {
         if let Some(session) = self.asker(ticket) {
             self.replies(session).ring();
+        } else if let Some(desk) = self.desks.get(ticket.export() as usize) {
+            for bell in &desk.replies {
+                bell.ring();
+            }
         }
     }
 }
@@ -110,19 +110,11 @@ impl Desk {
         for _ in 0..SESSION_BELLS {
             replies.push(Bell::new())?;
         }
-        let mut askers = Vec::new(alloc);
-        for _ in 0..export.depth().saturating_add(inflight) {
-            askers.push(AtomicU64::new(0))?;
-        }
+        let askers = Askers::new(alloc, export.depth().saturating_add(inflight))?;
         Ok(Desk { replies, askers })
     }
 
     fn replies(&self, session: u64) -> Option<&Bell> {
         self.replies.get(bell_of(session))
-    }
-
-    fn asker(&self, request: u64) -> Option<&AtomicU64> {
-        let at = request.checked_rem(self.askers.len() as u64)?;
-        self.askers.get(at as usize)
     }
 }

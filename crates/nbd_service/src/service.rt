@@ -1,6 +1,7 @@
 //! What the threads of a server share.
 
 use crate::bells::Bells;
+use crate::busy_writers::BusyWriters;
 use crate::figures::tally_of;
 use crate::left_writes::LeftWrites;
 use crate::passes::PassPool;
@@ -11,7 +12,7 @@ use nbd_commands::Config;
 use nbd_options::ExportTable;
 use nbd_policy::{KEPT_BLOCK_BYTES, LongReaders, is_alone, still_defers};
 use nbd_threads::{
-    BusyWriters, Connections, InteractiveLoad, Retunes, RunningClock, SpareStore, SpinLadder, Turns,
+    Connections, InteractiveLoad, Retunes, RunningClock, SpareStore, SpinLadder, Turns,
 };
 use server_core::SessionId;
 use server_lock::{Booked, Pass, Shared};

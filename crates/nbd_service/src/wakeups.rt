@@ -89,6 +89,7 @@ impl Wakeups {
     fn note(&mut self, bells: &Bells, session: SessionId, ticket: &Ticket) -> bool {
         self.performed = true;
         let Some(asker) = bells.asker(ticket) else {
+            bells.ring_asker(ticket);
             return false;
         };
         if asker == session {

@@ -5,10 +5,8 @@
 //! nbd_policy's.
 #![tactic(auto)]
 
-mod busy_writers;
 mod connections;
 mod descriptors;
-mod hold_clock;
 mod interactive;
 mod keepalive;
 mod retunes;
@@ -20,10 +18,8 @@ mod timekeeper;
 mod turn_seat;
 mod turns;
 
-pub use busy_writers::BusyWriters;
 pub use connections::{Connection, Connections, SessionFigures, Traffic};
 pub use descriptors::room_for_connections;
-pub use hold_clock::HoldClock;
 pub use interactive::InteractiveLoad;
 pub use keepalive::keep_alive;
 pub use retunes::{RatesInForce, RetuneGate, Retunes};
