@@ -109,9 +109,9 @@ impl<'a> SessionLink<'a> {
         }
     }
 
-    /// Whether the reader keeps what it wrote: its next bytes are there already.
+    /// Whether the reader keeps what it wrote: its next bytes are there already, and it won't wait for its turn.
     pub fn keeps_replies<R: Wait>(&self, rt: &R, outlet: &Outlet<'_>) -> bool {
-        let keeps = outlet.may_keep() && self.ahead.has_more(rt);
+        let keeps = outlet.may_keep() && self.ahead.has_more(rt) && self.seat.is_alone();
         if keeps {
             self.kept.store(true, Ordering::SeqCst);
         }

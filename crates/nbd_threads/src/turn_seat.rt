@@ -66,7 +66,7 @@ impl<'a> TurnSeat<'a> {
         under_way: u64,
     ) {
         let backlog = self.note_at_hand(size_of(head), behind, under_way);
-        if self.turns.is_alone(self.export) {
+        if self.is_alone() {
             self.owed.store(0, Ordering::SeqCst);
             return;
         }
@@ -86,9 +86,7 @@ impl<'a> TurnSeat<'a> {
             self.owed.store(cost, Ordering::SeqCst);
             return;
         }
-        if enters {
-            set(&self.at_hand, true);
-        }
+        let enters = if enters { Some(&self.at_hand) } else { None };
         self.turns
             .wait_for_turn(rt, self.export, cost, enters, &clock);
         self.owed.store(0, Ordering::SeqCst);
@@ -106,7 +104,7 @@ impl<'a> TurnSeat<'a> {
 
     /// What was handed in waits for the export's limit until a moment: others don't wait for it until then.
     pub fn note_limit<R: Wait>(&self, rt: &R, until: Moment, now: Moment) {
-        if !self.turns.is_alone(self.export) {
+        if !self.is_alone() {
             self.turns.limit(rt, self.export, until, now);
         }
     }
@@ -184,6 +182,11 @@ impl<'a> TurnSeat<'a> {
     /// Whether it is looked if more has come behind a request of this size.
     pub fn looks_behind(&self, size: RequestSize) -> bool {
         looks_behind(size, self.backlog.load(Ordering::SeqCst))
+    }
+
+    /// Whether no other export asked lately, so that nobody waits in the order of turns.
+    pub fn is_alone(&self) -> bool {
+        self.turns.is_alone(self.export)
     }
 
     /// Whether it counts as a session that mostly has several requests.

@@ -73,14 +73,14 @@ impl Turns {
         busy & !bit == 0
     }
 
-    /// Waits for the export's turn with requests of this cost, in units. Where the session `enters`, it counts from now on as one that
-    /// has something at hand.
+    /// Waits for the export's turn with requests of this cost, in units. A session that `enters` counts from now on as one that has
+    /// something at hand, as this flag of it says then.
     pub fn wait_for_turn<R: Wait, C: Clock>(
         &self,
         rt: &R,
         export: u32,
         cost: u32,
-        enters: bool,
+        enters: Option<&AtomicBool>,
         clock: &C,
     ) {
         let Some(bell) = self.bells.get(export as usize) else {
@@ -94,7 +94,7 @@ impl Turns {
             let Some(nanoseconds) = self.ask(rt, export, cost, enters, now) else {
                 return;
             };
-            enters = false;
+            enters = None;
             bell.wait(rt, heard, Some(Duration::from_nanos(nanoseconds)));
             self.order.lock(rt).end_wait(export);
             self.waiting.fetch_sub(1, Ordering::SeqCst);
@@ -107,13 +107,15 @@ impl Turns {
         rt: &R,
         export: u32,
         cost: u32,
-        enters: bool,
+        enters: Option<&AtomicBool>,
         now: Moment,
     ) -> Option<u64> {
         let mut order = self.order.lock(rt);
         self.note_left(&mut *order);
-        if enters {
+        if let Some(at_hand) = enters {
             order.enter(export, now);
+            // Behind that, so that whoever finds it set and leaves, leaves what was entered.
+            at_hand.store(true, Ordering::SeqCst);
         }
         match order.ask(export, now, cost) {
             Turn::Go => {
