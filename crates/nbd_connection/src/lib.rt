@@ -8,6 +8,7 @@ mod batch;
 mod connection;
 mod handshake;
 mod heap_room;
+mod hold_clock;
 mod preparing;
 mod reader;
 mod write_times;

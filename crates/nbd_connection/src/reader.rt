@@ -1,6 +1,7 @@
 //! The thread of a connection that reads requests.
 
 use crate::batch::{BatchOutcome, Offer, RequestSource};
+use crate::hold_clock::HoldClock;
 use crate::preparing::make_ready;
 use nbd_link::rules::{wakes_writer, writer_chooses};
 use nbd_link::{FlushOutcome, Outlet, SessionLink};
@@ -9,7 +10,6 @@ use nbd_policy::{
     load_of, makes_ready, may_read_ahead, size_of, span_of,
 };
 use nbd_service::Service;
-use nbd_threads::HoldClock;
 use nbd_wire::Request;
 use nbd_workers::until;
 use server_lock::Pass;
@@ -190,7 +190,11 @@ fn read_on<L: Ledger, R: Wait + time::Clock>(
     if busy && batch.reads_long && makes_ready(service.writers.count(), service.processors) {
         make_ready(rt, service, link, &mut source.wakeups, pass);
     }
-    let chooses = writer_chooses(batch.reads_long, link.bytes.is_unread());
+    let chooses = writer_chooses(
+        batch.reads_long,
+        link.bytes.is_unread(),
+        is_over(&batch.turn),
+    );
     service.bells.ring_for(batch.waiting, chooses);
     let ahead = batch.writes_long
         && may_read_ahead(service.processors)
@@ -281,6 +285,13 @@ fn note_load<L: Ledger, R: Wait + time::Clock>(
 fn is_going(turn: &Turn<Global>) -> bool {
     match turn {
         Turn::Going(_) => true,
+        _ => false,
+    }
+}
+
+fn is_over(turn: &Turn<Global>) -> bool {
+    match turn {
+        Turn::Ended => true,
         _ => false,
     }
 }

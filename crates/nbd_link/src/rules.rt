@@ -30,11 +30,11 @@ pub fn wakes_writer(reads_long: bool, is_written: bool) -> bool
 }
 
 /// Whether a session's writer chooses what waits behind a hold of its reader: it is woken for long data, and no client that doesn't read
-/// keeps it from that.
-pub fn writer_chooses(reads_long: bool, is_unread: bool) -> bool
-    ensures { result ≡ (reads_long && not is_unread) }
+/// keeps it from that, nor the session's end.
+pub fn writer_chooses(reads_long: bool, is_unread: bool, is_over: bool) -> bool
+    ensures { result ≡ (reads_long && not is_unread && not is_over) }
 {
-    reads_long && !is_unread
+    reads_long && !is_unread && !is_over
 }
 
 /// Whether a writer goes on by itself: something is due, and this round wasn't for nothing.
