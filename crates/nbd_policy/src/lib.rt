@@ -30,8 +30,9 @@ pub const IDLE_THREADS: usize = 64;
 /// How many milliseconds a listener waits before it tries again to accept, where the system is short of something.
 pub const RETRY_MS: u64 = 10;
 
-/// How many descriptors the server has besides those of connections, at most.
-pub const OWN_DESCRIPTORS: u64 = 16;
+/// How many descriptors the server has besides those of connections, at most: its three files, two for each of three listeners, one that
+/// the system keeps for whom each of these accepts next, and eight clients of the control socket.
+pub const OWN_DESCRIPTORS: u64 = 20;
 
 /// The largest block, in bytes, that the C library is to keep for itself once it was given back. Its own bound on such
 /// blocks is 32 MiB, with what it adds to them (mallopt(3), M_MMAP_THRESHOLD).
@@ -237,7 +238,7 @@ pub const WRITER_WAIT_MS: u64 = 1;
 pub const FLUSH_WAIT_MS: u64 = 100;
 
 /// How many seconds a writer sleeps whose session has requests under way, and a reader whose request is held. Each reply rings their
-/// bells, so this is for a request that was so long in service that who asked for it was forgotten.
+/// bells: this is in case that one is missed.
 pub const PATIENCE_S: u64 = 1;
 
 /// How many replies are ready at most, which a reader made ready for its writer.
@@ -542,7 +543,7 @@ fn is_network_fault(number: u32) -> bool
 
 /// How many connections a process has room for that may have so many descriptors: some are its own.
 pub fn connections_for(descriptors: u64) -> u64
-    ensures { result ≡ descriptors - 16 }
+    ensures { result ≡ descriptors - 20 }
 {
     descriptors.saturating_sub(OWN_DESCRIPTORS)
 }
