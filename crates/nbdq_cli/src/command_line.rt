@@ -35,7 +35,8 @@ const TALK: &str = "Hold the conversation of the script on standard input";
 
 const REPLAY: &str = "Make the events of the script on standard input";
 
-const SERVE: &str = "Serve the disks of the configuration on standard input";
+const SERVE: &str =
+    "Serve the disks of the configuration on standard input, over TCP, a Unix socket or both";
 
 const CONTROL: &str = "Ask a server that runs, by the lines on standard input";
 
@@ -45,9 +46,10 @@ const UNIX: &str = "Listen on a Unix socket, whose file is made";
 
 const CONTROL_SOCKET: &str = "Listen for `nbdq control` on a Unix socket, whose file is made";
 
-const CONTROLLED: &str = "The control socket of the server";
+const CONTROLLED: &str = "The control socket of the server; it is needed";
 
-const WORKERS: &str = "Threads that perform requests, 1 to 64 [default: 4]";
+const WORKERS: &str =
+    "Threads that perform requests beside those of connections, 1 to 64 [default: 4]";
 
 const SESSIONS: &str =
     "Connections that each listener accepts, 1 to 1000000, or forever [default: 100000]";
