@@ -1,5 +1,5 @@
 """The tests of hostile.sh: each starts a server of its own, misuses it, and says what was seen."""
-import itertools, os, resource, socket, stat, struct, subprocess, sys, threading, time
+import itertools, os, resource, signal, socket, stat, struct, subprocess, sys, threading, time
 
 HERE = os.path.dirname(os.path.abspath(__file__))
 sys.path.insert(0, os.path.join(HERE, "..", "bench"))
@@ -352,6 +352,56 @@ def long_reads_beside_stuck_sessions():
         late = [(client.reply(MIB), client.reply()) for client in stuck]
         right = all((read[0], read[2], written[0]) == (0, block, 0) for read, written in late)
         yield right, "these three send a WRITE of 4 MiB before they read, and get both replies"
+
+
+def requests_that_are_overtaken():
+    """Clients with one short READ at a time beside READs of 20 KiB of the same disk, of which few may be there: each is answered, though a
+    request in service is overtaken by more than may be there."""
+    with Server(NBDQ, mib=64, config="inflight = 9\n" + exports_of(["depth = 8\nwindow = 8"])) as server:
+        until, waits, lost = time.monotonic() + 5, [0], []
+
+        def reads():
+            client = Client(server.places[0], server.exports[0], patience=4)
+            try:
+                while time.monotonic() < until:
+                    began = time.monotonic()
+                    client.ask(READ, 0, 4096)
+                    waits.append(time.monotonic() - began)
+            except OSError:
+                lost.append(client)
+
+        threads = [threading.Thread(target=reads) for _ in range(3)]
+        for it in threads:
+            it.start()
+        load(4, [server.clients(0, connections=2, bytes=20480, depth=16)])
+        for it in threads:
+            it.join()
+        yield not lost, "%d of three clients with one READ at a time, beside others with READs of 20 KiB, weren't answered within 4 s" % len(lost)
+        yield max(waits) < 0.9, "the others waited %.2f s at most (0.9)" % max(waits)
+
+
+def stopped_server():
+    """A server that is stopped while a client doesn't read, and goes on."""
+    with Server(NBDQ, mib=64) as server:
+        fill(server.places[0], server.exports[0])
+        lost = 0
+        for read in range(32):
+            client = Client(server.places[0], server.exports[0])
+            for at in range(24):
+                client.send(READ, at * MIB, MIB)
+            try:
+                for _ in range(read % 8):
+                    client.reply(MIB)
+                time.sleep(0.2)
+                os.kill(server.pids[0], signal.SIGSTOP)
+                time.sleep(0.05)
+                os.kill(server.pids[0], signal.SIGCONT)
+                for _ in range(24 - read % 8):
+                    client.reply(MIB)
+            except (EOFError, OSError):
+                lost += 1
+            client.close()
+        yield not lost, "%d of 32 sessions were lost while the server was stopped, and their clients didn't read" % lost
 
 
 def shares_of_unequal_requests():
@@ -750,6 +800,8 @@ TESTS = [
     control_without_threads,
     sessions_not_waited_for,
     long_reads_beside_stuck_sessions,
+    requests_that_are_overtaken,
+    stopped_server,
     shares_of_unequal_requests,
     weights_of_long_writes,
     weight_and_limit,
