@@ -7,7 +7,7 @@ use nbd_link::rules::{wakes_writer, writer_chooses};
 use nbd_link::{FlushOutcome, Outlet, SessionLink};
 use nbd_policy::{
     PATIENCE_S, RequestSize, WRITER_WAIT_MS, WRITER_WAITS, answers_read, batch_after, handed_in,
-    load_of, makes_ready, may_read_ahead, size_of, span_of,
+    held_back_patience, load_of, makes_ready, may_read_ahead, size_of, span_of,
 };
 use nbd_service::Service;
 use nbd_wire::Request;
@@ -82,7 +82,7 @@ fn wait_for_room<L: Ledger, R: Wait + time::Clock>(
         service.look_at_left_writes(rt, link.session.export);
         rest(rt, link);
         link.room
-            .wait(rt, heard, Some(Duration::from_secs(PATIENCE_S)));
+            .wait(rt, heard, Some(held_back_patience(link.under_way())));
     }
 }
 

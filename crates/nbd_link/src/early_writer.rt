@@ -7,7 +7,7 @@ use std::io::{BufWriter, ErrorKind, Write};
 
 /// A buffer whose bytes go out once they are many, unless the client doesn't read: then it keeps them, as far as it has room, until a
 /// patient write. So they are still in the cache of the processor that wrote them, and the next ones take their place there. A long text
-/// goes straight out where it is empty: the data of a reply without pages stay with their head.
+/// goes straight out where it is empty: the data of a reply without pages stay with their head, as far as there is room.
 #[derive(Drop)]
 pub struct EarlyWriter<'a> {
     buffer: BufWriter<Port<'a>>,

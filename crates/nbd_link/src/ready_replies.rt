@@ -1,7 +1,7 @@
 //! Replies with long data that the reader has made ready, so that one is copied while the writer sends the one before.
 
 use nbd_base::NoMemory;
-use nbd_policy::{READY_BYTES, READY_REPLIES, READY_TEXTS};
+use nbd_policy::{READY_BYTES, READY_REPLIES, READY_TEXTS, makes_another_ready};
 use session_turns::{REPLY_HEAD_BYTES, ReadyReply};
 use std::alloc::Global;
 use std::collections::VecDeque;
@@ -24,15 +24,25 @@ impl ReadyReplies {
         })
     }
 
-    /// Memory for a text, where there is any, and fewer replies are ready than may be.
-    pub fn blank<R: Wait>(&self, rt: &R, alloc: Global) -> Option<Vec<u8, Global>> {
-        if self.ready.lock(rt).len() >= READY_REPLIES {
+    /// Memory for a text, where there is any and one more is to be made, the first behind a hold or a further one.
+    pub fn blank<R: Wait>(&self, rt: &R, alloc: Global, is_first: bool) -> Option<Vec<u8, Global>> {
+        if !self.makes_another(rt, is_first) {
             return None;
         }
         match self.blank.lock(rt).pop() {
             Some(text) => Some(text),
             None => Vec::with_capacity(alloc, READY_BYTES + REPLY_HEAD_BYTES).ok(),
         }
+    }
+
+    /// Whether one more is to be made ready.
+    fn makes_another<R: Wait>(&self, rt: &R, is_first: bool) -> bool {
+        let ready = self.ready.lock(rt);
+        let mut bytes = 0usize;
+        for reply in ready.iter() {
+            bytes = bytes.saturating_add(reply.data());
+        }
+        makes_another_ready(is_first, ready.len(), bytes)
     }
 
     /// A reply is ready. False where there is no place for it.

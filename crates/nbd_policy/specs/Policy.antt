@@ -252,6 +252,11 @@ long_readers_by readers = if nat_lt readers.now readers.before then readers.befo
 abbrev pub makes_ready_by : ℕ → ℕ → Bool
 makes_ready_by writers processors = nat_le writers (processors / 2)
 
+-- two, however much data they have, and up to four with less than 512 KiB
+abbrev pub makes_another_ready_by : Bool → ℕ → ℕ → Bool
+makes_another_ready_by is_first replies bytes =
+    (is_first && nat_lt replies 2) || (nat_lt replies 4 && nat_lt bytes 524288)
+
 abbrev pub keeps_by : ℕ → Bool
 keeps_by unsent = nat_lt unsent 4
 
@@ -283,6 +288,10 @@ handed_in_by answers most = if answers then 1 else most
 -- a second, and without end where nothing is under way
 abbrev pub patience_by : ℕ → Option ℕ
 patience_by under_way = if under_way == 0 then None else Some 1000000000
+
+-- 20 milliseconds, where nothing of the session is under way that rings
+abbrev pub held_back_patience_by : ℕ → ℕ
+held_back_patience_by under_way = if under_way == 0 then 20000000 else 1000000000
 
 abbrev pub bell_by : ℕ → ℕ
 bell_by session = session % 64

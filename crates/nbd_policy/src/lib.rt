@@ -3,9 +3,10 @@
 
 ghost use Rattle.std.specs.Prelude.{◌≡◌, ◌+◌, ◌-◌, ◌*◌, ◌<◌, ◌≤◌, ◌^◌, min, option_map};
 ghost use Rattle.std.specs.Duration.{as_nanos};
-ghost use Rattle.nbd_policy.specs.Policy.{accept_may_pass_by, answers_read_by, asks_for_turn_by, backlog_by, batch_by, bell_by, cost_by, data_by, ends_hold_by, handed_in_by, handshake_wait_by, has_more_by, goes_straight_by, holds_back_by, is_alone_by, is_due_by, is_forgotten_by, is_network_fault_by, is_shortage_by, is_stalled_by, is_uneven_by, is_zero_by, keeps_by, keeps_up_by, limited_by, load_by, load_of_data_by, looks_behind_by, looks_in_a_row_by, makes_ready_by, makes_room_by, next_skip_by, patience_by, performs_by, reads_ahead_by, rest_by, sends_early_by, sent_by, short_pieces_by, size_by, span_by, spares_by, still_defers_by, still_retunes_by, still_waits_for_line_by, suits_reader_by, waiting_by, wakes_worker_by, carried_by, yields_by, yields_behind_look_by};
+ghost use Rattle.nbd_policy.specs.Policy.{accept_may_pass_by, answers_read_by, asks_for_turn_by, backlog_by, batch_by, bell_by, cost_by, data_by, ends_hold_by, handed_in_by, handshake_wait_by, has_more_by, held_back_patience_by, goes_straight_by, holds_back_by, is_alone_by, is_due_by, is_forgotten_by, is_network_fault_by, is_shortage_by, is_stalled_by, is_uneven_by, is_zero_by, keeps_by, keeps_up_by, limited_by, load_by, load_of_data_by, looks_behind_by, looks_in_a_row_by, makes_room_by, next_skip_by, patience_by, performs_by, reads_ahead_by, rest_by, sends_early_by, sent_by, short_pieces_by, size_by, span_by, spares_by, still_defers_by, still_retunes_by, still_waits_for_line_by, suits_reader_by, waiting_by, wakes_worker_by, carried_by, yields_by, yields_behind_look_by};
 
 mod long_readers;
+mod ready_replies;
 mod request_size;
 mod waiting;
 mod write_pace;
@@ -13,6 +14,9 @@ mod write_pace;
 pub use long_readers::LongReaders;
 use nbd_wire::RequestHead;
 use nbd_wire::protocol::{READ, TRIM, WRITE, WRITE_ZEROES};
+pub use ready_replies::{
+    READY_BYTES, READY_REPLIES, READY_TEXTS, makes_another_ready, makes_ready,
+};
 pub use request_size::{Load, RequestSize};
 use std::time::Duration;
 use tag_clock::Moment;
@@ -241,14 +245,8 @@ pub const FLUSH_WAIT_MS: u64 = 100;
 /// bells: this is in case that one is missed.
 pub const PATIENCE_S: u64 = 1;
 
-/// How many replies are ready at most, which a reader made ready for its writer.
-pub const READY_REPLIES: usize = 2;
-
-/// How many texts of replies have memory at most: one more is being made, and one sent.
-pub const READY_TEXTS: usize = READY_REPLIES + 2;
-
-/// How many bytes of data a reply has at most whose text is made.
-pub const READY_BYTES: usize = 1_048_576;
+/// Behind how many milliseconds a reader looks again that only WRITEs of other sessions hold back: these ring none of its bells.
+pub const OTHERS_WRITES_MS: u64 = 20;
 
 // ---- Reading ahead
 
@@ -735,14 +733,6 @@ pub fn suits_reader(bytes: usize, unsent_bytes: usize, room: usize) -> bool
     bytes <= room - room / 4 && unsent_bytes < room - bytes
 }
 
-/// Whether a reader makes a long reply ready while its writer is busy, where so many writers are at work, with so many processors. A
-/// writer keeps two of them busy, its own and its client's. Where none is left, a reply costs more that two threads have a hand in.
-pub fn makes_ready(writers: usize, processors: usize) -> bool
-    ensures { result ≡ makes_ready_by writers processors }
-{
-    writers <= processors / 2
-}
-
 /// How long a writer sleeps without a ring, where so many requests are under way: without end where there is none.
 pub fn patience(under_way: u64) -> Option<Duration>
     ensures { option_map as_nanos result ≡ patience_by under_way }
@@ -751,6 +741,18 @@ pub fn patience(under_way: u64) -> Option<Duration>
         None
     } else {
         Some(Duration::from_secs(PATIENCE_S))
+    }
+}
+
+/// How long a reader that is held back sleeps without a ring, where so many requests of its session are under way. Where none is, it is
+/// the WRITEs of other sessions that wait, whose replies don't ring for it.
+pub fn held_back_patience(under_way: u64) -> Duration
+    ensures { as_nanos result ≡ held_back_patience_by under_way }
+{
+    if under_way == 0 {
+        Duration::from_millis(OTHERS_WRITES_MS)
+    } else {
+        Duration::from_secs(PATIENCE_S)
     }
 }
 

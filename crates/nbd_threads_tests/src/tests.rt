@@ -5,12 +5,12 @@ mod timekeeping;
 use nbd_policy::{
     Load, LongReaders, RequestSize, Waiting, WritePace, accept_may_pass, answers_read,
     asks_for_turn, backlog_after, batch_after, bell_of, brought_by, connections_for, cost_of,
-    data_of, ends_hold, goes_straight, handed_in, handshake_wait_ms, has_more, holds_back,
-    is_alone, is_due, is_stalled, keeps_up, limited_until, load_of, looks_behind, looks_in_a_row,
-    makes_ready, makes_room, may_keep, may_read_ahead, moment_after, next_skip, passes_for,
-    patience, performs_itself, sends_early, sent_at_once, short_pieces, size_of, span_of,
-    still_defers, still_retunes, still_waits_for_line, suits_reader, waiting_until, wakes_worker,
-    yields_behind, yields_behind_look,
+    data_of, ends_hold, goes_straight, handed_in, handshake_wait_ms, has_more, held_back_patience,
+    holds_back, is_alone, is_due, is_stalled, keeps_up, limited_until, load_of, looks_behind,
+    looks_in_a_row, makes_another_ready, makes_ready, makes_room, may_keep, may_read_ahead,
+    moment_after, next_skip, passes_for, patience, performs_itself, sends_early, sent_at_once,
+    short_pieces, size_of, span_of, still_defers, still_retunes, still_waits_for_line,
+    suits_reader, waiting_until, wakes_worker, yields_behind, yields_behind_look,
 };
 use nbd_threads::{InteractiveLoad, RunningClock, SpinRead, Traffic, TurnSeat, Turns};
 use nbd_wire::RequestHead;
@@ -142,7 +142,16 @@ fn what_is_read_ahead_and_kept(rt: HostRuntime) -> Result<(), Fail> {
     assert!(rt; makes_ready(2, 4) && !makes_ready(3, 4) && !makes_ready(1, 1));
     assert!(rt; patience(0) == None);
     assert!(rt; patience(1) == Some(Duration::from_secs(1)));
+    assert!(rt; held_back_patience(0) == Duration::from_millis(20));
+    assert!(rt; held_back_patience(1) == Duration::from_secs(1));
     Ok(())
+}
+
+#[test]
+fn how_many_replies_are_made_ready(rt: HostRuntime) {
+    assert!(rt; makes_another_ready(true, 1, 2_097_152) && !makes_another_ready(true, 2, 524_288));
+    assert!(rt; !makes_another_ready(false, 1, 524_288) && makes_another_ready(false, 1, 524_287));
+    assert!(rt; makes_another_ready(false, 3, 393_216) && !makes_another_ready(false, 4, 0));
 }
 
 #[test]
