@@ -7,8 +7,8 @@ use nbd_base::NoMemory;
 use nbd_link::rules::joined_size;
 use nbd_link::{Admitted, Feed, Outlet, ReadAhead, SessionLink};
 use nbd_policy::{
-    OUTDATED_PAGES, QUEUED_WORK, RequestSize, SPARES_OF_A_SESSION, Waiting, brought_by, cost_of,
-    ends_hold, limited_until, performs_itself, size_of, waiting_until,
+    Habit, OUTDATED_PAGES, QUEUED_WORK, RequestSize, SPARES_OF_A_SESSION, Waiting, brought_by,
+    cost_of, ends_hold, limited_until, performs_itself, size_of, waiting_until,
 };
 use nbd_service::{Asked, Disks, Service, Wakeups, prefetch};
 use nbd_stream::{Counted, Frame, FrameReader};
@@ -37,6 +37,8 @@ pub struct RequestSource<'a, 'b, R: Wait + time::Clock> {
     pub answers: bool,
     /// Whether what it handed in last waits for its export's limit.
     pub limited: bool,
+    /// How the session asks.
+    pub habit: Habit,
 }
 
 /// What a reader offers first under a hold.
@@ -193,6 +195,7 @@ impl<'a, 'b, R: Wait + time::Clock> RequestSource<'a, 'b, R> {
             spares,
             answers: false,
             limited: false,
+            habit: Habit::UNKNOWN,
         })
     }
 

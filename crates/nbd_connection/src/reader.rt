@@ -255,7 +255,11 @@ fn hold_once<L: Ledger, R: Wait + time::Clock>(
     note_load(service, link, source, &offer, asked);
     let mut disks = service.hold(rt, link.is_bulk());
     let held = HoldClock::at(clock.now());
-    let most = handed_in(source.answers, batch_after(until(asked, held.now())));
+    let beside = service.interactive.has_few();
+    let most = handed_in(
+        source.answers,
+        batch_after(until(asked, held.now()), beside),
+    );
     let batch = source.hand_in_batch(&mut *disks, service, link, pass, outlet, offer, most, &held);
     service.let_go(rt, disks, held.now());
     source.recycle(rt, service, &link.ahead, batch.brought);
@@ -269,7 +273,7 @@ fn hold_once<L: Ledger, R: Wait + time::Clock>(
 fn note_load<L: Ledger, R: Wait + time::Clock>(
     service: &Service<L>,
     link: &SessionLink<'_>,
-    source: &RequestSource<'_, '_, R>,
+    source: &mut RequestSource<'_, '_, R>,
     offer: &Offer,
     now: Moment,
 ) {
@@ -279,7 +283,10 @@ fn note_load<L: Ledger, R: Wait + time::Clock>(
     let several = link.seat.has_several() || link.under_way() > 0;
     let load = load_of(head, source.frames.is_ready(), several, source.limited);
     link.note_load(load);
-    service.interactive.note(load, now);
+    let behind = source.frames.ready().len() as u64;
+    let at_hand = behind.saturating_add(link.under_way()).saturating_add(1);
+    source.habit = source.habit.with(load, at_hand);
+    service.interactive.note(source.habit.expectation(), now);
 }
 
 fn is_going(turn: &Turn<Global>) -> bool {

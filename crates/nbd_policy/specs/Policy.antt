@@ -5,6 +5,9 @@ use Rattle.nbd_policy.specs.declared.request_size.RequestSize.{RequestSize}
 use Rattle.nbd_policy.specs.declared.request_size.RequestSize.TheVariants as sizes
 use Rattle.nbd_policy.specs.declared.request_size.Load.{Load}
 use Rattle.nbd_policy.specs.declared.request_size.Load.TheVariants as loads
+use Rattle.nbd_policy.specs.declared.habit.Expectation.{Expectation}
+use Rattle.nbd_policy.specs.declared.habit.Expectation.TheVariants as expectations
+use Rattle.nbd_policy.specs.declared.habit.Habit.{Habit}
 use Rattle.nbd_policy.specs.declared.waiting.Rest.{Rest}
 use Rattle.nbd_policy.specs.declared.waiting.Rest.TheVariants as rests
 use Rattle.nbd_policy.specs.declared.waiting.Waiting.{Waiting}
@@ -58,9 +61,34 @@ ends_hold_by sizes.LongRead = false
 ends_hold_by sizes.LongWrite = false
 ends_hold_by sizes.LongZero = true
 
--- 8 requests under one hold, 16 behind a wait of more than a millisecond
-abbrev pub batch_by : ℕ → ℕ
-batch_by wait = if nat_lt 1000000 wait then 16 else 8
+-- 8 requests under one hold beside sessions that ask for little or few, 16 behind a wait of more than a millisecond and beside none
+abbrev pub batch_by : ℕ → Bool → ℕ
+batch_by wait beside = if nat_lt 1000000 wait || not beside then 16 else 8
+
+-- one more, up to 8, or none
+abbrev pub in_a_row_by : ℕ → Bool → ℕ
+in_a_row_by before again = if again then min (before + 1) 8 else 0
+
+abbrev pub is_interactive_by : Load → Bool
+is_interactive_by loads.Interactive = true
+is_interactive_by loads.Bulk = false
+
+-- fewer than 12 requests at hand are few
+abbrev pub habit_by : Habit → Load → ℕ → Habit
+habit_by habit load at_hand = record {
+  interactive = in_a_row_by habit.interactive (is_interactive_by load);
+  few = in_a_row_by habit.few (nat_lt at_hand 12);
+}
+
+-- interactive three times in a row, or else with few requests eight times
+abbrev pub expectation_by : Habit → Expectation
+expectation_by habit =
+    if nat_le 3 habit.interactive then expectations.Interactive
+    else (if nat_le 8 habit.few then expectations.Few else expectations.Nothing)
+
+-- a millisecond
+abbrev pub is_old_by : ℕ → ℕ → Bool
+is_old_by latest moment = nat_le 1000000 (moment - latest)
 
 -- 32 pages, and twice as many as the data fill, up to 512; none where none came
 abbrev pub spares_by : ℕ → ℕ

@@ -5,12 +5,14 @@ ghost use Rattle.std.specs.Prelude.{◌≡◌, ◌+◌, ◌-◌, ◌*◌, ◌<�
 ghost use Rattle.std.specs.Duration.{as_nanos};
 ghost use Rattle.nbd_policy.specs.Policy.{accept_may_pass_by, answers_read_by, asks_for_turn_by, backlog_by, batch_by, bell_by, cost_by, data_by, ends_hold_by, handed_in_by, handshake_wait_by, has_more_by, held_back_patience_by, goes_straight_by, holds_back_by, is_alone_by, is_due_by, is_forgotten_by, is_network_fault_by, is_shortage_by, is_stalled_by, is_uneven_by, is_zero_by, keeps_by, keeps_up_by, limited_by, load_by, load_of_data_by, looks_behind_by, looks_in_a_row_by, makes_room_by, next_skip_by, patience_by, performs_by, reads_ahead_by, rest_by, sends_early_by, sent_by, short_pieces_by, size_by, span_by, spares_by, still_defers_by, still_retunes_by, still_waits_for_line_by, suits_reader_by, waiting_by, wakes_worker_by, carried_by, yields_by, yields_behind_look_by};
 
+mod habit;
 mod long_readers;
 mod ready_replies;
 mod request_size;
 mod waiting;
 mod write_pace;
 
+pub use habit::{Expectation, Habit, is_old};
 pub use long_readers::LongReaders;
 use nbd_wire::RequestHead;
 use nbd_wire::protocol::{READ, TRIM, WRITE, WRITE_ZEROES};
@@ -120,8 +122,9 @@ pub const BULK_BYTES: u32 = 262_144;
 /// waits for no more than these.
 pub const BATCH: usize = 8;
 
-/// How many it hands in where it waited long for the lock: then each hold is dear.
-pub const BATCH_AFTER_WAIT: usize = 16;
+/// How many it hands in where it waited long for the lock, since then each hold is dear, and where nobody is known to ask for little
+/// or few, who would wait for the lock as long again.
+pub const LONG_BATCH: usize = 16;
 
 /// How many nanoseconds are a long wait for the lock.
 pub const LONG_WAIT_NS: u128 = 1_000_000;
@@ -605,12 +608,13 @@ pub fn handed_in(answers: bool, most: usize) -> usize
     if answers { 1 } else { most }
 }
 
-/// How many requests a reader hands in under a hold, where it waited so long for the lock.
-pub fn batch_after(wait: Duration) -> usize
-    ensures { result ≡ batch_by (as_nanos wait) }
+/// How many requests a reader hands in under a hold, where it waited so long for the lock, beside sessions that ask for little or have
+/// few at hand, or beside none.
+pub fn batch_after(wait: Duration, beside: bool) -> usize
+    ensures { result ≡ batch_by (as_nanos wait) beside }
 {
-    if wait.as_nanos() > LONG_WAIT_NS {
-        BATCH_AFTER_WAIT
+    if wait.as_nanos() > LONG_WAIT_NS || !beside {
+        LONG_BATCH
     } else {
         BATCH
     }

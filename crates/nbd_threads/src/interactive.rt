@@ -1,19 +1,46 @@
 //! Interactive sessions, which ask for little at a time: those that move much let them go first.
 
 use crate::spin::let_others_run;
-use nbd_policy::{Load, is_forgotten, yields_behind};
+use nbd_policy::{Expectation, is_forgotten, is_old, yields_behind};
 use std::io;
 use std::sync::atomic::{AtomicBool, AtomicU64, AtomicUsize, Ordering};
 use tag_clock::Moment;
 
-/// What the threads of a server know of the interactive sessions.
+/// When a session of one kind asked last, in nanoseconds, and whether that was lately, more or less: this is what threads look at all
+/// the time.
+#[derive(Drop)]
+struct Expected {
+    latest: AtomicU64,
+    lately: AtomicBool,
+}
+
+impl Expected {
+    /// One may ask again.
+    fn note(&self, now: Moment) {
+        if is_old(self.latest.load(Ordering::SeqCst), now) {
+            self.latest.store(now.nanoseconds(), Ordering::SeqCst);
+        }
+        if !self.lately.load(Ordering::SeqCst) {
+            self.lately.store(true, Ordering::SeqCst);
+        }
+    }
+
+    /// None is expected any more where the last asked long ago.
+    fn forget(&self, now: Moment) {
+        let latest = self.latest.load(Ordering::SeqCst);
+        if self.lately.load(Ordering::SeqCst) && is_forgotten(latest, now) {
+            self.lately.store(false, Ordering::SeqCst);
+        }
+    }
+}
+
+/// What the threads of a server know of the interactive sessions, and of those that have few requests at hand.
 #[derive(Drop)]
 pub struct InteractiveLoad {
-    // How many of them ask for the lock.
+    // How many interactive ones ask for the lock.
     asking: AtomicUsize,
-    // When one asked last, in nanoseconds, and whether that was lately, more or less: this is what threads look at all the time.
-    latest: AtomicU64,
-    expected: AtomicBool,
+    interactive: Expected,
+    few: Expected,
     // How many threads look at their sockets before they sleep.
     looking: AtomicUsize,
 }
@@ -23,8 +50,14 @@ impl InteractiveLoad {
     pub fn new() -> InteractiveLoad {
         InteractiveLoad {
             asking: AtomicUsize::new(0),
-            latest: AtomicU64::new(0),
-            expected: AtomicBool::new(false),
+            interactive: Expected {
+                latest: AtomicU64::new(0),
+                lately: AtomicBool::new(false),
+            },
+            few: Expected {
+                latest: AtomicU64::new(0),
+                lately: AtomicBool::new(false),
+            },
             looking: AtomicUsize::new(0),
         }
     }
@@ -59,33 +92,29 @@ impl InteractiveLoad {
         self.looking.load(Ordering::SeqCst)
     }
 
-    /// Notes how much a session asks for.
-    pub fn note(&self, load: Load, now: Moment) {
-        match load {
-            Load::Interactive => self.expect(now),
-            Load::Bulk => self.forget(now),
-        }
-    }
-
-    /// An interactive session may ask again.
-    fn expect(&self, now: Moment) {
-        self.latest.store(now.nanoseconds(), Ordering::SeqCst);
-        if !self.is_expected() {
-            self.expected.store(true, Ordering::SeqCst);
-        }
-    }
-
-    /// None is expected any more where the last asked long ago.
-    fn forget(&self, now: Moment) {
-        let latest = self.latest.load(Ordering::SeqCst);
-        if self.is_expected() && is_forgotten(latest, now) {
-            self.expected.store(false, Ordering::SeqCst);
+    /// Notes what may be expected of a session that asks now.
+    pub fn note(&self, expectation: Expectation, now: Moment) {
+        match expectation {
+            Expectation::Interactive => self.interactive.note(now),
+            Expectation::Few => {
+                self.few.note(now);
+                self.interactive.forget(now);
+            }
+            Expectation::Nothing => {
+                self.few.forget(now);
+                self.interactive.forget(now);
+            }
         }
     }
 
     /// Whether an interactive session asked lately.
     pub fn is_expected(&self) -> bool {
-        self.expected.load(Ordering::SeqCst)
+        self.interactive.lately.load(Ordering::SeqCst)
+    }
+
+    /// Whether an interactive session asked lately, or one that has few requests at hand.
+    pub fn has_few(&self) -> bool {
+        self.is_expected() || self.few.lately.load(Ordering::SeqCst)
     }
 
     /// Lets other threads run where so many bytes were read or written at once, and an interactive session is expected. Beside

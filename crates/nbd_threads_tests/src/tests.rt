@@ -3,14 +3,15 @@ mod spare_pages;
 mod timekeeping;
 
 use nbd_policy::{
-    Load, LongReaders, RequestSize, Waiting, WritePace, accept_may_pass, answers_read,
-    asks_for_turn, backlog_after, batch_after, bell_of, brought_by, connections_for, cost_of,
-    data_of, ends_hold, goes_straight, handed_in, handshake_wait_ms, has_more, held_back_patience,
-    holds_back, is_alone, is_due, is_stalled, keeps_up, limited_until, load_of, looks_behind,
-    looks_in_a_row, makes_another_ready, makes_ready, makes_room, may_keep, may_read_ahead,
-    moment_after, next_skip, passes_for, patience, performs_itself, sends_early, sent_at_once,
-    short_pieces, size_of, span_of, still_defers, still_retunes, still_waits_for_line,
-    suits_reader, waiting_until, wakes_worker, yields_behind, yields_behind_look,
+    Expectation, Habit, Load, LongReaders, RequestSize, Waiting, WritePace, accept_may_pass,
+    answers_read, asks_for_turn, backlog_after, batch_after, bell_of, brought_by, connections_for,
+    cost_of, data_of, ends_hold, goes_straight, handed_in, handshake_wait_ms, has_more,
+    held_back_patience, holds_back, is_alone, is_due, is_old, is_stalled, keeps_up, limited_until,
+    load_of, looks_behind, looks_in_a_row, makes_another_ready, makes_ready, makes_room, may_keep,
+    may_read_ahead, moment_after, next_skip, passes_for, patience, performs_itself, sends_early,
+    sent_at_once, short_pieces, size_of, span_of, still_defers, still_retunes,
+    still_waits_for_line, suits_reader, waiting_until, wakes_worker, yields_behind,
+    yields_behind_look,
 };
 use nbd_threads::{InteractiveLoad, RunningClock, SpinRead, Traffic, TurnSeat, Turns};
 use nbd_wire::RequestHead;
@@ -28,25 +29,67 @@ use std::{io, time};
 use tag_clock::Moment;
 use turn_order::Rates;
 
-/// Whether a session is expected before one asked for little at the moment 5, then, and where one asks for much at another.
+/// Whether a session is expected before one asked for little at the moment 2,000,005, then, and where one asks for much at another.
 fn expected_at(nanoseconds: u64) -> Option<(bool, bool, bool)> {
     let interactive = InteractiveLoad::new();
     let before = interactive.is_expected();
-    interactive.note(Load::Interactive, Moment::new(5)?);
+    interactive.note(Expectation::Interactive, Moment::new(2_000_005)?);
     let noted = interactive.is_expected();
-    interactive.note(Load::Bulk, Moment::new(nanoseconds)?);
+    interactive.note(Expectation::Nothing, Moment::new(nanoseconds)?);
     Some((before, noted, interactive.is_expected()))
 }
 
 #[test]
 fn a_session_that_asked_for_little(rt: HostRuntime) {
-    assert!(rt; expected_at(1_000_000_005) == Some((false, true, true)));
-    assert!(rt; expected_at(1_000_000_006) == Some((false, true, false)));
+    assert!(rt; expected_at(1_002_000_005) == Some((false, true, true)));
+    assert!(rt; expected_at(1_002_000_006) == Some((false, true, false)));
     let interactive = InteractiveLoad::new();
     interactive.begin();
     assert!(rt; interactive.is_asking());
     interactive.end();
     assert!(rt; !interactive.is_asking());
+}
+
+/// Whether it is known that sessions ask for few requests before one with few asked at the moment 2,000,005, then, and at another.
+fn few_at(nanoseconds: u64) -> Option<(bool, bool, bool)> {
+    let sessions = InteractiveLoad::new();
+    let before = sessions.has_few();
+    sessions.note(Expectation::Few, Moment::new(2_000_005)?);
+    let noted = sessions.has_few() && !sessions.is_expected();
+    sessions.note(Expectation::Nothing, Moment::new(nanoseconds)?);
+    Some((before, noted, sessions.has_few()))
+}
+
+#[test]
+fn a_session_with_few_requests(rt: HostRuntime) {
+    assert!(rt; few_at(1_002_000_005) == Some((false, true, true)));
+    assert!(rt; few_at(1_002_000_006) == Some((false, true, false)));
+    assert!(rt; !is_old(1, Moment::new(1_000_000).unwrap_or(Moment::zero())));
+    assert!(rt; is_old(1, Moment::new(1_000_001).unwrap_or(Moment::zero())));
+}
+
+/// What is expected of a session behind so many holds of one load, with so many requests at hand.
+fn expected_behind(holds: usize, load: Load, at_hand: u64) -> Expectation {
+    let mut habit = Habit::UNKNOWN;
+    for _ in 0..holds {
+        habit = habit.with(load, at_hand);
+    }
+    habit.expectation()
+}
+
+#[test]
+fn how_a_session_asks(rt: HostRuntime) {
+    assert!(rt; expected_behind(2, Load::Interactive, 1) == Expectation::Nothing);
+    assert!(rt; expected_behind(3, Load::Interactive, 1) == Expectation::Interactive);
+    assert!(rt; expected_behind(7, Load::Bulk, 11) == Expectation::Nothing);
+    assert!(rt; expected_behind(8, Load::Bulk, 11) == Expectation::Few);
+    assert!(rt; expected_behind(9, Load::Bulk, 12) == Expectation::Nothing);
+    let many = Habit {
+        interactive: 8,
+        few: 8,
+    }
+    .with(Load::Bulk, 12);
+    assert!(rt; many == Habit::UNKNOWN);
 }
 
 #[test]
@@ -110,8 +153,9 @@ fn who_performs_and_how_many(rt: HostRuntime) {
     assert!(rt; answers(READ, 16_385) && !answers(READ, 16_384));
     assert!(rt; !answers(WRITE, 131_072) && !answers_read(head(READ, 131_072), 2, 4));
     assert!(rt; handed_in(true, 8) == 1 && handed_in(false, 8) == 8);
-    assert!(rt; batch_after(Duration::from_millis(1)) == 8);
-    assert!(rt; batch_after(Duration::from_micros(1_001)) == 16);
+    assert!(rt; batch_after(Duration::from_millis(1), true) == 8);
+    assert!(rt; batch_after(Duration::from_micros(1_001), true) == 16);
+    assert!(rt; batch_after(Duration::from_millis(1), false) == 16);
     assert!(rt; passes_for(100_000, 4) == 16_389);
     assert!(rt; bell_of(130) == 2);
     assert!(rt;
